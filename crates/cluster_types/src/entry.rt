@@ -1,0 +1,151 @@
+//! Entries of a history.
+
+use crate::config::{Channel, Scheme};
+use crate::copying::TryCopy;
+use crate::message::Message;
+use crate::octets::Octets;
+use crate::sequence::Sequence;
+use crate::text::Text;
+use crate::verdict::{Cause, Verdict};
+use std::alloc::AllocError;
+
+/// A list of entries, in the order in which they came.
+pub type Entries = Sequence<Entry>;
+
+/// What comes from outside. Moments are milliseconds since 1970-01-01T00:00:00Z, from 0 to 253,402,300,799,999.
+/// A word is what random choices draw from.
+#[derive(Debug, Drop)]
+pub enum Input {
+    /// The controller opens its database.
+    Open {
+        moment: u64,
+        scheme: Scheme,
+        hwm: u32,
+        misses: u32,
+    },
+    /// A connection comes up.
+    Up {
+        conn: u32,
+        channel: Channel,
+        moment: u64,
+        word: u64,
+        identity: Octets,
+    },
+    /// A connection goes down.
+    Down {
+        conn: u32,
+        moment: u64,
+        word: u64,
+    },
+    /// A signed message comes in.
+    In {
+        conn: u32,
+        moment: u64,
+        word: u64,
+        message: Message,
+    },
+    /// A round of heartbeats is sent.
+    Beat {
+        moment: u64,
+        word: u64,
+    },
+    /// Time passes.
+    Time {
+        moment: u64,
+        word: u64,
+    },
+}
+
+/// An entry of a history: an input or a decision.
+#[derive(Debug, Drop)]
+pub enum Entry {
+    Input(Input),
+    /// A task is handed out to an engine.
+    Hand {
+        id: Text,
+        engine: u32,
+    },
+    /// A task gets its outcome.
+    Settle {
+        id: Text,
+        verdict: Verdict,
+        cause: Cause,
+    },
+    /// An engine that missed too many beats is given up.
+    Lose {
+        engine: u32,
+    },
+}
+
+impl TryCopy for Input {
+    fn copy(&self) -> Result<Input, AllocError> {
+        Ok(match self {
+            Input::Open {
+                moment,
+                scheme,
+                hwm,
+                misses,
+            } => Input::Open {
+                moment: *moment,
+                scheme: *scheme,
+                hwm: *hwm,
+                misses: *misses,
+            },
+            Input::Up {
+                conn,
+                channel,
+                moment,
+                word,
+                identity,
+            } => Input::Up {
+                conn: *conn,
+                channel: *channel,
+                moment: *moment,
+                word: *word,
+                identity: identity.copy()?,
+            },
+            Input::Down { conn, moment, word } => Input::Down {
+                conn: *conn,
+                moment: *moment,
+                word: *word,
+            },
+            Input::In {
+                conn,
+                moment,
+                word,
+                message,
+            } => Input::In {
+                conn: *conn,
+                moment: *moment,
+                word: *word,
+                message: message.copy()?,
+            },
+            Input::Beat { moment, word } => Input::Beat {
+                moment: *moment,
+                word: *word,
+            },
+            Input::Time { moment, word } => Input::Time {
+                moment: *moment,
+                word: *word,
+            },
+        })
+    }
+}
+
+impl TryCopy for Entry {
+    fn copy(&self) -> Result<Entry, AllocError> {
+        Ok(match self {
+            Entry::Input(input) => Entry::Input(input.copy()?),
+            Entry::Hand { id, engine } => Entry::Hand {
+                id: id.copy()?,
+                engine: *engine,
+            },
+            Entry::Settle { id, verdict, cause } => Entry::Settle {
+                id: id.copy()?,
+                verdict: *verdict,
+                cause: *cause,
+            },
+            Entry::Lose { engine } => Entry::Lose { engine: *engine },
+        })
+    }
+}
