@@ -1,0 +1,4 @@
+pub mod Again
+pub mod Extends
+pub mod Joins
+pub mod Takes
