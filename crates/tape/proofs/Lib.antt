@@ -1,0 +1,4 @@
+pub mod Chunk
+pub mod Extends
+pub mod Loops
+pub mod Places

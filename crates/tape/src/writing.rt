@@ -1,0 +1,149 @@
+//! Writing a record.
+
+ghost use Rattle.std.specs.Prelude.{◌≡◌, ◌<◌, ◌≤◌, ◌^◌, ◌++◌, length, slice_index_or, [], All, OnOk};
+ghost use Rattle.std.specs.List.{flat_map};
+ghost use Rattle.octet_fields.specs.Spelling.{blob};
+ghost use Rattle.tape.specs.Spelling.{spelled, written, kind_text, kind_code, channel_code, form_code, Fits, KindFits, FitsBlob};
+
+use crate::record::{TapeKind, TapeRecord};
+use cluster_types::config::Channel;
+use edges::frames::Frames;
+use octet_fields::writing::{put_blob, put_number32, put_number64, put_str8};
+use std::alloc::AllocError;
+
+fn code_of_channel(channel: Channel) -> u8
+    ensures { result ≡ channel_code channel }
+{
+    match channel {
+        Channel::Hub => 0,
+        Channel::Task => 1,
+        Channel::Mux => 2,
+        Channel::Engine => 3,
+    }
+}
+
+fn code_of_form(bare: bool) -> u8
+    ensures { result ≡ form_code bare }
+{
+    if bare { 1 } else { 0 }
+}
+
+fn code_of_kind(kind: &TapeKind) -> u8
+    ensures { result ≡ kind_code kind.now }
+{
+    match kind {
+        TapeKind::Up { .. } => 1,
+        TapeKind::Piece { .. } => 2,
+        TapeKind::Down { .. } => 3,
+        TapeKind::Beat => 4,
+        TapeKind::Time => 5,
+        TapeKind::Message { .. } => 6,
+    }
+}
+
+#[tactic(auto, using(octet_fields::proofs::Joins::joins))]
+fn put_up(
+    into: &mut Vec<u8>,
+    conn: u32,
+    channel: Channel,
+    bare: bool,
+    identity: &[u8],
+) -> Result<(), AllocError>
+    requires { length identity.now < 256 }
+    ensures { OnOk result (into.new.items ≡ into.old.items ++ kind_text (TapeKind.Up conn channel bare identity.now)) }
+{
+    put_number32(into, conn)?;
+    into.push(code_of_channel(channel))?;
+    into.push(code_of_form(bare))?;
+    put_str8(into, identity)?;
+    Ok(())
+}
+
+#[tactic(auto, using(octet_fields::proofs::Joins::joins))]
+fn put_piece(into: &mut Vec<u8>, conn: u32, octets: &[u8]) -> Result<(), AllocError>
+    requires { length octets.now < 2 ^ 32 }
+    ensures { OnOk result (into.new.items ≡ into.old.items ++ kind_text (TapeKind.Piece conn octets.now)) }
+{
+    put_number32(into, conn)?;
+    put_blob(into, octets)?;
+    Ok(())
+}
+
+/// The frame at a place.
+fn frame_at(frames: &Frames, place: usize) -> &[u8]
+    requires { place < length frames.now }
+    ensures { result.now ≡ slice_index_or frames.now place [] }
+{
+    match frames.get(place) {
+        Some(body) => body,
+        None => unreachable!(),
+    }
+}
+
+/// Appends frames one after another.
+fn put_frames(into: &mut Vec<u8>, frames: &Frames) -> Result<(), AllocError>
+    requires { All FitsBlob frames.now }
+    ensures { OnOk result (into.new.items ≡ into.old.items ++ flat_map blob frames.now) }
+{
+    for place in 0..frames.len() {
+        put_blob(into, frame_at(frames, place))?;
+    }
+    Ok(())
+}
+
+#[tactic(auto, using(octet_fields::proofs::Joins::joins))]
+fn put_message(into: &mut Vec<u8>, conn: u32, frames: &Frames) -> Result<(), AllocError>
+    requires few { length frames.now ≤ 64 }
+    requires fit { All FitsBlob frames.now }
+    ensures { OnOk result (into.new.items ≡ into.old.items ++ kind_text (TapeKind.Message conn frames.now)) }
+{
+    put_number32(into, conn)?;
+    into.push(frames.len() as u8)?;
+    put_frames(into, frames)?;
+    Ok(())
+}
+
+/// Appends what stands behind the heading.
+fn put_kind(into: &mut Vec<u8>, kind: &TapeKind) -> Result<(), AllocError>
+    requires { KindFits kind.now }
+    ensures { OnOk result (into.new.items ≡ into.old.items ++ kind_text kind.now) }
+{
+    match kind {
+        TapeKind::Up {
+            conn,
+            channel,
+            bare,
+            identity,
+        } => put_up(into, *conn, *channel, *bare, identity.as_slice())?,
+        TapeKind::Piece { conn, octets } => put_piece(into, *conn, octets.as_slice())?,
+        TapeKind::Down { conn } => put_number32(into, *conn)?,
+        TapeKind::Beat => {}
+        TapeKind::Time => {}
+        TapeKind::Message { conn, frames } => put_message(into, *conn, frames)?,
+    }
+    Ok(())
+}
+
+/// Appends the one spelling of a record.
+#[tactic(auto, using(octet_fields::proofs::Joins::joins))]
+pub fn write_tape(into: &mut Vec<u8>, item: &TapeRecord) -> Result<(), AllocError>
+    requires { Fits item.now }
+    ensures { OnOk result (into.new.items ≡ into.old.items ++ spelled item.now) }
+{
+    into.push(code_of_kind(&item.kind))?;
+    put_number64(into, item.moment)?;
+    put_number64(into, item.word)?;
+    put_kind(into, &item.kind)?;
+    Ok(())
+}
+
+/// Appends records one after another.
+pub fn write_records(into: &mut Vec<u8>, items: &[TapeRecord]) -> Result<(), AllocError>
+    requires { All Fits items.now }
+    ensures { OnOk result (into.new.items ≡ into.old.items ++ written items.now) }
+{
+    for item in items {
+        write_tape(into, item)?;
+    }
+    Ok(())
+}
