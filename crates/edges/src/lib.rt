@@ -1,0 +1,11 @@
+//! The edges of the product: what it reads from and writes to, with counts of their faults, lists of
+//! frames, numbers in octets, and the text of a moment.
+#![tactic(auto)]
+
+pub mod cursor;
+pub mod date;
+pub mod frames;
+pub mod memory;
+pub mod sink;
+pub mod source;
+pub mod standard;
