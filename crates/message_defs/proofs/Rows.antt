@@ -1,9 +1,9 @@
 -- Worked readings, computed.
-use Rattle.std.proofs.Common.{◌≡◌, refl, codes, Ok, Err, true, false, [], ◌∷◌, None, Some}
+use Rattle.std.proofs.Common.{◌≡◌, refl, codes, Ok, Err, false, [], ◌∷◌, Some}
 use Rattle.serde_json.proofs.OnLiterals.{serde_json_on_literals}
 use Rattle.std.specs.Str.{is_utf8, chars}
 use Rattle.json.specs.Print.{escape_byte}
-use Rattle.cluster_types.specs.declared.config.Channel.TheVariants.{Task, Mux, Engine, Hub}
+use Rattle.cluster_types.specs.declared.config.Channel.TheVariants.{Task, Mux, Engine}
 use Rattle.cluster_types.specs.declared.event.Reason.TheVariants.{BadHeader, BadType, NoTarget, BadReply}
 use Rattle.cluster_types.specs.declared.event.Event.TheVariants.{Ask}
 use Rattle.cluster_types.specs.declared.event.Query.TheVariants.{Bad}
@@ -12,7 +12,7 @@ use Rattle.message_defs.specs.declared.content.HubContent.TheVariants.{Result}
 use Rattle.message_defs.specs.Header.{read_header}
 use Rattle.message_defs.specs.Points.{whole_timeouts, ends_in_name}
 use Rattle.message_defs.specs.Submit.{read_submit, plain_dependency}
-use Rattle.message_defs.specs.Reply.{read_task, read_declined, read_status}
+use Rattle.message_defs.specs.Reply.{read_task}
 use Rattle.message_defs.specs.Hub.{read_hub, request_of, read_content}
 use Rattle.message_defs.specs.Event.{event_of, is_request, is_reply, is_leave}
 use Rattle.message_defs.specs.Texts.{header_text, made_header, error_content, reply_type}

@@ -4,7 +4,6 @@ use Rattle.std.specs.List.{ends_with}
 use Rattle.cluster_types.specs.declared.config.Channel.{Channel}
 use Rattle.cluster_types.specs.declared.config.Channel.TheVariants.{Hub, Task, Mux, Engine}
 use Rattle.cluster_types.specs.declared.message.Message.{Message}
-use Rattle.cluster_types.specs.declared.event.Dep.{Dep}
 use Rattle.cluster_types.specs.declared.event.Submission.{Submission}
 use Rattle.cluster_types.specs.declared.event.Event.{Event as EventType}
 use Rattle.cluster_types.specs.declared.event.Event.TheVariants.{Submit, Direct, Reply, Join as JoinEvent, Leave, Pong as PongEvent, Purge as PurgeEvent, Resubmit as ResubmitEvent, Ask}
@@ -77,8 +76,16 @@ hub_event content (Some Resubmit) = asked (read_content Resubmit content)
 
 abbrev pub submission : HeaderType → SubmitMeta → Submission
 submission header meta = record {
-    id = header.msg_id; msg_type = header.msg_type; session = header.session; username = header.username;
-    after = meta.after; follow = meta.follow; targets = meta.targets; timeout = meta.timeout; retries = meta.retries }
+  id = header.msg_id;
+  msg_type = header.msg_type;
+  session = header.session;
+  username = header.username;
+  after = meta.after;
+  follow = meta.follow;
+  targets = meta.targets;
+  timeout = meta.timeout;
+  retries = meta.retries;
+}
 
 abbrev pub submitted : HeaderType → Reading SubmitMeta → EventType
 submitted header (Ok meta) = Submit (submission header meta)

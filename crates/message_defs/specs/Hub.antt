@@ -1,5 +1,5 @@
 -- What the content of a hub request, of a registration or of an echo says, or the first fault.
-use Rattle.std.specs.Prelude.{ℕ, zero, suc, ◌^◌, Bool, true, false, List, [], ◌∷◌, nat_lt, if◌then◌else◌, Option, Some, None, Ok, Err, is_some, bytes_eq, codes, option_and_then, option_map}
+use Rattle.std.specs.Prelude.{ℕ, ◌^◌, Bool, true, false, List, [], nat_lt, if◌then◌else◌, Option, Some, None, Ok, Err, is_some, bytes_eq, codes, option_and_then, option_map}
 use Rattle.serde_json.specs.Data.{Data, Items, no_items, item}
 use Rattle.serde_json.specs.Find.{get, as_null, as_str, as_array}
 use Rattle.message_defs.specs.declared.request.Request.{Request}

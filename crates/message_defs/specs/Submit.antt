@@ -1,5 +1,5 @@
 -- What the metadata of a task says, or the first fault in the order after, follow, targets, timeout, retries.
-use Rattle.std.specs.Prelude.{ℕ, ◌&&◌, Bool, true, false, List, [], ◌∷◌, ◌++◌, nat_le, if◌then◌else◌, Option, Some, None, Ok, Err, is_some, bytes_eq, codes, fold, option_and_then}
+use Rattle.std.specs.Prelude.{ℕ, true, false, List, [], ◌∷◌, ◌++◌, nat_le, if◌then◌else◌, Option, Some, None, Ok, is_some, bytes_eq, codes, fold, option_and_then}
 use Rattle.std.specs.List.{list_any}
 use Rattle.serde_json.specs.Data.{Data, Items}
 use Rattle.serde_json.specs.Events.{items_len}
@@ -7,7 +7,7 @@ use Rattle.serde_json.specs.Find.{get, as_null, as_str, as_array, as_object}
 use Rattle.cluster_types.specs.declared.event.Dep.{Dep}
 use Rattle.message_defs.specs.declared.content.SubmitMeta.{SubmitMeta}
 use Rattle.message_defs.specs.Json.{Reading, after, read_object}
-use Rattle.message_defs.specs.Fields.{or_bad, is_id, id_in, each_of, flag_from, whole_from, list_from}
+use Rattle.message_defs.specs.Fields.{or_bad, id_in, each_of, flag_from, whole_from, list_from}
 use Rattle.message_defs.specs.Points.{whole_timeouts}
 
 -- the texts in order, each at its first place alone
