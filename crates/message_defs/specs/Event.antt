@@ -1,0 +1,145 @@
+-- What a message means on its channel, or why it means nothing.
+use Rattle.std.specs.Prelude.{ℕ, true, false, Bool, List, [], length, nat_eq, ◌==◌, if◌then◌else◌, Option, Some, None, Result, Ok, Err, bytes_eq, codes}
+use Rattle.std.specs.List.{ends_with}
+use Rattle.cluster_types.specs.declared.config.Channel.{Channel}
+use Rattle.cluster_types.specs.declared.config.Channel.TheVariants.{Hub, Task, Mux, Engine}
+use Rattle.cluster_types.specs.declared.message.Message.{Message}
+use Rattle.cluster_types.specs.declared.event.Submission.{Submission}
+use Rattle.cluster_types.specs.declared.event.Event.{Event as EventType}
+use Rattle.cluster_types.specs.declared.event.Event.TheVariants.{Submit, Direct, Reply, Join as JoinEvent, Leave, Pong as PongEvent, Purge as PurgeEvent, Resubmit as ResubmitEvent, Ask}
+use Rattle.cluster_types.specs.declared.event.Query.TheVariants.{Connection as ConnectionQuery, Queue as QueueQuery, Result as ResultQuery, History as HistoryQuery, Shutdown as ShutdownQuery, Unknown, Bad}
+use Rattle.cluster_types.specs.declared.event.Reason.{Reason}
+use Rattle.cluster_types.specs.declared.event.Reason.TheVariants.{BadHeader, BadType, NoTarget, BadReply}
+use Rattle.message_defs.specs.declared.header.Header.{Header as HeaderType}
+use Rattle.message_defs.specs.declared.content.SubmitMeta.{SubmitMeta}
+use Rattle.message_defs.specs.declared.content.ReplyMeta.{ReplyMeta}
+use Rattle.message_defs.specs.declared.content.HubContent.{HubContent}
+use Rattle.message_defs.specs.declared.content.HubContent.TheVariants.{Connection as ConnectionContent, History as HistoryContent, Shutdown as ShutdownContent, Queue as QueueContent, Result as ResultContent, Purge as PurgeContent, Resubmit as ResubmitContent, Join, Pong}
+use Rattle.message_defs.specs.declared.fault.ReadError.{ReadError}
+use Rattle.message_defs.specs.declared.fault.ReadError.TheVariants.{NotJson, NotObject, Missing, BadField, OutOfMemory}
+use Rattle.message_defs.specs.declared.request.Request.{Request}
+use Rattle.message_defs.specs.declared.request.Request.TheVariants.{Connection, Queue, Results, History, Shutdown, Purge, Resubmit, Registration, Beat}
+use Rattle.message_defs.specs.Json.{Reading}
+use Rattle.message_defs.specs.Header.{read_header}
+use Rattle.message_defs.specs.Submit.{read_submit, plain_dependency}
+use Rattle.message_defs.specs.Reply.{read_reply}
+use Rattle.message_defs.specs.Hub.{request_of, read_content}
+
+-- a msg_type that ends in `_request`
+unfoldable pub is_request : List ℕ → Bool
+is_request msg_type = ends_with nat_eq msg_type (codes "_request")
+
+-- a msg_type that ends in `_reply`
+unfoldable pub is_reply : List ℕ → Bool
+is_reply msg_type = ends_with nat_eq msg_type (codes "_reply")
+
+unfoldable pub is_leave : List ℕ → Bool
+is_leave msg_type = bytes_eq msg_type (codes "unregistration_request")
+
+-- the field that a fault names, or the whole part that doesn't read
+abbrev pub fault_field : List ℕ → ReadError → List ℕ
+fault_field part NotJson = part
+fault_field part NotObject = part
+fault_field part (Missing field) = field
+fault_field part (BadField field) = field
+fault_field part OutOfMemory = part
+
+-- what a content asks for
+abbrev pub event_in : HubContent → EventType
+event_in ConnectionContent = Ask ConnectionQuery
+event_in HistoryContent = Ask HistoryQuery
+event_in ShutdownContent = Ask ShutdownQuery
+event_in (QueueContent targets verbose) = Ask (QueueQuery targets verbose)
+event_in (ResultContent ids status_only) = Ask (ResultQuery ids status_only)
+event_in (PurgeContent all ids) = PurgeEvent all ids
+event_in (ResubmitContent ids) = ResubmitEvent ids
+event_in (Join uuid) = JoinEvent uuid
+event_in (Pong beat) = PongEvent beat
+
+-- what a content asks for, or that it is bad
+abbrev pub asked : Reading HubContent → EventType
+asked (Ok content) = event_in content
+asked (Err fault) = Ask (Bad (fault_field (codes "content") fault))
+
+-- the hub knows seven requests
+abbrev pub hub_event : List ℕ → Option Request → EventType
+hub_event content None = Ask Unknown
+hub_event content (Some Registration) = Ask Unknown
+hub_event content (Some Beat) = Ask Unknown
+hub_event content (Some Connection) = asked (read_content Connection content)
+hub_event content (Some Queue) = asked (read_content Queue content)
+hub_event content (Some Results) = asked (read_content Results content)
+hub_event content (Some History) = asked (read_content History content)
+hub_event content (Some Shutdown) = asked (read_content Shutdown content)
+hub_event content (Some Purge) = asked (read_content Purge content)
+hub_event content (Some Resubmit) = asked (read_content Resubmit content)
+
+abbrev pub submission : HeaderType → SubmitMeta → Submission
+submission header meta = record {
+  id = header.msg_id;
+  msg_type = header.msg_type;
+  session = header.session;
+  username = header.username;
+  after = meta.after;
+  follow = meta.follow;
+  targets = meta.targets;
+  timeout = meta.timeout;
+  retries = meta.retries;
+}
+
+abbrev pub submitted : HeaderType → Reading SubmitMeta → EventType
+submitted header (Ok meta) = Submit (submission header meta)
+submitted header (Err fault) = Ask (Bad (fault_field (codes "metadata") fault))
+
+abbrev pub task_event : HeaderType → List ℕ → Result EventType Reason
+task_event header metadata = if is_request header.msg_type then Ok (submitted header (read_submit metadata)) else Err BadType
+
+-- a request to one engine depends on nothing, and is tried once
+abbrev pub direct_meta : SubmitMeta
+direct_meta = record { after = plain_dependency []; follow = plain_dependency []; targets = []; timeout = 0; retries = 0 }
+
+abbrev pub mux_event : HeaderType → List ℕ → Result EventType Reason
+mux_event header target =
+    if is_request header.msg_type
+    then (if length target == 0 then Err NoTarget else Ok (Direct (submission header direct_meta)))
+    else Err BadType
+
+abbrev pub echoed : Reading HubContent → Result EventType Reason
+echoed (Ok content) = Ok (event_in content)
+echoed (Err fault) = Err BadReply
+
+abbrev pub replied : HeaderType → Reading ReplyMeta → Result EventType Reason
+replied header (Ok meta) = Ok (Reply meta.task header.msg_id meta.ok meta.declined)
+replied header (Err fault) = Err BadReply
+
+-- a message of an engine that is neither a registration nor an echo
+abbrev pub reply_event : HeaderType → Message → Result EventType Reason
+reply_event header message =
+    if is_leave header.msg_type then Ok Leave
+    else (if is_reply header.msg_type then replied header (read_reply message.parent message.metadata message.content) else Err BadType)
+
+abbrev pub is_registration : Option Request → Bool
+is_registration None = false
+is_registration (Some Registration) = true
+is_registration (Some _) = false
+
+abbrev pub is_echo : Option Request → Bool
+is_echo None = false
+is_echo (Some Beat) = true
+is_echo (Some _) = false
+
+abbrev pub engine_event : HeaderType → Message → Result EventType Reason
+engine_event header message =
+    if is_registration (request_of header.msg_type) then Ok (asked (read_content Registration message.content))
+    else (if is_echo (request_of header.msg_type) then echoed (read_content Beat message.content) else reply_event header message)
+
+abbrev pub event_under : Channel → Message → Reading HeaderType → Result EventType Reason
+event_under channel message (Err fault) = Err BadHeader
+event_under Hub message (Ok header) = Ok (hub_event message.content (request_of header.msg_type))
+event_under Task message (Ok header) = task_event header message.metadata
+event_under Mux message (Ok header) = mux_event header message.target
+event_under Engine message (Ok header) = engine_event header message
+
+-- the event of a message on a channel, or why it is junk
+unfoldable pub event_of : Channel → Message → Result EventType Reason
+event_of channel message = event_under channel message (read_header message.header)

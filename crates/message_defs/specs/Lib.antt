@@ -1,0 +1,10 @@
+pub mod Json
+pub mod Fields
+pub mod Header
+pub mod Points
+pub mod Submit
+pub mod Reply
+pub mod Hub
+pub mod Event
+pub mod Texts
+pub mod Sent

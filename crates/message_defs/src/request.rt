@@ -1,0 +1,24 @@
+//! The messages of clients and engines whose content is read.
+
+/// The types of message whose content is read, after their `msg_type`.
+#[derive(Clone, Copy, Debug, PartialEq, Eq)]
+pub enum Request {
+    /// `connection_request`
+    Connection,
+    /// `queue_request`
+    Queue,
+    /// `result_request`
+    Results,
+    /// `history_request`
+    History,
+    /// `shutdown_request`
+    Shutdown,
+    /// `purge_request`
+    Purge,
+    /// `resubmit_request`
+    Resubmit,
+    /// `registration_request`
+    Registration,
+    /// `beat_reply`
+    Beat,
+}
