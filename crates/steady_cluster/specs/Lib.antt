@@ -1,0 +1,5 @@
+pub mod Facts
+pub mod Taken
+pub mod Due
+pub mod Outs
+pub mod History
