@@ -3,7 +3,7 @@
 ghost use Rattle.std.specs.Prelude.{◌≡◌, IfOk};
 ghost use Rattle.message_defs.specs.Event.{is_request, is_reply, is_leave};
 ghost use Rattle.message_defs.specs.Hub.{request_of};
-ghost use Rattle.message_defs.specs.Texts.{reply_type};
+ghost use Rattle.message_defs.specs.Texts.{stem_of, reply_type};
 
 use cluster_types::text::Text;
 use message_defs::request::Request;
@@ -59,4 +59,24 @@ pub fn request_of(msg_type: &str) -> Option<Request>
     } else {
         None
     }
+}
+
+/// A type without `_request` at its end, if it has that.
+fn stem_of(msg_type: &str) -> &str
+    ensures { result.now ≡ stem_of msg_type.now }
+{
+    match msg_type.strip_suffix("_request") {
+        Some(stem) => stem,
+        None => msg_type,
+    }
+}
+
+/// The type of the answer to a message: `_reply` in the place of `_request`, else appended.
+#[tactic(auto, unfolding(message_defs::specs::Texts::reply_type))]
+pub fn reply_type(alloc: Global, msg_type: &Text) -> Result<Text, AllocError>
+    ensures { IfOk result (λ t. t ≡ reply_type msg_type.now) }
+{
+    let mut text = String::from_str(alloc, stem_of(msg_type.as_str()))?;
+    text.push_str("_reply")?;
+    Ok(Text::from_string(text))
 }
