@@ -61,18 +61,22 @@ abbrev pub asked : Reading HubContent → EventType
 asked (Ok content) = event_in content
 asked (Err fault) = Ask (Bad (fault_field (codes "content") fault))
 
--- the hub knows seven requests
+-- the requests that the hub knows: registrations and echoes belong to engines
+abbrev pub hub_request : Option Request → Option Request
+hub_request None = None
+hub_request (Some Registration) = None
+hub_request (Some Beat) = None
+hub_request (Some Connection) = Some Connection
+hub_request (Some Queue) = Some Queue
+hub_request (Some Results) = Some Results
+hub_request (Some History) = Some History
+hub_request (Some Shutdown) = Some Shutdown
+hub_request (Some Purge) = Some Purge
+hub_request (Some Resubmit) = Some Resubmit
+
 abbrev pub hub_event : List ℕ → Option Request → EventType
 hub_event content None = Ask Unknown
-hub_event content (Some Registration) = Ask Unknown
-hub_event content (Some Beat) = Ask Unknown
-hub_event content (Some Connection) = asked (read_content Connection content)
-hub_event content (Some Queue) = asked (read_content Queue content)
-hub_event content (Some Results) = asked (read_content Results content)
-hub_event content (Some History) = asked (read_content History content)
-hub_event content (Some Shutdown) = asked (read_content Shutdown content)
-hub_event content (Some Purge) = asked (read_content Purge content)
-hub_event content (Some Resubmit) = asked (read_content Resubmit content)
+hub_event content (Some request) = asked (read_content request content)
 
 abbrev pub submission : HeaderType → SubmitMeta → Submission
 submission header meta = record {
@@ -135,7 +139,7 @@ engine_event header message =
 
 abbrev pub event_under : Channel → Message → Reading HeaderType → Result EventType Reason
 event_under channel message (Err fault) = Err BadHeader
-event_under Hub message (Ok header) = Ok (hub_event message.content (request_of header.msg_type))
+event_under Hub message (Ok header) = Ok (hub_event message.content (hub_request (request_of header.msg_type)))
 event_under Task message (Ok header) = task_event header message.metadata
 event_under Mux message (Ok header) = mux_event header message.target
 event_under Engine message (Ok header) = engine_event header message

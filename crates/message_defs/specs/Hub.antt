@@ -1,12 +1,12 @@
 -- What the content of a hub request, of a registration or of an echo says, or the first fault.
-use Rattle.std.specs.Prelude.{ℕ, ◌^◌, Bool, true, false, List, [], nat_lt, if◌then◌else◌, Option, Some, None, Ok, Err, is_some, bytes_eq, codes, option_and_then, option_map}
+use Rattle.std.specs.Prelude.{ℕ, ◌^◌, Bool, true, false, List, [], nat_lt, if◌then◌else◌, Option, Some, None, Ok, Err, is_some, bytes_eq, codes, option_map, ⊤}
 use Rattle.serde_json.specs.Data.{Data, Items, no_items, item}
 use Rattle.serde_json.specs.Find.{get, as_null, as_str, as_array}
 use Rattle.message_defs.specs.declared.request.Request.{Request}
 use Rattle.message_defs.specs.declared.request.Request.TheVariants.{Connection, Queue, Results, History, Shutdown, Purge, Resubmit, Registration, Beat}
 use Rattle.message_defs.specs.declared.content.HubContent.{HubContent}
 use Rattle.message_defs.specs.declared.content.HubContent.TheVariants.{Connection as ConnectionContent, History as HistoryContent, Shutdown as ShutdownContent, Queue as QueueContent, Result as ResultContent, Purge as PurgeContent, Resubmit as ResubmitContent, Join, Pong}
-use Rattle.message_defs.specs.declared.fault.ReadError.TheVariants.{Missing}
+use Rattle.message_defs.specs.declared.fault.ReadError.TheVariants.{Missing, BadField}
 use Rattle.message_defs.specs.Json.{Reading, after, read_object}
 use Rattle.message_defs.specs.Fields.{or_bad, id_in, whole_in, list_in, id_from, flag_from, list_from, ids_from}
 
@@ -52,12 +52,16 @@ abbrev pub is_no_items : Items → Bool
 is_no_items no_items = true
 is_no_items (item value values) = false
 
--- `engine_ids` may be there only to list none
-abbrev pub none_listed : List ℕ → Option Data → Reading (List ℕ)
-none_listed field None = Ok []
+abbrev pub lists_none : Option Items → Bool
+lists_none None = false
+lists_none (Some values) = is_no_items values
+
+-- a field that may be there only to list none
+abbrev pub none_listed : List ℕ → Option Data → Reading ⊤
+none_listed field None = Ok tt
 none_listed field (Some value) =
-    if is_some (as_null value) then Ok []
-    else or_bad field (option_and_then (λ values. if is_no_items values then Some [] else None) (as_array value))
+    if is_some (as_null value) then Ok tt
+    else (if lists_none (as_array value) then Ok tt else Err (BadField field))
 
 abbrev pub ids_or_all : Option Data → Reading (Bool × List (List ℕ))
 ids_or_all None = Err (Missing (codes "msg_ids"))
@@ -84,17 +88,31 @@ number_from field (Some value) = or_bad field (whole_in value)
 abbrev pub pong_from : Data → Reading HubContent
 pong_from value = after (number_from (codes "beat") (get (codes "beat") value)) (λ beat. Ok (Pong beat))
 
--- three requests say all by their type, and their content isn't read
+-- a request that says all by its type: its content isn't read
+abbrev pub unread : Request → Option HubContent
+unread Connection = Some ConnectionContent
+unread History = Some HistoryContent
+unread Shutdown = Some ShutdownContent
+unread _ = None
+
+-- what the object says, of a request whose content is read
+abbrev pub content_from : Request → Data → Reading HubContent
+content_from Connection value = Ok ConnectionContent
+content_from History value = Ok HistoryContent
+content_from Shutdown value = Ok ShutdownContent
+content_from Queue value = queue_from value
+content_from Results value = result_from value
+content_from Purge value = purge_from value
+content_from Resubmit value = resubmit_from value
+content_from Registration value = join_from value
+content_from Beat value = pong_from value
+
+abbrev pub read_unless : List ℕ → Request → Option HubContent → Reading HubContent
+read_unless content request (Some known) = Ok known
+read_unless content request None = after (read_object content) (content_from request)
+
 unfoldable pub read_content : Request → List ℕ → Reading HubContent
-read_content Connection content = Ok ConnectionContent
-read_content History content = Ok HistoryContent
-read_content Shutdown content = Ok ShutdownContent
-read_content Queue content = after (read_object content) queue_from
-read_content Results content = after (read_object content) result_from
-read_content Purge content = after (read_object content) purge_from
-read_content Resubmit content = after (read_object content) resubmit_from
-read_content Registration content = after (read_object content) join_from
-read_content Beat content = after (read_object content) pong_from
+read_content request content = read_unless content request (unread request)
 
 -- the reading of a content by the msg_type, where that names such a request
 abbrev pub read_hub : List ℕ → List ℕ → Option (Reading HubContent)

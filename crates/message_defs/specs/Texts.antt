@@ -23,9 +23,13 @@ resubmit_header msg_id session username msg_type date =
 abbrev pub made_header : List ℕ → List ℕ → List ℕ → List ℕ
 made_header msg_id msg_type date = resubmit_header msg_id (codes "controller") (codes "controller") msg_type date
 
+-- a type without `_request` at its end, if it has that
+abbrev pub stem_of : List ℕ → List ℕ
+stem_of msg_type = if is_request msg_type then take (length msg_type - 8) msg_type else msg_type
+
 -- the type of the answer to a message
 unfoldable pub reply_type : List ℕ → List ℕ
-reply_type msg_type = if is_request msg_type then take (length msg_type - 8) msg_type ++ codes "_reply" else msg_type ++ codes "_reply"
+reply_type msg_type = stem_of msg_type ++ codes "_reply"
 
 -- the type of the refusal of a request for a task
 unfoldable pub submit_refused : List ℕ

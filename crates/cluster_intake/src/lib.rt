@@ -1,0 +1,280 @@
+//! What messages mean on the channel of their connection.
+//!
+//! Each part of a message is read once.
+#![tactic(auto)]
+
+ghost use Rattle.std.specs.Prelude.{◌≡◌, ◌⊎◌, ◌==◌, Ok, Err, Some, None, Result, IfOk, IfErr, length, codes};
+ghost use Rattle.message_defs.specs.Event.{fault_field, event_in, asked, hub_request, hub_event, submission, submitted, task_event, direct_meta, mux_event, echoed, replied, reply_event, is_registration, is_echo, engine_event, event_under, event_of};
+ghost use Rattle.cluster_intake.specs.Intake.{taken_in};
+ghost use Rattle.message_defs.specs.Header.{read_header};
+ghost use Rattle.message_defs.specs.Hub.{request_of, read_content};
+ghost use Rattle.message_defs.specs.Reply.{read_reply};
+ghost use Rattle.message_defs.specs.Submit.{read_submit};
+
+pub mod fault;
+
+use cluster_types::config::Channel;
+use cluster_types::event::{Event, Query, Reason, Submission};
+use cluster_types::message::Message;
+use cluster_types::sequence::Sequence;
+use cluster_types::text::Text;
+use fault::IntakeError;
+use jupyter_header::header::read_header;
+use jupyter_header::hub::read_content;
+use jupyter_header::kinds::{is_leave, is_reply, is_request, request_of};
+use jupyter_header::reply::read_reply;
+use jupyter_header::submit::{plain_dependency, read_submit};
+use message_defs::content::{HubContent, SubmitMeta};
+use message_defs::fault::{Field, ReadError};
+use message_defs::header::Header;
+use message_defs::request::Request;
+use std::alloc::{AllocError, Global};
+
+/// The field that a fault names, or the whole part that doesn't read.
+fn fault_field(alloc: Global, part: &str, fault: ReadError) -> Result<Field, AllocError>
+    ensures { IfOk result (λ f. f ≡ fault_field part.now fault) }
+{
+    match fault {
+        ReadError::Missing(field) => Ok(field),
+        ReadError::BadField(field) => Ok(field),
+        _ => Text::new(alloc, part),
+    }
+}
+
+/// What a content asks for.
+fn event_in(content: HubContent) -> Event
+    ensures { result ≡ event_in content }
+{
+    match content {
+        HubContent::Connection => Event::Ask(Query::Connection),
+        HubContent::History => Event::Ask(Query::History),
+        HubContent::Shutdown => Event::Ask(Query::Shutdown),
+        HubContent::Queue { targets, verbose } => Event::Ask(Query::Queue { targets, verbose }),
+        HubContent::Result { ids, status_only } => Event::Ask(Query::Result { ids, status_only }),
+        HubContent::Purge { all, ids } => Event::Purge { all, ids },
+        HubContent::Resubmit { ids } => Event::Resubmit { ids },
+        HubContent::Join { uuid } => Event::Join { uuid },
+        HubContent::Pong { beat } => Event::Pong { beat },
+    }
+}
+
+/// What a content asks for, or that it is bad.
+fn asked(alloc: Global, request: Request, content: &[u8]) -> Result<Event, AllocError>
+    ensures { IfOk result (λ e. e ≡ asked (read_content request content.now)) }
+{
+    match read_content(alloc, request, content) {
+        Ok(content) => Ok(event_in(content)),
+        Err(ReadError::OutOfMemory) => Err(AllocError),
+        Err(fault) => {
+            let field = fault_field(alloc, "content", fault)?;
+            Ok(Event::Ask(Query::Bad { field }))
+        }
+    }
+}
+
+/// The request that the hub knows.
+fn hub_request(found: Option<Request>) -> Option<Request>
+    ensures { result ≡ hub_request found }
+{
+    match found {
+        Some(Request::Registration | Request::Beat) => None,
+        _ => found,
+    }
+}
+
+/// What a message to the hub asks for.
+fn hub_event(alloc: Global, msg_type: &Text, content: &[u8]) -> Result<Event, AllocError>
+    ensures { IfOk result (λ e. e ≡ hub_event content.now (hub_request (request_of msg_type.now))) }
+{
+    match hub_request(request_of(msg_type.as_str())) {
+        None => Ok(Event::Ask(Query::Unknown)),
+        Some(request) => {
+            let event = asked(alloc, request, content)?;
+            Ok(event)
+        }
+    }
+}
+
+/// What a header and metadata say together.
+fn submission(header: Header, meta: SubmitMeta) -> Submission
+    ensures { result ≡ submission header meta }
+{
+    Submission {
+        id: header.msg_id,
+        msg_type: header.msg_type,
+        session: header.session,
+        username: header.username,
+        after: meta.after,
+        follow: meta.follow,
+        targets: meta.targets,
+        timeout: meta.timeout,
+        retries: meta.retries,
+    }
+}
+
+/// The task that a request with this metadata submits, or that the metadata is bad.
+fn submitted(alloc: Global, header: Header, metadata: &[u8]) -> Result<Event, AllocError>
+    ensures { IfOk result (λ e. e ≡ submitted header (read_submit metadata.now)) }
+{
+    match read_submit(alloc, metadata) {
+        Ok(meta) => Ok(Event::Submit(submission(header, meta))),
+        Err(ReadError::OutOfMemory) => Err(AllocError),
+        Err(fault) => {
+            let field = fault_field(alloc, "metadata", fault)?;
+            Ok(Event::Ask(Query::Bad { field }))
+        }
+    }
+}
+
+/// What a message on the channel of tasks asks for.
+fn task_event(alloc: Global, header: Header, metadata: &[u8]) -> Result<Event, IntakeError>
+    ensures ok { IfOk result (λ e. task_event header metadata.now ≡ Ok e) }
+    ensures err { IfErr result (λ e. (e ≡ IntakeError.OutOfMemory) ⊎ (taken_in (task_event header metadata.now) ≡ Err e)) }
+{
+    if !is_request(&header.msg_type) {
+        return Err(IntakeError::Junk(Reason::BadType));
+    }
+    let event = submitted(alloc, header, metadata)?;
+    Ok(event)
+}
+
+/// The metadata of a request to one engine: it depends on nothing, and is tried once.
+fn direct_meta(alloc: Global) -> Result<SubmitMeta, AllocError>
+    ensures { IfOk result (λ m. m ≡ direct_meta) }
+{
+    Ok(SubmitMeta {
+        after: plain_dependency(alloc, Sequence::new(alloc))?,
+        follow: plain_dependency(alloc, Sequence::new(alloc))?,
+        targets: Sequence::new(alloc),
+        timeout: 0,
+        retries: 0,
+    })
+}
+
+/// What a message to one engine asks for.
+fn mux_event(alloc: Global, header: Header, target: &[u8]) -> Result<Event, IntakeError>
+    ensures ok { IfOk result (λ e. mux_event header target.now ≡ Ok e) }
+    ensures err { IfErr result (λ e. (e ≡ IntakeError.OutOfMemory) ⊎ (taken_in (mux_event header target.now) ≡ Err e)) }
+{
+    if !is_request(&header.msg_type) {
+        return Err(IntakeError::Junk(Reason::BadType));
+    }
+    if target.is_empty() {
+        return Err(IntakeError::Junk(Reason::NoTarget));
+    }
+    let meta = direct_meta(alloc)?;
+    Ok(Event::Direct(submission(header, meta)))
+}
+
+/// The echo of a heartbeat.
+fn echoed(alloc: Global, content: &[u8]) -> Result<Event, IntakeError>
+    ensures ok { IfOk result (λ e. echoed (read_content Request.Beat content.now) ≡ Ok e) }
+    ensures err { IfErr result (λ e. (e ≡ IntakeError.OutOfMemory) ⊎ (taken_in (echoed (read_content Request.Beat content.now)) ≡ Err e)) }
+{
+    match read_content(alloc, Request::Beat, content) {
+        Ok(content) => Ok(event_in(content)),
+        Err(ReadError::OutOfMemory) => Err(IntakeError::OutOfMemory),
+        Err(_) => Err(IntakeError::Junk(Reason::BadReply)),
+    }
+}
+
+/// The reply to a task.
+fn replied(alloc: Global, header: Header, message: &Message) -> Result<Event, IntakeError>
+    ensures ok { IfOk result (λ e. replied header (read_reply message.now.parent message.now.metadata message.now.content) ≡ Ok e) }
+    ensures err { IfErr result (λ e. (e ≡ IntakeError.OutOfMemory) ⊎ (taken_in (replied header (read_reply message.now.parent message.now.metadata message.now.content)) ≡ Err e)) }
+{
+    let parent = message.parent.as_slice();
+    let metadata = message.metadata.as_slice();
+    match read_reply(alloc, parent, metadata, message.content.as_slice()) {
+        Ok(meta) => Ok(Event::Reply {
+            task: meta.task,
+            header_id: header.msg_id,
+            ok: meta.ok,
+            declined: meta.declined,
+        }),
+        Err(ReadError::OutOfMemory) => Err(IntakeError::OutOfMemory),
+        Err(_) => Err(IntakeError::Junk(Reason::BadReply)),
+    }
+}
+
+/// A message of an engine that is neither a registration nor an echo.
+fn reply_event(alloc: Global, header: Header, message: &Message) -> Result<Event, IntakeError>
+    ensures ok { IfOk result (λ e. reply_event header message.now ≡ Ok e) }
+    ensures err { IfErr result (λ e. (e ≡ IntakeError.OutOfMemory) ⊎ (taken_in (reply_event header message.now) ≡ Err e)) }
+{
+    if is_leave(&header.msg_type) {
+        return Ok(Event::Leave);
+    }
+    if !is_reply(&header.msg_type) {
+        return Err(IntakeError::Junk(Reason::BadType));
+    }
+    let event = replied(alloc, header, message)?;
+    Ok(event)
+}
+
+/// Whether a message registers an engine.
+fn is_registration(found: Option<Request>) -> bool
+    ensures { result ≡ is_registration found }
+{
+    matches!(found, Some(Request::Registration))
+}
+
+/// Whether a message is the echo of a heartbeat.
+fn is_echo(found: Option<Request>) -> bool
+    ensures { result ≡ is_echo found }
+{
+    matches!(found, Some(Request::Beat))
+}
+
+/// What a message of an engine says.
+fn engine_event(alloc: Global, header: Header, message: &Message) -> Result<Event, IntakeError>
+    ensures ok { IfOk result (λ e. engine_event header message.now ≡ Ok e) }
+    ensures err { IfErr result (λ e. (e ≡ IntakeError.OutOfMemory) ⊎ (taken_in (engine_event header message.now) ≡ Err e)) }
+{
+    let request = request_of(header.msg_type.as_str());
+    if is_registration(request) {
+        let event = asked(alloc, Request::Registration, message.content.as_slice())?;
+        return Ok(event);
+    }
+    if is_echo(request) {
+        let event = echoed(alloc, message.content.as_slice())?;
+        return Ok(event);
+    }
+    let event = reply_event(alloc, header, message)?;
+    Ok(event)
+}
+
+/// What a message with this header means.
+fn event_under(
+    alloc: Global,
+    channel: Channel,
+    message: &Message,
+    header: Header,
+) -> Result<Event, IntakeError>
+    ensures ok { IfOk result (λ e. event_under channel message.now (Ok header) ≡ Ok e) }
+    ensures err { IfErr result (λ e. (e ≡ IntakeError.OutOfMemory) ⊎ (taken_in (event_under channel message.now (Ok header)) ≡ Err e)) }
+{
+    let event = match channel {
+        Channel::Hub => hub_event(alloc, &header.msg_type, message.content.as_slice())?,
+        Channel::Task => task_event(alloc, header, message.metadata.as_slice())?,
+        Channel::Mux => mux_event(alloc, header, message.target.as_slice())?,
+        Channel::Engine => engine_event(alloc, header, message)?,
+    };
+    Ok(event)
+}
+
+/// What a message on a channel means, or why it means nothing.
+#[tactic(auto, unfolding(message_defs::specs::Event::event_of))]
+pub fn event_of(alloc: Global, channel: Channel, message: &Message) -> Result<Event, IntakeError>
+    ensures ok { IfOk result (λ e. event_of channel message.now ≡ Ok e) }
+    ensures err { IfErr result (λ e. (e ≡ IntakeError.OutOfMemory) ⊎ (taken_in (event_of channel message.now) ≡ Err e)) }
+{
+    match read_header(alloc, message.header.as_slice()) {
+        Ok(header) => {
+            let event = event_under(alloc, channel, message, header)?;
+            Ok(event)
+        }
+        Err(ReadError::OutOfMemory) => Err(IntakeError::OutOfMemory),
+        Err(_) => Err(IntakeError::Junk(Reason::BadHeader)),
+    }
+}

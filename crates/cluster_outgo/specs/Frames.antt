@@ -1,0 +1,16 @@
+-- The frames that are sent.
+use Rattle.std.specs.Prelude.{ℕ, ◌≤◌, List, ⊤}
+use Rattle.cluster_types.specs.declared.out.Out.{Out}
+use Rattle.cluster_types.specs.declared.out.Out.TheVariants.{Pass, Made}
+use Rattle.edges.specs.Date.{date_of}
+use Rattle.message_defs.specs.Sent.{sent_message}
+use Rattle.jupyter_parts.specs.Signed.{written}
+
+-- the moment of a message that is made has a date
+abbrev pub IsSendable : Out → Type 0
+IsSendable (Pass conn message) = ⊤
+IsSendable (Made conn moment msg_id msg_type parent content buffers) = moment ≤ 253402300799999
+
+-- the frames of an out: the signed message that it is
+abbrev pub frames_of : List ℕ → Out → List (List ℕ)
+frames_of key out = written key (sent_message date_of out)

@@ -1,0 +1,12 @@
+use Rattle.std.proofs.Common.{◌≡◌, ◌==◌, ◌∙◌, suc, false, arith, List, [], ◌∷◌, length, refl}
+use Rattle.serde_json.specs.View.{items_view}
+use Rattle.serde_json.specs.declared.value.Value.{Value}
+use Rattle.message_defs.specs.Hub.{is_no_items}
+use Rattle.jupyter_header.proofs.hub.is_none.Goals as goal
+
+none : (values : List Value) → (length values == 0) ≡ is_no_items (items_view values)
+none [] = refl
+none (value ∷ values) = let other : (suc (length values) == 0) ≡ false = grind arith in other
+
+pub returns : goal.returns
+returns c = c.is_empty.ensures ∙ none c.args.values.now

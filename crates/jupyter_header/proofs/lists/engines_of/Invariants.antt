@@ -1,0 +1,8 @@
+use Rattle.std.proofs.Common.{◌≡◌, ◌++◌, drop, option_map}
+use Rattle.serde_json.specs.View.{items_view}
+use Rattle.message_defs.specs.Fields.{each_of}
+use Rattle.message_defs.specs.Hub.{engine_in}
+use Rattle.jupyter_header.proofs.lists.engines_of.Given as goal
+
+abbrev pub invariant-loop-value : goal.invariant-loop-value
+invariant-loop-value l = each_of engine_in (items_view l.values) ≡ option_map (λ rest. l.engines ++ rest) (each_of engine_in (items_view (drop l.value-index l.values)))

@@ -1,0 +1,204 @@
+//! The contents of hub requests, registrations and echoes.
+
+ghost use Rattle.std.specs.Prelude.{◌≡◌, ◌⊎◌, Ok, Err, Some, None, IfOk, IfErr, OnOk, IsSome, option_map, codes};
+ghost use Rattle.serde_json.specs.Find.{get, as_str, as_array};
+ghost use Rattle.serde_json.specs.View.{view, items_view};
+ghost use Rattle.message_defs.specs.Fields.{whole_in};
+ghost use Rattle.message_defs.specs.Hub.{request_of, queue_from, result_from, is_all, is_no_items, lists_none, none_listed, ids_or_all, purge_from, resubmit_from, join_from, number_from, pong_from, unread, content_from, read_content, read_hub};
+
+use crate::fields::{bad, flag_field, id_field, missing};
+use crate::kinds::request_of;
+use crate::lists::{id_list, ids_field, optional_engines};
+use crate::object::read_object;
+use cluster_types::message::Ids;
+use cluster_types::sequence::Sequence;
+use message_defs::content::HubContent;
+use message_defs::fault::ReadError;
+use message_defs::request::Request;
+use serde_json::Value;
+use std::alloc::Global;
+
+fn queue_content(alloc: Global, value: &Value) -> Result<HubContent, ReadError>
+    ensures ok { IfOk result (λ c. queue_from (view value.now) ≡ Ok c) }
+    ensures err { IfErr result (λ e. (e ≡ ReadError.OutOfMemory) ⊎ (queue_from (view value.now) ≡ Err e)) }
+{
+    let targets = optional_engines(alloc, value, "targets")?;
+    let verbose = flag_field(alloc, value, "verbose", false, "verbose")?;
+    Ok(HubContent::Queue { targets, verbose })
+}
+
+fn result_content(alloc: Global, value: &Value) -> Result<HubContent, ReadError>
+    ensures ok { IfOk result (λ c. result_from (view value.now) ≡ Ok c) }
+    ensures err { IfErr result (λ e. (e ≡ ReadError.OutOfMemory) ⊎ (result_from (view value.now) ≡ Err e)) }
+{
+    let ids = ids_field(alloc, value, "msg_ids")?;
+    let status_only = flag_field(alloc, value, "status_only", false, "status_only")?;
+    Ok(HubContent::Result { ids, status_only })
+}
+
+/// Whether a value is the word that asks for all settled ids.
+fn is_all(value: &Value) -> bool
+    ensures { result ≡ is_all (as_str (view value.now)) }
+{
+    match value.as_str() {
+        Some(word) => word == "all",
+        None => false,
+    }
+}
+
+/// The listed ids, with true where the word `all` stands in their place.
+fn ids_or_all(alloc: Global, value: &Value) -> Result<(bool, Ids), ReadError>
+    ensures ok { IfOk result (λ r. ids_or_all (get (codes "msg_ids") (view value.now)) ≡ Ok r) }
+    ensures err { IfErr result (λ e. (e ≡ ReadError.OutOfMemory) ⊎ (ids_or_all (get (codes "msg_ids") (view value.now)) ≡ Err e)) }
+{
+    let Some(found) = value.get("msg_ids") else {
+        return Err(missing(alloc, "msg_ids"));
+    };
+    if is_all(found) {
+        return Ok((true, Sequence::new(alloc)));
+    }
+    match id_list(alloc, found)? {
+        Some(ids) => Ok((false, ids)),
+        None => Err(bad(alloc, "msg_ids")),
+    }
+}
+
+/// Whether there are no values.
+fn is_none(values: &[Value]) -> bool
+    ensures { result ≡ is_no_items (items_view values.now) }
+{
+    values.is_empty()
+}
+
+/// Whether a value is an empty list.
+fn lists_none(value: &Value) -> bool
+    ensures { result ≡ lists_none (as_array (view value.now)) }
+{
+    match value.as_array() {
+        Some(values) => is_none(values.as_slice()),
+        None => false,
+    }
+}
+
+/// A field that may only be absent, null or an empty list.
+fn none_listed(alloc: Global, value: &Value, field: &str) -> Result<(), ReadError>
+    ensures ok { OnOk result (none_listed field.now (get field.now (view value.now)) ≡ Ok tt) }
+    ensures err { IfErr result (λ e. (e ≡ ReadError.OutOfMemory) ⊎ (none_listed field.now (get field.now (view value.now)) ≡ Err e)) }
+{
+    let Some(found) = value.get(field) else {
+        return Ok(());
+    };
+    if found.is_null() || lists_none(found) {
+        return Ok(());
+    }
+    Err(bad(alloc, field))
+}
+
+fn purge_content(alloc: Global, value: &Value) -> Result<HubContent, ReadError>
+    ensures ok { IfOk result (λ c. purge_from (view value.now) ≡ Ok c) }
+    ensures err { IfErr result (λ e. (e ≡ ReadError.OutOfMemory) ⊎ (purge_from (view value.now) ≡ Err e)) }
+{
+    let (all, ids) = ids_or_all(alloc, value)?;
+    none_listed(alloc, value, "engine_ids")?;
+    Ok(HubContent::Purge { all, ids })
+}
+
+fn resubmit_content(alloc: Global, value: &Value) -> Result<HubContent, ReadError>
+    ensures ok { IfOk result (λ c. resubmit_from (view value.now) ≡ Ok c) }
+    ensures err { IfErr result (λ e. (e ≡ ReadError.OutOfMemory) ⊎ (resubmit_from (view value.now) ≡ Err e)) }
+{
+    let ids = ids_field(alloc, value, "msg_ids")?;
+    Ok(HubContent::Resubmit { ids })
+}
+
+fn join_content(alloc: Global, value: &Value) -> Result<HubContent, ReadError>
+    ensures ok { IfOk result (λ c. join_from (view value.now) ≡ Ok c) }
+    ensures err { IfErr result (λ e. (e ≡ ReadError.OutOfMemory) ⊎ (join_from (view value.now) ≡ Err e)) }
+{
+    let uuid = id_field(alloc, value, "uuid")?;
+    Ok(HubContent::Join { uuid })
+}
+
+/// A whole number below 2^64, which has to be there.
+fn number_field(alloc: Global, value: &Value, field: &str) -> Result<u64, ReadError>
+    ensures ok { IfOk result (λ n. number_from field.now (get field.now (view value.now)) ≡ Ok n) }
+    ensures err { IfErr result (λ e. (e ≡ ReadError.OutOfMemory) ⊎ (number_from field.now (get field.now (view value.now)) ≡ Err e)) }
+{
+    let Some(found) = value.get(field) else {
+        return Err(missing(alloc, field));
+    };
+    match found.as_u64() {
+        Some(n) => Ok(n),
+        None => Err(bad(alloc, field)),
+    }
+}
+
+fn pong_content(alloc: Global, value: &Value) -> Result<HubContent, ReadError>
+    ensures ok { IfOk result (λ c. pong_from (view value.now) ≡ Ok c) }
+    ensures err { IfErr result (λ e. (e ≡ ReadError.OutOfMemory) ⊎ (pong_from (view value.now) ≡ Err e)) }
+{
+    let beat = number_field(alloc, value, "beat")?;
+    Ok(HubContent::Pong { beat })
+}
+
+/// The content of a request that says all by its type.
+fn unread(request: Request) -> Option<HubContent>
+    ensures { result ≡ unread request }
+{
+    match request {
+        Request::Connection => Some(HubContent::Connection),
+        Request::History => Some(HubContent::History),
+        Request::Shutdown => Some(HubContent::Shutdown),
+        _ => None,
+    }
+}
+
+/// The content of a request by the object that it is.
+fn read_fields(alloc: Global, request: Request, value: &Value) -> Result<HubContent, ReadError>
+    ensures ok { IfOk result (λ c. content_from request (view value.now) ≡ Ok c) }
+    ensures err { IfErr result (λ e. (e ≡ ReadError.OutOfMemory) ⊎ (content_from request (view value.now) ≡ Err e)) }
+{
+    let content = match request {
+        Request::Connection => HubContent::Connection,
+        Request::History => HubContent::History,
+        Request::Shutdown => HubContent::Shutdown,
+        Request::Queue => queue_content(alloc, value)?,
+        Request::Results => result_content(alloc, value)?,
+        Request::Purge => purge_content(alloc, value)?,
+        Request::Resubmit => resubmit_content(alloc, value)?,
+        Request::Registration => join_content(alloc, value)?,
+        Request::Beat => pong_content(alloc, value)?,
+    };
+    Ok(content)
+}
+
+/// The content of a request.
+///
+/// `connection_request`, `history_request` and `shutdown_request` say all by their type: their content isn't read.
+#[tactic(auto, unfolding(message_defs::specs::Hub::read_content))]
+pub fn read_content(
+    alloc: Global,
+    request: Request,
+    content: &[u8],
+) -> Result<HubContent, ReadError>
+    ensures ok { IfOk result (λ c. read_content request content.now ≡ Ok c) }
+    ensures err { IfErr result (λ e. (e ≡ ReadError.OutOfMemory) ⊎ (read_content request content.now ≡ Err e)) }
+{
+    if let Some(known) = unread(request) {
+        return Ok(known);
+    }
+    let value = read_object(alloc, content)?;
+    let content = read_fields(alloc, request, &value)?;
+    Ok(content)
+}
+
+/// The content of a message whose `msg_type` is that of a request.
+pub fn read_hub(alloc: Global, msg_type: &str, content: &[u8]) -> Result<HubContent, ReadError>
+    requires { IsSome (request_of msg_type.now) }
+    ensures ok { IfOk result (λ c. read_hub msg_type.now content.now ≡ Some (Ok c)) }
+    ensures err { IfErr result (λ e. (e ≡ ReadError.OutOfMemory) ⊎ (read_hub msg_type.now content.now ≡ Some (Err e))) }
+{
+    let request = request_of(msg_type).unwrap();
+    let content = read_content(alloc, request, content)?;
+    Ok(content)
+}

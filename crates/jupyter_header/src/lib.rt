@@ -1,0 +1,15 @@
+//! Readers and writers of the JSON parts of messages.
+//!
+//! Each reader reads its text once, and answers the first fault in the order of the fields.
+#![tactic(auto)]
+
+mod fields;
+pub mod header;
+pub mod hub;
+pub mod kinds;
+mod lists;
+mod object;
+mod points;
+pub mod reply;
+pub mod submit;
+pub mod write;

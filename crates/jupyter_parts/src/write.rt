@@ -1,0 +1,90 @@
+//! Writing signed messages.
+
+ghost use Rattle.std.specs.Prelude.{◌≡◌, ◌≢◌, ◌≤◌, ◌∷◌, ◌++◌, [], IfOk, OnOk, length};
+ghost use Rattle.jupyter_parts.specs.Signed.{delimiter, signature, signed_frames, written, IsSigned};
+
+use cluster_types::message::{Buffers, Message};
+use edges::frames::Frames;
+use hmac_sign::Key;
+use std::alloc::{AllocError, Global};
+
+/// Appends the delimiter.
+#[tactic(auto, unfolding(crate::specs::Signed::delimiter))]
+fn push_delimiter(frames: &mut Frames) -> Result<(), AllocError>
+    ensures { OnOk result (frames.new ≡ frames.old ++ delimiter ∷ []) }
+{
+    frames.push(b"<IDS|MSG>")?;
+    Ok(())
+}
+
+/// Appends the buffers.
+fn push_buffers(frames: &mut Frames, buffers: &Buffers) -> Result<(), AllocError>
+    ensures { OnOk result (frames.new ≡ frames.old ++ buffers.now) }
+{
+    for buffer in buffers.as_slice() {
+        frames.push(buffer.as_slice())?;
+    }
+    Ok(())
+}
+
+/// Appends the delimiter, the signature and what it signs, and the buffers.
+fn push_signed(
+    frames: &mut Frames,
+    key: &Key,
+    header: &[u8],
+    parent: &[u8],
+    metadata: &[u8],
+    content: &[u8],
+    buffers: &Buffers,
+) -> Result<(), AllocError>
+    ensures { OnOk result (frames.new ≡ frames.old ++ signed_frames key.now header.now parent.now metadata.now content.now buffers.now) }
+{
+    push_delimiter(frames)?;
+    frames.push(&key.tag(header, parent, metadata, content))?;
+    frames.push(header)?;
+    frames.push(parent)?;
+    frames.push(metadata)?;
+    frames.push(content)?;
+    push_buffers(frames, buffers)?;
+    Ok(())
+}
+
+/// The frames of a message without identity frames.
+pub fn write_signed(
+    alloc: Global,
+    key: &Key,
+    header: &[u8],
+    parent: &[u8],
+    metadata: &[u8],
+    content: &[u8],
+    buffers: &Buffers,
+) -> Result<Frames, AllocError>
+    ensures { IfOk result (λ f. f ≡ signed_frames key.now header.now parent.now metadata.now content.now buffers.now) }
+{
+    let mut frames = Frames::new(alloc);
+    push_signed(&mut frames, key, header, parent, metadata, content, buffers)?;
+    Ok(frames)
+}
+
+/// The frames of a message, signed under the key: a target that isn't empty is the one identity frame.
+pub fn write_parts(alloc: Global, message: &Message, key: &Key) -> Result<Frames, AllocError>
+    requires short { length message.now.target ≤ 255 }
+    requires plain { message.now.target ≢ delimiter }
+    ensures value { IfOk result (λ f. f ≡ written key.now message.now) }
+    ensures signed { IfOk result (λ f. IsSigned key.now f message.now) }
+{
+    let mut frames = Frames::new(alloc);
+    if !message.target.as_slice().is_empty() {
+        frames.push(message.target.as_slice())?;
+    }
+    push_signed(
+        &mut frames,
+        key,
+        message.header.as_slice(),
+        message.parent.as_slice(),
+        message.metadata.as_slice(),
+        message.content.as_slice(),
+        &message.buffers,
+    )?;
+    Ok(frames)
+}
