@@ -165,3 +165,6 @@ fn hex_of(digest: &[u8; 32]) -> [u8; 64]
     let _ = hex::encode_to_slice(digest, &mut digits);
     digits
 }
+
+#[cfg(test)]
+mod tests;
