@@ -2,7 +2,9 @@
 #![tactic(auto)]
 
 pub mod due;
+pub mod machine;
 pub mod outs;
 pub mod plan;
+pub mod rebuild;
 pub mod state;
 pub mod texts;

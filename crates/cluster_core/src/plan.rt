@@ -114,6 +114,13 @@ fn decide_rest(alloc: Global, history: &[Entry], plan: &mut Plan) -> Result<(), 
 }
 
 impl Plan {
+    /// How many entries it has.
+    pub(crate) fn steps(&self) -> usize
+        ensures { result ≡ length self.now.decisions + 1 }
+    {
+        self.decisions.len() + 1
+    }
+
     /// Works a step out. `history` is the history before it, `event` is what a message means.
     pub(crate) fn work_out(
         alloc: Global,

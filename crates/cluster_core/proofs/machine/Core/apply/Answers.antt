@@ -1,0 +1,25 @@
+use Rattle.std.proofs.Common.{◌≡◌, ◌∙◌, reverse, arith, vec_len, length}
+use Rattle.cluster_core.proofs.Plans.{applied_in, room_in, only_some}
+use Rattle.cluster_core.proofs.machine.Core.apply.Goals as goal
+
+pub add_step-requires : goal.add_step-requires
+add_step-requires c =
+    let room = room_in c.args.self.now c.args.plan _ _ c.self.view_is c.plan.view_is c.requires in
+    omega (arith, room)
+
+pub invariant_of-self : goal.invariant_of-self
+invariant_of-self c =
+    let a = applied_in c.args.self.now c.args.plan _ _ (reverse c.add_step.new.entries.items) c.self.view_is c.plan.view_is c.requires c.add_step.ensures in
+    (a.legal, a.rests, only_some _ _ a.stands)
+
+pub returns-clause-history : goal.returns-clause-history
+returns-clause-history c =
+    (applied_in c.args.self.now c.args.plan _ _ (reverse c.add_step.new.entries.items) c.self.view_is c.plan.view_is c.requires c.add_step.ensures).history
+
+pub returns-clause-outs : goal.returns-clause-outs
+returns-clause-outs c =
+    c.from_vec.ensures ∙ (applied_in c.args.self.now c.args.plan _ _ (reverse c.add_step.new.entries.items) c.self.view_is c.plan.view_is c.requires c.add_step.ensures).outs
+
+pub returns-clause-kept : goal.returns-clause-kept
+returns-clause-kept c =
+    c.from_vec-2.ensures ∙ (applied_in c.args.self.now c.args.plan _ _ (reverse c.add_step.new.entries.items) c.self.view_is c.plan.view_is c.requires c.add_step.ensures).kept
