@@ -10,7 +10,7 @@ ghost use Rattle.steady_cluster.specs.History.{facts, Legal, outs_from, entries_
 ghost use Rattle.cluster_core.specs.Steps.{IsPlan, planned};
 
 use crate::plan::Plan;
-use crate::rebuild::rebuilt;
+use crate::rebuild::{event_of_input, rebuilt};
 use crate::state::State;
 use cluster_types::config::Channel;
 use cluster_types::entry::{Entries, Entry, Input};
@@ -99,7 +99,27 @@ impl Core {
         known_state(*self.entries.allocator(), cached, self.entries.as_slice())
     }
 
-    fn allocator(&self) -> Global {
+    /// Keeps what is known.
+    fn keep_state(&mut self, state: State)
+        requires { state ≡ facts self.old.history }
+        ensures { self.new.history ≡ self.old.history }
+    {
+        self.state = Some(state);
+    }
+
+    /// What the message of an input means: none for other inputs, and for a message that is junk or on no connection.
+    pub fn understand(&mut self, input: &Input) -> Result<Option<Event>, AllocError>
+        ensures same { self.new.history ≡ self.old.history }
+        ensures event { IfOk result (λ e. e ≡ event_in (facts self.old.history) input.now) }
+    {
+        let state = self.take_state()?;
+        let event = event_of_input(self.allocator(), &state, input)?;
+        self.keep_state(state);
+        Ok(event)
+    }
+
+    /// The allocator that the core takes its memory from.
+    pub fn allocator(&self) -> Global {
         *self.entries.allocator()
     }
 

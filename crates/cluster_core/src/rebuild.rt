@@ -31,7 +31,7 @@ fn understood(
 }
 
 /// What the message of an input means.
-fn event_of_input(
+pub fn event_of_input(
     alloc: Global,
     state: &State,
     input: &Input,

@@ -70,7 +70,7 @@ fn put_piece(into: &mut Vec<u8>, conn: u32, octets: &[u8]) -> Result<(), AllocEr
 }
 
 /// The frame at a place.
-fn frame_at(frames: &Frames, place: usize) -> &[u8]
+pub fn frame_at(frames: &Frames, place: usize) -> &[u8]
     requires { place < length frames.now }
     ensures { result.now ≡ slice_index_or frames.now place [] }
 {

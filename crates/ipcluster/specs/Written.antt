@@ -1,0 +1,20 @@
+-- What was written of what is to be written.
+use Rattle.std.specs.Prelude.{◌≡◌, ℕ, List, ◌++◌, Option, Some}
+use Rattle.edges.specs.Streams.{Added}
+
+-- a front of these octets was written
+pub record WroteFront (octets : List ℕ) (before now : Option (List ℕ)) : Type 0 where
+  pub front : List ℕ
+  pub rest : List ℕ
+  pub parts : octets ≡ front ++ rest
+  pub added : Added front before now
+
+-- a fact of what a source had left, where it tells
+abbrev pub Told : Option (List ℕ) → (List ℕ → Type 0) → Type 0
+Told left P = (octets : List ℕ) → left ≡ Some octets → P octets
+
+-- of a whole, a part was written, and the rest is still to come
+pub record Sent (whole : List ℕ) (before now : Option (List ℕ)) (rest : List ℕ) : Type 0 where
+  pub front : List ℕ
+  pub parts : whole ≡ front ++ rest
+  pub added : Added front before now
