@@ -77,10 +77,18 @@ taken history (Some input) = if may_take (facts history) input then Some input e
 
 -- ONE RECORD MORE
 
+-- the connection that an input brings up
+abbrev pub conn_up : InputType → Option ℕ
+conn_up (UpInput conn channel moment word identity) = Some conn
+conn_up _ = None
+
+abbrev pub listed : Option ℕ → List ℕ
+listed None = []
+listed (Some conn) = conn ∷ []
+
 -- the connections that are up after an input
 abbrev pub conns_after : List ℕ → InputType → List ℕ
-conns_after conns (UpInput conn channel moment word identity) = conns ++ conn ∷ []
-conns_after conns _ = conns
+conns_after conns input = conns ++ listed (conn_up input)
 
 abbrev pub stand_after : Stand → Option InputType → Stand
 stand_after s None = record { history = s.history; conns = s.conns; stopped = true }

@@ -1,6 +1,7 @@
 -- What was written of what is to be written.
-use Rattle.std.specs.Prelude.{◌≡◌, ℕ, List, ◌++◌, Option, Some}
+use Rattle.std.specs.Prelude.{◌≡◌, ℕ, Bool, List, ◌++◌, Option, Some}
 use Rattle.edges.specs.Streams.{Added}
+use Rattle.ipcluster.specs.Drive.{drive_output, drive_stops}
 
 -- a front of these octets was written
 pub record WroteFront (octets : List ℕ) (before now : Option (List ℕ)) : Type 0 where
@@ -18,3 +19,8 @@ pub record Sent (whole : List ℕ) (before now : Option (List ℕ)) (rest : List
   pub front : List ℕ
   pub parts : whole ≡ front ++ rest
   pub added : Added front before now
+
+-- what stands at the end of a tape that was served whole, or up to where it stops
+pub record Done (key octets : List ℕ) (before now : Option (List ℕ)) (stops : Bool) : Type 0 where
+  pub added : Added (drive_output key octets) before now
+  pub stops_is : drive_stops key octets ≡ stops

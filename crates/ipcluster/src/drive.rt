@@ -6,7 +6,7 @@ ghost use Rattle.steady_cluster.specs.History.{facts, outs_from, stepped};
 ghost use Rattle.steady_cluster.specs.Taken.{may_take};
 ghost use Rattle.cluster_core.specs.Steps.{CoreView};
 ghost use Rattle.tape.specs.Spelling.{written};
-ghost use Rattle.ipcluster.specs.Drive.{Stand, start, opening, conns_after, next_input, stand_after, sent, served, outs, taken};
+ghost use Rattle.ipcluster.specs.Drive.{Stand, start, opening, conns_after, next_input, stand_after, sent, served, outs, taken, conn_up, listed};
 
 use crate::inputs::input_of;
 use crate::outputs::{put_records, records_of};
@@ -49,5 +49,101 @@ fn step(core: &mut Core, input: Input) -> Result<Option<Outs>, AllocError>
         }
         Err(PlanError::NotBuilt) => Ok(None),
         Err(PlanError::OutOfMemory) => Err(AllocError),
+    }
+}
+
+impl Drive {
+    /// A drive of a tape of which nothing has come: its history begins with an Open.
+    pub fn open(alloc: Global) -> Result<Drive, AllocError>
+        ensures { IfOk result (λ d. d ≡ start) }
+    {
+        let mut core = Core::new(alloc);
+        let opening = Input::Open {
+            moment: 0,
+            scheme: Scheme::LeastLoad,
+            hwm: 1,
+            misses: 10,
+        };
+        match step(&mut core, opening)? {
+            Some(_) => Ok(Drive {
+                core,
+                conns: Vec::new(alloc),
+                stopped: false,
+            }),
+            None => unreachable!(),
+        }
+    }
+
+    /// Whether an input came that isn't built yet.
+    pub fn stopped(&self) -> bool
+        ensures { result ≡ self.now.stopped }
+    {
+        self.stopped
+    }
+
+    /// Notes a connection that comes up.
+    fn note_up(&mut self, conn: Option<u32>) -> Result<(), AllocError>
+        ensures { OnOk result (self.new ≡ record self.old { conns = self.old.conns ++ listed conn }) }
+    {
+        if let Some(conn) = conn {
+            self.conns.push(conn)?;
+        }
+        Ok(())
+    }
+
+    /// Takes an input, where there is one that a steady cluster takes, and gives the records of what it sends.
+    fn take(
+        &mut self,
+        key: &Key,
+        moment: u64,
+        input: Option<Input>,
+    ) -> Result<Vec<TapeRecord>, AllocError>
+        requires { self.old.stopped ≡ false }
+        ensures stand { OnOk result (self.new ≡ stand_after self.old (taken self.old.history input)) }
+        ensures sent { IfOk result (λ list. list.items ≡ sent key.now moment self.old (taken self.old.history input)) }
+    {
+        let alloc = self.core.allocator();
+        let Some(input) = input else {
+            self.stopped = true;
+            return Ok(Vec::new(alloc));
+        };
+        let conn = conn_up(&input);
+        match step(&mut self.core, input)? {
+            Some(outs) => {
+                self.note_up(conn)?;
+                let list = records_of(alloc, key, moment, &self.conns, outs.as_slice())?;
+                Ok(list)
+            }
+            None => {
+                self.stopped = true;
+                Ok(Vec::new(alloc))
+            }
+        }
+    }
+
+    /// Serves a record, and gives the octets of what is sent.
+    pub fn serve(&mut self, key: &Key, item: &TapeRecord) -> Result<Vec<u8>, AllocError>
+        ensures stand { OnOk result (self.new ≡ served key.now self.old item.now) }
+        ensures octets { IfOk result (λ text. text.items ≡ written (outs key.now self.old item.now)) }
+    {
+        let alloc = self.core.allocator();
+        let mut text = Vec::new(alloc);
+        if self.stopped {
+            return Ok(text);
+        }
+        let input = input_of(alloc, key, &self.conns, item)?;
+        let list = self.take(key, item.moment, input)?;
+        put_records(&mut text, list.as_slice())?;
+        Ok(text)
+    }
+}
+
+/// The connection that an input brings up.
+fn conn_up(input: &Input) -> Option<u32>
+    ensures { result ≡ conn_up input.now }
+{
+    match input {
+        Input::Up { conn, .. } => Some(*conn),
+        _ => None,
     }
 }
