@@ -1,0 +1,85 @@
+-- The rule of the table. Word 0 is the turn, and slot 0 holds the value.
+use Rattle.std.specs.Prelude.{◌≡◌, ◌≢◌, ◌⊎◌, ℕ, List, [], ◌∷◌, ◌++◌, Bool, true, false, length, slice_index, Option, Some}
+use mathlib.Core.Option.{some, none}
+use lib.ListN.{get_elem?}
+use Rattle.atomic_table.specs.Table.{State, Me, Step}
+use Rattle.cluster_types.specs.declared.entry.Entry.{Entry}
+use Rattle.history_lock.specs.declared.known.Content.{Content}
+use Rattle.history_lock.specs.declared.known.View.{View}
+use Rattle.history_lock.specs.History.{Extends, Stand, ascend, merged, from_place}
+
+-- a pass that has seen c, and has added these entries
+abbrev pub without_turn : Content → List (ℕ × Entry) → View
+without_turn c added = record { spent = false; has_turn = false; seen = c; told = c; added = added }
+
+abbrev pub with_turn : Content → List (ℕ × Entry) → View
+with_turn c added = record { spent = false; has_turn = true; seen = c; told = c; added = added }
+
+abbrev pub nothing : Content
+nothing = record { list = []; counts = [] }
+
+-- a pass that another took in
+abbrev pub spent_view : View
+spent_view = record { spent = true; has_turn = false; seen = nothing; told = nothing; added = [] }
+
+abbrev pub told_of : View → View → View
+told_of v w = record v { told = w.seen }
+
+-- what a pass has added once the list is `list`
+abbrev pub added_by : View → List Entry → List (ℕ × Entry)
+added_by v list = from_place (length v.seen.list) list ++ v.added
+
+-- c extends all that an unspent view has seen and was told
+abbrev pub Covers : Content → View → Type 0
+Covers c v = v.spent ≡ false → Extends v.seen c × Extends v.told c
+
+-- the places of what a pass added ascend, and lie in the list that it has seen
+abbrev pub Placed : View → Type 0
+Placed v = Stand v.seen.list v.added × (ascend v.added ≡ true)
+
+module _ {T : Type 0} (content : T → Content) where
+  -- nobody has the turn, and the value is at home
+  pub record TurnFree (s : State (Option T) View) : Type 0 where
+    pub word : slice_index s.words 0 ≡ 0
+    pub value : T
+    pub home : get_elem? s.homes 0 ≡ some (some (Some value))
+    pub covers : (j : ℕ) (v : View) → get_elem? s.views j ≡ some v → Covers (content value) v
+    pub no_turn : (j : ℕ) (v : View) → get_elem? s.views j ≡ some v → v.has_turn ≡ false
+
+  -- one seat has the turn, and the value is out
+  pub record TurnTaken (s : State (Option T) View) : Type 0 where
+    pub word : slice_index s.words 0 ≡ 1
+    pub seat : ℕ
+    pub holder : View
+    pub at : get_elem? s.views seat ≡ some holder
+    pub turn : (holder.has_turn ≡ true) × (holder.spent ≡ false)
+    pub away : get_elem? s.homes 0 ≡ some none
+    pub covers : (j : ℕ) (v : View) → get_elem? s.views j ≡ some v → Covers holder.seen v
+    pub no_turn : (j : ℕ) (v : View) → get_elem? s.views j ≡ some v → j ≢ seat → v.has_turn ≡ false
+
+  pub record Ruled (s : State (Option T) View) : Type 0 where
+    pub one_word : length s.words ≡ 1
+    pub one_slot : length s.homes ≡ 1
+    pub state : TurnFree s ⊎ TurnTaken s
+    pub places : (j : ℕ) (v : View) → get_elem? s.views j ≡ some v → Placed v
+
+  abbrev SeatState : Type 0
+  SeatState = Me (Option T) View
+
+  -- the seat has the value in hand, which extends what it had seen
+  abbrev pub Took : SeatState → SeatState → Type 0
+  Took m n = (value : T) × (n ≡ (with_turn (content value) m.0.added, (0, Some value) ∷ [])) × Extends m.0.seen (content value)
+
+  -- at a compare-exchange of 0 with 1
+  abbrev pub turn_taken : Step (Option T) → SeatState → ℕ → SeatState → Type 0
+  turn_taken st m found n = (found ≡ 0 → Took m n) × (found ≢ 0 → n ≡ m)
+
+  abbrev pub given_up : View → List (ℕ × Option T) → SeatState
+  given_up v ((k, Some value) ∷ more) = (without_turn (content value) (added_by v (content value).list), more)
+  given_up v held = (v, held)
+
+  abbrev pub turn_given_up : Step (Option T) → SeatState → ℕ → SeatState → Type 0
+  turn_given_up st m found n = n ≡ given_up m.0 m.1
+
+  abbrev pub told_merged : Step (Option T) → SeatState → ℕ → SeatState → Type 0
+  told_merged st m found n = (n ≡ (without_turn (merged m.0.seen m.0.told) m.0.added, m.1)) × Extends m.0.seen n.0.seen × Extends m.0.told n.0.seen
