@@ -1,5 +1,5 @@
 -- Each step of the lock keeps its rule.
-use Rattle.std.proofs.Common.{◌≡◌, ◌≢◌, ℕ, zero, suc, List, [], ◌∷◌, ◌++◌, Bool, true, false, length, get_or, set, eqb, Option, Some, inl, inr, ⊎_elim, refl, ap, sym, ◌∙◌, subst, arith, length-set, get_or-set_same, true≢false}
+use Rattle.std.proofs.Common.{◌≡◌, ◌≢◌, ℕ, zero, suc, List, [], ◌∷◌, ◌++◌, true, false, length, get_or, set, eqb, Option, Some, inl, inr, ⊎_elim, refl, ap, sym, ◌∙◌, subst, arith, length-set, get_or-set_same, true≢false}
 use mathlib.Core.Logic.{dite}
 use mathlib.Core.Option.{some, none, some-injective, some-ne-none}
 use native.Mathlib.Decide.{ℕ_discrete}
@@ -10,21 +10,21 @@ use Rattle.atomic_table.proofs.Lists.{at_set, set_here, set_else, at_longer, at_
 use Rattle.history_lock.specs.declared.known.Content.{Content}
 use Rattle.history_lock.specs.declared.known.View.{View}
 use Rattle.history_lock.specs.History.{Extends, merged}
-use Rattle.history_lock.specs.Rule.{without_turn, with_turn, spent_view, told_of, added_by, Covers, Placed, Ruled, turn_taken, turn_given_up, told_merged}
+use Rattle.history_lock.specs.Rule.{without_turn, with_turn, spent_view, told_of, added_by, Covers, Placed, TurnRuled, split_kept, split_given, whole, turn_taken, turn_given_up, told_merged}
 use Rattle.history_lock.specs.Slots.{IsReady}
 use Rattle.history_lock.proofs.Places.{stand_later, placed_more}
 use Rattle.history_lock.proofs.Growing.{extends_self, extends_on, merges}
 
 module _ {A : Type 0} where
-  set_at : (l : List A) (i : ℕ) (a b : A) → get_elem? l i ≡ some a → get_elem? (set l i b) i ≡ some b
+  pub set_at : (l : List A) (i : ℕ) (a b : A) → get_elem? l i ≡ some a → get_elem? (set l i b) i ≡ some b
   set_at [] i a b e = absurd (some-ne-none a (sym e))
   set_at (x ∷ xs) zero a b e = refl
   set_at (x ∷ xs) (suc i) a b e = set_at xs i a b e
 
-  each_set : (P : A → Type 0) (l : List A) (i : ℕ) (w : A) → P w → ((j : ℕ) (v : A) → get_elem? l j ≡ some v → P v) → (j : ℕ) (v : A) → get_elem? (set l i w) j ≡ some v → P v
+  pub each_set : (P : A → Type 0) (l : List A) (i : ℕ) (w : A) → P w → ((j : ℕ) (v : A) → get_elem? l j ≡ some v → P v) → (j : ℕ) (v : A) → get_elem? (set l i w) j ≡ some v → P v
   each_set P l i w mine all j v e = ⊎_elim (λ t. subst P t.1 mine) (λ t. all j v t.1) (at_set l i j w v e)
 
-  each_snoc : (P : A → Type 0) (l : List A) (w : A) → P w → ((j : ℕ) (v : A) → get_elem? l j ≡ some v → P v) → (j : ℕ) (v : A) → get_elem? (l ++ w ∷ []) j ≡ some v → P v
+  pub each_snoc : (P : A → Type 0) (l : List A) (w : A) → P w → ((j : ℕ) (v : A) → get_elem? l j ≡ some v → P v) → (j : ℕ) (v : A) → get_elem? (l ++ w ∷ []) j ≡ some v → P v
   each_snoc P l w mine all j v e = ⊎_elim (all j v) (λ t. subst P t mine) (at_snoc l w v j e)
 
 module _ {T : Type 0} (content : T → Content) where
@@ -32,7 +32,7 @@ module _ {T : Type 0} (content : T → Content) where
   St = State (Option T) View
 
   abbrev Rule : St → Type 0
-  Rule = Ruled content
+  Rule = TurnRuled content
 
   abbrev SeatState : Type 0
   SeatState = Me (Option T) View
@@ -70,7 +70,7 @@ module _ {T : Type 0} (content : T → Content) where
     places = each_set Placed s.views id w placed r.places;
   }
 
-  pub starts : (value : T) → Rule (opening (0 ∷ []) (Some value ∷ []) (without_turn (content value) []))
+  pub starts : (value : T) → Rule (opening (0 ∷ []) (Some value ∷ []) (without_turn whole (content value) []))
   starts value = record {
     one_word = refl;
     one_slot = refl;
@@ -90,7 +90,7 @@ module _ {T : Type 0} (content : T → Content) where
   pub takes_turn : (id : ℕ) (v : View) → v.spent ≡ false → v.has_turn ≡ false
       → Allows Rule 1 id (v, []) 0 (λ k. either (eqb k 0) 1 k) (turn_taken content (step 1 0 0 1 none) (v, []))
   takes_turn id v unspent idle s r _ at _ = let one = r.one_word in let deep = r.one_slot in let G = Goes s id (v, []) (λ k. either (eqb k 0) 1 k) (turn_taken content (step 1 0 0 1 none) (v, [])) in
-      ⊎_elim (λ f. subst G (sym f.word) (let w : View = with_turn (content f.value) v.added in (
+      ⊎_elim (λ f. subst G (sym f.word) (let w : View = with_turn v.share (content f.value) v.added in (
         w,
         takes 0 (Some f.value),
         f.home,
@@ -121,7 +121,7 @@ module _ {T : Type 0} (content : T → Content) where
 
   pub leaves : (id : ℕ) (v : View) (value : T) → v.has_turn ≡ true → Extends v.seen (content value)
       → Allows Rule 1 id (v, (0, Some value) ∷ []) 0 (λ _. 0) (turn_given_up content (step 1 0 0 0 none) (v, (0, Some value) ∷ []))
-  leaves id v value turn later s r _ at _ = let one = r.one_word in let deep = r.one_slot in let w : View = without_turn (content value) (added_by v (content value).list) in
+  leaves id v value turn later s r _ at _ = let one = r.one_word in let deep = r.one_slot in let w : View = without_turn v.share (content value) (added_by v (content value).list) in
       ⊎_elim (λ f. absurd (true≢false (sym turn ∙ f.no_turn id v at)))
       (λ h. dite (ℕ_discrete id h.seat) (λ e.
       let same : h.holder ≡ v = some-injective h.holder v (sym h.at ∙ (ap (λ i. get_elem? s.views i) (sym e) ∙ at)) in
@@ -145,9 +145,9 @@ module _ {T : Type 0} (content : T → Content) where
         refl,
       )) (λ ne. absurd (true≢false (sym turn ∙ h.no_turn id v at ne)))) r.state
 
-  pub splits : (id : ℕ) (v : View) → v.has_turn ≡ false → v.spent ≡ false → Splits Rule id v v (without_turn v.seen [])
-  splits id v idle unspent s r at = let w : View = without_turn v.seen [] in let q = unturned s r s.words id v v refl r.one_word at idle idle (r.places id v at) (λ c all. all id v at) in let vs : List View = set s.views id v in
-      let mine : (c : Content) → All c (record { words = s.words; homes = s.homes; views = vs }) → Covers c w = λ c all _. let t = all id v (set_at s.views id v v at) unspent in (t.0, t.0) in record {
+  pub splits : (id : ℕ) (v : View) → v.has_turn ≡ false → v.spent ≡ false → Splits Rule id v (split_kept v) (split_given v)
+  splits id v idle unspent s r at = let w : View = split_given v in let q = unturned s r s.words id v (split_kept v) refl r.one_word at idle idle (r.places id v at) (λ c all. all id v at) in let vs : List View = set s.views id (split_kept v) in
+      let mine : (c : Content) → All c (record { words = s.words; homes = s.homes; views = vs }) → Covers c w = λ c all _. let t = all id (split_kept v) (set_at s.views id v (split_kept v) at) unspent in (t.0, t.0) in record {
         one_word = q.one_word;
         one_slot = q.one_slot;
         state = ⊎_elim (λ f. inl record {
@@ -177,7 +177,7 @@ module _ {T : Type 0} (content : T → Content) where
       unturned _ q s.words other u spent_view refl r.one_word them idle' refl (refl, refl) (λ c all e. absurd (true≢false e))
 
   pub settles : (id : ℕ) (v : View) → v.has_turn ≡ false → v.spent ≡ false → Allows Rule 1 id (v, []) 0 (λ k. k) (told_merged content (step 1 0 0 0 none) (v, []))
-  settles id v idle unspent s r _ at _ = let one = r.one_word in let w : View = without_turn (merged v.seen v.told) v.added in let x : ℕ = get_or s.words 0 0 in
+  settles id v idle unspent s r _ at _ = let one = r.one_word in let w : View = without_turn v.share (merged v.seen v.told) v.added in let x : ℕ = get_or s.words 0 0 in
       let c = cover s r in let t = c.1 id v at unspent in let m = merges v.seen v.told c.0 t.0 t.1 in (
         w,
         keeps,
@@ -201,7 +201,7 @@ module _ {T : Type 0} (content : T → Content) where
   settles_at n id m one ready = subst (λ n. Allows Rule n id m 0 (λ k. k) (told_merged content (step n 0 0 0 none) m)) (sym one)
       (subst (λ held. Allows Rule 1 id (m.0, held) 0 (λ k. k) (told_merged content (step 1 0 0 0 none) (m.0, held))) (sym ready.2) (settles id m.0 ready.0 ready.1))
 
-  word_here : (ws : List ℕ) (w : ℕ) → get_elem? ws 0 ≡ some w → get_or ws 0 0 ≡ w
+  pub word_here : (ws : List ℕ) (w : ℕ) → get_elem? ws 0 ≡ some w → get_or ws 0 0 ≡ w
   word_here [] w e = absurd (some-ne-none w (sym e))
   word_here (x ∷ ws) w e = some-injective x w e
 

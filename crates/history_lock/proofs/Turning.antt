@@ -23,11 +23,12 @@ pub grown : (entries : List Entry) (old new : Content) → new.list ≡ entries 
 grown entries old new is no_open rise = record { beyond = entries; list = is; no_open = no_open; counts = rise }
 
 -- what a pass knows after a turn in which the value went from `entered` to `left`
-pub turned : (entries : List Entry) (v in_turn w : View) (entered left : Content) → Extends v.seen entered → in_turn ≡ with_turn entered v.added → w ≡ without_turn left (added_by in_turn left.list)
+pub turned : (entries : List Entry) (v in_turn w : View) (entered left : Content) → Extends v.seen entered → in_turn ≡ with_turn v.share entered v.added → w ≡ without_turn in_turn.share left (added_by in_turn left.list)
     → left.list ≡ entries ++ entered.list → Extends entered left → Adds entries v entered w
 turned entries v in_turn w entered left later has gave is on = record {
   later = later;
   list = ap (λ (x : View). x.seen.list) gave ∙ is;
   added = ap (λ (x : View). x.added) gave ∙ (ap (λ (x : View). added_by x left.list) has ∙ ap (λ l. l ++ v.added) (ap (from_place (length entered.list)) is ∙ from_placed entered.list entries));
+  share = ap (λ (x : View). x.share) gave ∙ ap (λ (x : View). x.share) has;
   extends = subst (λ c. Extends entered c) (sym (ap (λ (x : View). x.seen) gave)) on;
 }

@@ -23,6 +23,8 @@ pub trait Keeps {
 pub struct View {
     /// Another pass has taken it in.
     pub spent: bool,
+    /// Its part of the lock, of which the passes together have the whole.
+    pub share: u64,
     /// It has the turn, and the value with it.
     pub has_turn: bool,
     /// What it has seen.

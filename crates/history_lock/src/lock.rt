@@ -1,7 +1,7 @@
 //! The lock and its passes.
-ghost use Rattle.std.specs.Prelude.{◌≡◌, ℕ, ◌+◌, ◌<◌, ◌≤◌, ◌↔◌, [], ◌∷◌, true, false, length, None, Some, IfOk, IfSome, OnOk, OnErr, IsErr, MatchOption};
+ghost use Rattle.std.specs.Prelude.{◌≡◌, ℕ, ◌+◌, ◌^◌, ◌<◌, ◌≤◌, ◌↔◌, [], ◌∷◌, true, false, length, None, Some, IfOk, IfSome, IsSome, OnOk, OnErr, IsErr, MatchOption};
 ghost use Rattle.history_lock.specs.History.{Extends, Stand, ascend, merged};
-ghost use Rattle.history_lock.specs.Rule.{without_turn, with_turn, added_by};
+ghost use Rattle.history_lock.specs.Rule.{without_turn, with_turn, added_by, whole, split_kept, split_given};
 ghost use Rattle.history_lock.specs.Slots.{IsReady, HasSlots};
 
 use crate::known::{Keeps, View};
@@ -23,13 +23,14 @@ pub struct HistoryLock<T: Keeps> {
 }
 
 /// What a thread enters a lock with, and what it knows of the lock's history. Its room is the number of
-/// passes that may still come from it.
+/// passes that may still come from it. The shares of all passes add up to the whole of the lock.
 #[derive(Drop)]
 pub struct Pass<T> {
     seat: Seat<T>,
     room: u32,
     ghost slots: { HasSlots seat.me },
     ghost unspent: { seat.me.0.spent ≡ false },
+    ghost lasting: { 2 ^ room ≤ seat.me.0.share },
     ghost stand: { Stand seat.me.0.seen.list seat.me.0.added },
     ghost ascends: { ascend seat.me.0.added ≡ true },
 }
@@ -51,7 +52,7 @@ impl<T: Keeps + Drop> HistoryLock<T> {
         requires { (0 < passes) × (passes ≤ 4096) }
         ensures lock { IfOk result (λ r. lock_of r.1 ≡ lock_id r.0) }
         ensures room { IfOk result (λ r. room_of r.1 + 1 ≡ passes) }
-        ensures known { IfOk result (λ r. known r.1 ≡ without_turn (T.content value) []) }
+        ensures known { IfOk result (λ r. known r.1 ≡ without_turn whole (T.content value) []) }
     {
         let key = Snapshot::of(&value);
         let mut slots = Vec::with_capacity(alloc, 1)?;
@@ -73,7 +74,7 @@ impl<T: Keeps + Drop> HistoryLock<T> {
         requires lock { seat.old.table_id ≡ lock_id self.now }
         requires ready { IsReady seat.old.me }
         ensures lock { seat.new.table_id ≡ seat.old.table_id }
-        ensures took { MatchOption result (seat.new.me ≡ seat.old.me) (λ value. (seat.new.me ≡ (with_turn (T.content value) seat.old.me.0.added, (0, None) ∷ [])) × Extends seat.old.me.0.seen (T.content value)) }
+        ensures took { MatchOption result (seat.new.me ≡ seat.old.me) (λ value. (seat.new.me ≡ (with_turn seat.old.me.0.share (T.content value) seat.old.me.0.added, (0, None) ∷ [])) × Extends seat.old.me.0.seen (T.content value)) }
     {
         let shared = &self.table.shared;
         if shared.compare_exchange::<TakeTurn>(seat, 0, 0, 1) == 0 {
@@ -91,7 +92,7 @@ impl<T: Keeps + Drop> HistoryLock<T> {
         ensures lock { lock_of pass.new ≡ lock_of pass.old }
         ensures room { room_of pass.new ≡ room_of pass.old }
         ensures later { Extends (known pass.old).seen (T.content result) }
-        ensures known { known pass.new ≡ with_turn (T.content result) (known pass.old).added }
+        ensures known { known pass.new ≡ with_turn (known pass.old).share (T.content result) (known pass.old).added }
     {
         for _ in rt.forever() {
             if let Some(value) = self.take(&mut pass.seat) {
@@ -109,7 +110,7 @@ impl<T: Keeps + Drop> HistoryLock<T> {
         requires later { Extends (known pass.old).seen (T.content value) }
         ensures lock { lock_of pass.new ≡ lock_of pass.old }
         ensures room { room_of pass.new ≡ room_of pass.old }
-        ensures known { known pass.new ≡ without_turn (T.content value) (added_by (known pass.old) (T.content value).list) }
+        ensures known { known pass.new ≡ without_turn (known pass.old).share (T.content value) (added_by (known pass.old) (T.content value).list) }
     {
         let shared = &self.table.shared;
         drop(shared.exchange(&mut pass.seat, 0, Some(value)));
@@ -118,16 +119,17 @@ impl<T: Keeps + Drop> HistoryLock<T> {
     }
 
     /// Makes a pass with a room of its own, which has seen the same and has added nothing. It takes the room
-    /// of `pass` for itself and for those that may come from it. `NoPass` where the room doesn't do.
+    /// of `pass` for itself and for those that may come from it, and half of its share. `NoPass` where the
+    /// room doesn't do.
     pub fn split(&self, pass: &mut Pass<T>, room: u32) -> Result<Pass<T>, NoPass>
         requires lock { lock_of pass.old ≡ lock_id self.now }
         requires idle { (known pass.old).has_turn ≡ false }
         ensures exact { IsErr result ↔ (room_of pass.old ≤ room) }
         ensures lock { lock_of pass.new ≡ lock_of pass.old }
-        ensures known { known pass.new ≡ known pass.old }
         ensures room { OnOk result (room_of pass.new + room + 1 ≡ room_of pass.old) }
-        ensures err { OnErr result (room_of pass.new ≡ room_of pass.old) }
-        ensures made { IfOk result (λ p. (lock_of p ≡ lock_of pass.old) × (room_of p ≡ room) × (known p ≡ without_turn (known pass.old).seen [])) }
+        ensures known { OnOk result (known pass.new ≡ split_kept (known pass.old)) }
+        ensures err { OnErr result ((room_of pass.new ≡ room_of pass.old) × (known pass.new ≡ known pass.old)) }
+        ensures made { IfOk result (λ p. (lock_of p ≡ lock_of pass.old) × (room_of p ≡ room) × (known p ≡ split_given (known pass.old))) }
     {
         if pass.room <= room {
             return Err(NoPass);
@@ -138,14 +140,15 @@ impl<T: Keeps + Drop> HistoryLock<T> {
     }
 
     /// Takes in another pass, which is spent. The pass has then seen the longer of the two lists and the
-    /// greater counts. What the other added is no longer told, and its room isn't given back.
+    /// greater counts, and has the shares of both. What the other added is no longer told, and its room isn't
+    /// given back.
     pub fn join(&self, pass: &mut Pass<T>, other: Pass<T>)
         requires lock { lock_of pass.old ≡ lock_id self.now }
         requires other { lock_of other ≡ lock_id self.now }
         requires idle { ((known pass.old).has_turn ≡ false) × ((known other).has_turn ≡ false) }
         ensures lock { lock_of pass.new ≡ lock_of pass.old }
         ensures room { room_of pass.new ≡ room_of pass.old }
-        ensures known { known pass.new ≡ without_turn (merged (known pass.old).seen (known other).seen) (known pass.old).added }
+        ensures known { known pass.new ≡ without_turn ((known pass.old).share + (known other).share) (merged (known pass.old).seen (known other).seen) (known pass.old).added }
         ensures later { Extends (known pass.old).seen (known pass.new).seen }
         ensures others { Extends (known other).seen (known pass.new).seen }
     {
@@ -154,11 +157,13 @@ impl<T: Keeps + Drop> HistoryLock<T> {
         self.table.shared.load::<MergeTold>(&mut pass.seat, 0);
     }
 
-    /// Ends the lock. It gives the value, unless a pass went off with the turn.
+    /// Ends the lock. It gives the value, unless a pass went off with the turn: always where every other pass
+    /// was joined, which is where `pass` has the whole of the lock's shares.
     pub fn close(self, pass: Pass<T>) -> Option<T>
         requires lock { lock_of pass ≡ lock_id self }
         requires idle { (known pass).has_turn ≡ false }
-        ensures { IfSome result (λ value. Extends (known pass).seen (T.content value)) }
+        ensures later { IfSome result (λ value. Extends (known pass).seen (T.content value)) }
+        ensures whole { (known pass).share ≡ whole → IsSome result }
     {
         let HistoryLock { table } = self;
         let Pass { seat, room: _ } = pass;

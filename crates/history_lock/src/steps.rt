@@ -1,6 +1,6 @@
 //! The rule of the lock's table, and the names of the steps that change what a pass knows.
 ghost use Rattle.std.specs.Prelude.{[]};
-ghost use Rattle.history_lock.specs.Rule.{Ruled, without_turn, spent_view, told_of, turn_taken, turn_given_up, told_merged};
+ghost use Rattle.history_lock.specs.Rule.{Ruled, without_turn, whole, split_kept, split_given, spent_view, told_of, turn_taken, turn_given_up, told_merged};
 
 use crate::known::{Keeps, View};
 use atomic_table::{Join, Play, Split, TableRule};
@@ -15,7 +15,7 @@ pub struct Turns<T> {
 impl<T: Keeps> TableRule<Option<T>, View, Snapshot<T>> for Turns<T> {
     ghost holds = { λ _. Ruled T.content };
 
-    ghost first = { λ key. without_turn (T.content key.value) [] };
+    ghost first = { λ key. without_turn whole (T.content key.value) [] };
 }
 
 /// Takes the turn, where it is free.
@@ -43,9 +43,9 @@ impl<T: Keeps> Play<Option<T>, View> for MergeTold {
 pub struct SplitPass;
 
 impl Split<View> for SplitPass {
-    ghost left = { λ v. v };
+    ghost left = { split_kept };
 
-    ghost right = { λ v. without_turn v.seen [] };
+    ghost right = { split_given };
 }
 
 /// Tells a pass what another has seen, which is spent.
