@@ -153,7 +153,9 @@ impl<T: Keeps + Drop> HistoryLock<T> {
         ensures others { Extends (known other).seen (known pass.new).seen }
     {
         let Pass { seat, room: _ } = other;
-        self.table.shared.join_seat::<TellOther>(&mut pass.seat, seat);
+        self.table
+            .shared
+            .join_seat::<TellOther>(&mut pass.seat, seat);
         self.table.shared.load::<MergeTold>(&mut pass.seat, 0);
     }
 
