@@ -7,7 +7,7 @@ use Rattle.std.proofs.lemmas.Bool.Decides.{leb_tells}
 use mathlib.Core.Logic.{⊎_elim}
 use Rattle.cluster_types.specs.declared.entry.Entry.{Entry}
 use Rattle.history_lock.specs.declared.known.Content.{Content}
-use Rattle.history_lock.specs.History.{is_open, Rises, greater, Extends, merged}
+use Rattle.history_lock.specs.History.{is_open_entry, Rises, greater, Extends, merged}
 
 greater_at : (xs ys : List ℕ) (k : ℕ) → get_or (greater xs ys) k 0 ≡ max (get_or xs k 0) (get_or ys k 0)
 greater_at [] ys k = sym (max-eq_right (omega arith))
@@ -49,7 +49,7 @@ pub extends_on : (a b c : Content) → Extends a b → Extends b c → Extends a
 extends_on a b c p q = record {
   beyond = q.beyond ++ p.beyond;
   list = q.list ∙ (ap (λ l. q.beyond ++ l) p.list ∙ sym (append_assoc q.beyond p.beyond a.list));
-  no_open = rw (list_any-append is_open q.beyond p.beyond) (or_both _ _ q.no_open p.no_open);
+  no_open = rw (list_any-append is_open_entry q.beyond p.beyond) (or_both _ _ q.no_open p.no_open);
   counts = λ k. le_trans (p.counts k) (q.counts k);
 }
 
@@ -57,7 +57,7 @@ extends_on a b c p q = record {
 raised : (a b c : Content) (counts : List ℕ) → Extends a c → Extends b c → length a.list ≤ length b.list → Rises a.counts counts → Extends a (record { list = b.list; counts = counts })
 raised a b c counts p q le rise =
     let t = ends p.beyond q.beyond a.list b.list (sym p.list ∙ q.list) le in
-    record { beyond = t.0; list = t.1; no_open = or_right (list_any is_open q.beyond) (list_any is_open t.0) (sym (list_any-append is_open q.beyond t.0) ∙ (ap (list_any is_open) (sym t.2) ∙ p.no_open)); counts = rise }
+    record { beyond = t.0; list = t.1; no_open = or_right (list_any is_open_entry q.beyond) (list_any is_open_entry t.0) (sym (list_any-append is_open_entry q.beyond t.0) ∙ (ap (list_any is_open_entry) (sym t.2) ∙ p.no_open)); counts = rise }
 
 abbrev Between : Content → Content → Content → List Entry → Type 0
 Between a b c l = Extends a (record { list = l; counts = greater a.counts b.counts }) × Extends b (record { list = l; counts = greater a.counts b.counts })

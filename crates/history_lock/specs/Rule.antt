@@ -12,9 +12,11 @@ use Rattle.history_lock.specs.History.{Extends, Stand, ascend, merged, from_plac
 abbrev pub without_turn : ℕ → Content → List (ℕ × Entry) → View
 without_turn share c added = record { spent = false; share = share; has_turn = false; seen = c; told = c; added = added }
 
+-- the same with the turn
 abbrev pub with_turn : ℕ → Content → List (ℕ × Entry) → View
 with_turn share c added = record { spent = false; share = share; has_turn = true; seen = c; told = c; added = added }
 
+-- no entries and no counts
 abbrev pub nothing : Content
 nothing = record { list = []; counts = [] }
 
@@ -29,9 +31,11 @@ half_kept share = share - share / 2
 abbrev pub half_given : ℕ → ℕ
 half_given share = share / 2
 
+-- what a pass knows after it was split: all that it knew
 abbrev pub split_kept : View → View
 split_kept v = record v { share = half_kept v.share }
 
+-- and what the new pass knows: it has seen the same, and has added nothing
 abbrev pub split_given : View → View
 split_given v = without_turn (half_given v.share) v.seen []
 
@@ -47,10 +51,11 @@ added_by v list = from_place (length v.seen.list) list ++ v.added
 abbrev pub Covers : Content → View → Type 0
 Covers c v = v.spent ≡ false → Extends v.seen c × Extends v.told c
 
--- the whole of a lock's shares: enough to be halved once for each pass
+-- the whole of a lock's shares: enough to be halved once for each of 4,096 passes
 unfoldable pub whole : ℕ
 whole = 2 ^ 4096
 
+-- the shares of these passes together
 abbrev pub shares_of : List View → ℕ
 shares_of [] = 0
 shares_of (v ∷ views) = v.share + shares_of views
@@ -91,10 +96,12 @@ module _ {T : Type 0} (content : T → Content) where
     pub state : TurnFree s ⊎ TurnTaken s
     pub places : (j : ℕ) (v : View) → get_elem? s.views j ≡ some v → Placed v
 
+  -- the rule: that, and that the shares add up
   pub record Ruled (s : State (Option T) View) : Type 0 where
     pub turns : TurnRuled s
     pub shares : Shared s.views
 
+  -- what a pass knows, and the slots that it has in hand with their values
   abbrev SeatState : Type 0
   SeatState = Me (Option T) View
 
@@ -102,16 +109,19 @@ module _ {T : Type 0} (content : T → Content) where
   abbrev pub Took : SeatState → SeatState → Type 0
   Took m n = (value : T) × (n ≡ (with_turn m.0.share (content value) m.0.added, (0, Some value) ∷ [])) × Extends m.0.seen (content value)
 
-  -- at a compare-exchange of 0 with 1
+  -- at a compare-exchange of 0 with 1: the turn is taken where it was free, and else nothing changes
   abbrev pub turn_taken : Step (Option T) → SeatState → ℕ → SeatState → Type 0
   turn_taken st m found n = (found ≡ 0 → Took m n) × (found ≢ 0 → n ≡ m)
 
+  -- a pass that gives up the turn, with the value at home
   abbrev pub given_up : View → List (ℕ × Option T) → SeatState
   given_up v ((k, Some value) ∷ more) = (without_turn v.share (content value) (added_by v (content value).list), more)
   given_up v held = (v, held)
 
+  -- at a swap with 0
   abbrev pub turn_given_up : Step (Option T) → SeatState → ℕ → SeatState → Type 0
   turn_given_up st m found n = n ≡ given_up m.0 m.1
 
+  -- at a load: what the pass has seen and what it was told become one, which extends both
   abbrev pub told_merged : Step (Option T) → SeatState → ℕ → SeatState → Type 0
   told_merged st m found n = (n ≡ (without_turn m.0.share (merged m.0.seen m.0.told) m.0.added, m.1)) × Extends m.0.seen n.0.seen × Extends m.0.told n.0.seen

@@ -1,8 +1,9 @@
--- What a pass has in hand, and what clauses name of a lock and its passes.
+-- The slots that a pass has in hand.
 use Rattle.std.specs.Prelude.{◌≡◌, ℕ, List, [], ◌∷◌, Bool, true, false, Option, None}
 use Rattle.atomic_table.specs.Table.{Me}
 use Rattle.history_lock.specs.declared.known.View.{View}
 
+-- with the turn the one slot, which is empty, and else none
 abbrev pub held : {T : Type 0} → Bool → List (ℕ × Option T)
 held true = (0, None) ∷ []
 held false = []

@@ -19,7 +19,7 @@ pub trait Keeps {
     ghost content: { Self → Content };
 }
 
-/// What a pass knows. No value of this type is made.
+/// What a pass knows. No value of this type is made, so that its numbers have no greatest one.
 pub struct View {
     /// Another pass has taken it in.
     pub spent: bool,
