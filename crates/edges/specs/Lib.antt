@@ -4,3 +4,4 @@ pub mod Memory
 pub mod Cursor
 pub mod Date
 pub mod CalendarDate
+pub mod Devices

@@ -1,6 +1,8 @@
 //! Sources and sinks over std's readers and writers.
 
-ghost use Rattle.std.specs.Prelude.{◌≡◌};
+ghost use Rattle.std.specs.Prelude.{◌≡◌, ◌<◌, length, None};
+ghost use Rattle.edges.specs.Streams.{Reads, ReadCause, Writes, WriteCause};
+ghost use Rattle.edges.specs.Devices.{GivesOf, TakesOf};
 
 use crate::sink::{Put, Sink};
 use crate::source::{Got, Source};
@@ -29,7 +31,12 @@ impl<R: Read> Source for StdSource<R> {
 
     ghost faults = { λ s. s.faults };
 
-    fn read(&mut self, into: &mut [u8]) -> Got {
+    fn read(&mut self, into: &mut [u8]) -> Got
+        requires { 0 < length into.old }
+        ensures reads { Reads result None None into.new }
+        ensures cause { ReadCause result self.old.faults self.new.faults }
+        ensures gives { GivesOf result (R.remaining self.old.reader) (R.remaining self.new.reader) into.new }
+    {
         match self.reader.read(into) {
             Ok(0) => Got::End,
             Ok(n) => Got::Bytes(n),
@@ -65,7 +72,12 @@ impl<W: Write> Sink for StdSink<W> {
     ghost faults = { λ s. s.faults };
 
     /// A writer that takes nothing counts as failed.
-    fn write(&mut self, from: &[u8]) -> Put {
+    fn write(&mut self, from: &[u8]) -> Put
+        requires { 0 < length from.now }
+        ensures writes { Writes result None None from.now }
+        ensures cause { WriteCause result self.old.faults self.new.faults }
+        ensures takes { TakesOf result (W.contents self.old.writer) (W.contents self.new.writer) from.now }
+    {
         match self.writer.write(from) {
             Ok(n) if n > 0 => Put::Wrote(n),
             _ => {

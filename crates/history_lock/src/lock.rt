@@ -1,0 +1,182 @@
+//! The lock and its passes.
+ghost use Rattle.std.specs.Prelude.{◌≡◌, ℕ, ◌+◌, ◌^◌, ◌<◌, ◌≤◌, ◌↔◌, [], ◌∷◌, true, false, length, None, Some, IfOk, IfSome, IsSome, OnOk, OnErr, IsErr, MatchOption};
+ghost use Rattle.history_lock.specs.History.{Extends, Stand, ascend, merged};
+ghost use Rattle.history_lock.specs.Rule.{without_turn, with_turn, added_by, whole, split_kept, split_given};
+ghost use Rattle.history_lock.specs.Slots.{IsReady, HasSlots};
+
+use crate::known::{Keeps, View};
+use crate::steps::{GiveUpTurn, MergeTold, SplitPass, TakeTurn, TellOther, Turns};
+use atomic_table::{Refused, Table};
+use std::alloc::{AllocError, Global};
+use std::snapshot::Snapshot;
+use std::sync::Wait;
+
+type Seat<T> = atomic_table::Seat<Option<T>, View>;
+
+type Inner<T> = Table<Option<T>, View, Snapshot<T>, Turns<T>, Global>;
+
+/// A lock whose value is out with one pass at a time.
+#[derive(Drop)]
+pub struct HistoryLock<T: Keeps> {
+    table: Inner<T>,
+    ghost sized: { (table.shared.table_id.words ≡ 1) × (table.shared.table_id.slots ≡ 1) },
+}
+
+/// What a thread enters a lock with, and what it knows of the lock's history. Its room is the number of
+/// passes that may still come from it. The shares of all passes add up to the whole of the lock.
+#[derive(Drop)]
+pub struct Pass<T> {
+    seat: Seat<T>,
+    room: u32,
+    ghost slots: { HasSlots seat.me },
+    ghost unspent: { seat.me.0.spent ≡ false },
+    ghost lasting: { 2 ^ room ≤ seat.me.0.share },
+    ghost stand: { Stand seat.me.0.seen.list seat.me.0.added },
+    ghost ascends: { ascend seat.me.0.added ≡ true },
+}
+
+/// As many passes as were asked for may not come from this one.
+#[derive(Clone, Copy, Debug, PartialEq, Eq)]
+pub struct NoPass;
+
+impl<T: Keeps + Drop> HistoryLock<T> {
+    ghost use Rattle.history_lock.specs.Names.{lock_id, lock_of, known, room_of};
+
+    /// A lock around a value, and its first pass, for so many passes in all. The pass has seen what the
+    /// value stands for, and has added nothing.
+    pub fn new(
+        alloc: Global,
+        value: T,
+        passes: u32,
+    ) -> Result<(HistoryLock<T>, Pass<T>), AllocError>
+        requires { (0 < passes) × (passes ≤ 4096) }
+        ensures lock { IfOk result (λ r. lock_of r.1 ≡ lock_id r.0) }
+        ensures room { IfOk result (λ r. room_of r.1 + 1 ≡ passes) }
+        ensures known { IfOk result (λ r. known r.1 ≡ without_turn whole (T.content value) []) }
+    {
+        let key = Snapshot::of(&value);
+        let mut slots = Vec::with_capacity(alloc, 1)?;
+        slots.push_reserved(Some(value));
+        match Table::new(alloc, &[0], slots, &key) {
+            Ok((table, seat)) => Ok((
+                HistoryLock { table },
+                Pass {
+                    seat,
+                    room: passes - 1,
+                },
+            )),
+            Err(Refused { slots: _ }) => Err(AllocError),
+        }
+    }
+
+    /// One try to take the turn, and the value with it.
+    fn take(&self, seat: &mut Seat<T>) -> Option<T>
+        requires lock { seat.old.table_id ≡ lock_id self.now }
+        requires ready { IsReady seat.old.me }
+        ensures lock { seat.new.table_id ≡ seat.old.table_id }
+        ensures took { MatchOption result (seat.new.me ≡ seat.old.me) (λ value. (seat.new.me ≡ (with_turn seat.old.me.0.share (T.content value) seat.old.me.0.added, (0, None) ∷ [])) × Extends seat.old.me.0.seen (T.content value)) }
+    {
+        let shared = &self.table.shared;
+        if shared.compare_exchange::<TakeTurn>(seat, 0, 0, 1) == 0 {
+            shared.exchange(seat, 0, None)
+        } else {
+            None
+        }
+    }
+
+    /// Waits for the turn, and takes the value out. It extends all that the pass had seen, and the pass has
+    /// then seen it.
+    pub fn enter<R: Wait>(&self, rt: &R, pass: &mut Pass<T>) -> T
+        requires lock { lock_of pass.old ≡ lock_id self.now }
+        requires idle { (known pass.old).has_turn ≡ false }
+        ensures lock { lock_of pass.new ≡ lock_of pass.old }
+        ensures room { room_of pass.new ≡ room_of pass.old }
+        ensures later { Extends (known pass.old).seen (T.content result) }
+        ensures known { known pass.new ≡ with_turn (known pass.old).share (T.content result) (known pass.old).added }
+    {
+        for _ in rt.forever() {
+            if let Some(value) = self.take(&mut pass.seat) {
+                return value;
+            }
+            self.table.shared.park(rt, 0, 1);
+        }
+        unreachable!()
+    }
+
+    /// Puts the value back, and gives up the turn. The pass has seen this value, and has added what it gained.
+    pub fn leave(&self, pass: &mut Pass<T>, value: T)
+        requires lock { lock_of pass.old ≡ lock_id self.now }
+        requires turn { (known pass.old).has_turn ≡ true }
+        requires later { Extends (known pass.old).seen (T.content value) }
+        ensures lock { lock_of pass.new ≡ lock_of pass.old }
+        ensures room { room_of pass.new ≡ room_of pass.old }
+        ensures known { known pass.new ≡ without_turn (known pass.old).share (T.content value) (added_by (known pass.old) (T.content value).list) }
+    {
+        let shared = &self.table.shared;
+        drop(shared.exchange(&mut pass.seat, 0, Some(value)));
+        shared.swap::<GiveUpTurn>(&mut pass.seat, 0, 0);
+        shared.wake_one(0);
+    }
+
+    /// Makes a pass with a room of its own, which has seen the same and has added nothing. It takes the room
+    /// of `pass` for itself and for those that may come from it, and half of its share. `NoPass` where the
+    /// room doesn't do.
+    pub fn split(&self, pass: &mut Pass<T>, room: u32) -> Result<Pass<T>, NoPass>
+        requires lock { lock_of pass.old ≡ lock_id self.now }
+        requires idle { (known pass.old).has_turn ≡ false }
+        ensures exact { IsErr result ↔ (room_of pass.old ≤ room) }
+        ensures lock { lock_of pass.new ≡ lock_of pass.old }
+        ensures room { OnOk result (room_of pass.new + room + 1 ≡ room_of pass.old) }
+        ensures known { OnOk result (known pass.new ≡ split_kept (known pass.old)) }
+        ensures err { OnErr result ((room_of pass.new ≡ room_of pass.old) × (known pass.new ≡ known pass.old)) }
+        ensures made { IfOk result (λ p. (lock_of p ≡ lock_of pass.old) × (room_of p ≡ room) × (known p ≡ split_given (known pass.old))) }
+    {
+        if pass.room <= room {
+            return Err(NoPass);
+        }
+        let seat = self.table.shared.split_seat::<SplitPass>(&mut pass.seat);
+        pass.room -= room + 1;
+        Ok(Pass { seat, room })
+    }
+
+    /// Takes in another pass, which is spent. The pass has then seen the longer of the two lists and the
+    /// greater counts, and has the shares of both. What the other added is no longer told, and its room isn't
+    /// given back.
+    pub fn join(&self, pass: &mut Pass<T>, other: Pass<T>)
+        requires lock { lock_of pass.old ≡ lock_id self.now }
+        requires other { lock_of other ≡ lock_id self.now }
+        requires idle { ((known pass.old).has_turn ≡ false) × ((known other).has_turn ≡ false) }
+        ensures lock { lock_of pass.new ≡ lock_of pass.old }
+        ensures room { room_of pass.new ≡ room_of pass.old }
+        ensures known { known pass.new ≡ without_turn ((known pass.old).share + (known other).share) (merged (known pass.old).seen (known other).seen) (known pass.old).added }
+        ensures later { Extends (known pass.old).seen (known pass.new).seen }
+        ensures others { Extends (known other).seen (known pass.new).seen }
+    {
+        let Pass { seat, room: _ } = other;
+        self.table
+            .shared
+            .join_seat::<TellOther>(&mut pass.seat, seat);
+        self.table.shared.load::<MergeTold>(&mut pass.seat, 0);
+    }
+
+    /// Ends the lock. It gives the value, unless a pass went off with the turn: always where every other pass
+    /// was joined, which is where `pass` has the whole of the lock's shares.
+    pub fn close(self, pass: Pass<T>) -> Option<T>
+        requires lock { lock_of pass ≡ lock_id self }
+        requires idle { (known pass).has_turn ≡ false }
+        ensures later { IfSome result (λ value. Extends (known pass).seen (T.content value)) }
+        ensures whole { (known pass).share ≡ whole → IsSome result }
+    {
+        let HistoryLock { table } = self;
+        let Pass { seat, room: _ } = pass;
+        let mut closed = table.close_with(seat);
+        let turn = closed.word(0);
+        let value = closed.take(0);
+        closed.free();
+        if turn != 0 {
+            return None;
+        }
+        let Some(value) = value else { unreachable!() };
+        Some(value)
+    }
+}
