@@ -1,0 +1,11 @@
+mod Drawn1
+mod Drawn2
+mod Drawn3
+mod Drawn4
+mod Drawn5
+mod Drawn6
+mod RowsOfDependencies
+mod RowsOfPicks
+mod RowsOfRequests
+mod RowsOfTasks
+mod Told
