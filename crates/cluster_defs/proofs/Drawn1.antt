@@ -1,4 +1,4 @@
--- Short histories that a second, independent model of the cluster drew at random, with what it says of each entry. No other module imports them.
+-- Short histories that a second, independent model of the cluster drew at random, with what it says of each entry. Nothing rests on them.
 use Rattle.std.proofs.Common.{List, [], ◌∷◌, Option, Some, None, Bool, true, false, refl}
 use Rattle.std.specs.Prelude.{codes}
 use Rattle.std.specs.Fmt.{digits}
@@ -18,12 +18,17 @@ use Rattle.cluster_types.specs.declared.event.Query.TheVariants.{Connection, Que
 use Rattle.cluster_types.specs.declared.out.Out.TheVariants.{Pass, Made}
 use Rattle.cluster_types.specs.declared.entry.Input.TheVariants.{Open, Up, Down, In, Beat, Time}
 use Rattle.cluster_types.specs.declared.entry.Entry.TheVariants.{Input, Hand, Settle, Lose}
-use Rattle.message_defs.specs.Event.{is_request}
+use Rattle.message_defs.specs.Event.{event_of, is_request, is_reply, is_leave}
+use Rattle.message_defs.specs.Points.{whole_timeouts, ends_in_name}
+use Rattle.message_defs.specs.Submit.{read_submit}
+use Rattle.message_defs.specs.Reply.{read_task, read_declined, read_status}
+use Rattle.message_defs.specs.Hub.{request_of, read_content}
 use Rattle.message_defs.specs.Header.{read_header}
 use Rattle.message_defs.specs.Texts.{answer_id, beat_id, beat_request, outcome_id, resubmit_id, header_text, reply_type, submit_refused, empty_object, ok_content, join_content, beat_content, error_content, outcome_content, resubmit_content, connection_content, history_content, queue_member, queue_content, settled_member, result_content}
 use Rattle.cluster_defs.specs.Acceptance.{no_dependency, reserved_front}
 use Rattle.cluster_defs.specs.Steps.{next_word}
-use Rattle.cluster_defs.proofs.Told.{Line, line, decision, message, dep, submission, IsTold}
+use Rattle.cluster_defs.specs.Histories.{Legal}
+use Rattle.cluster_defs.proofs.Told.{Line, line, decision, message, dep, submission, IsTold, goes_on, told_legal}
 
 abbrev drawn_1_m0 : Message
 drawn_1_m0 = message [] (codes "{\"msg_id\":\"j1\",\"msg_type\":\"registration_request\"}") (codes "{}") (codes "{}") (codes "{\"uuid\":\"e4\"}") []
@@ -80,7 +85,7 @@ abbrev drawn_1_m17 : Message
 drawn_1_m17 = message [] (codes "{\"msg_id\":\"out-6\",\"session\":\"controller\",\"username\":\"controller\",\"date\":\"2020-08-27T01:31:21.636Z\",\"msg_type\":\"execute_reply\",\"version\":\"5.3\"}") (codes "{\"msg_id\":\"t15\",\"msg_type\":\"execute_request\",\"session\":\"s\",\"username\":\"u\"}") (codes "{}") (codes "{\"status\":\"error\",\"ename\":\"ImpossibleDependency\",\"evalue\":\"the dependencies of this task cannot be met\",\"traceback\":[]}") []
 
 -- 33 entries, 1 opening
-abbrev drawn_1 : List Line
+abbrev pub drawn_1 : List Line
 drawn_1 =
     line (Input (Open 0 TwoBin 1 3)) None true []
     ∷ line (Input (Up 2 Engine 0 0 (codes "d"))) None true []
@@ -118,8 +123,11 @@ drawn_1 =
     ∷ []
 
 pub drawn_1_is_told : IsTold drawn_1
-unfolding digits escape_byte reserved_front next_word answer_id beat_id beat_request outcome_id resubmit_id header_text reply_type is_request submit_refused empty_object ok_content join_content beat_content error_content outcome_content resubmit_content connection_content history_content queue_member queue_content settled_member result_content engine_lost_text date_of day_text time_text date_digits civil_date from_year from_month encode_with
-drawn_1_is_told = record { goes = refl; rests = refl }
+unfolding digits escape_byte reserved_front next_word answer_id beat_id beat_request outcome_id resubmit_id header_text reply_type submit_refused empty_object ok_content join_content beat_content error_content outcome_content resubmit_content connection_content history_content queue_member queue_content settled_member result_content engine_lost_text date_of day_text time_text date_digits civil_date from_year from_month encode_with serde_json_on_literals is_utf8 chars event_of read_header is_request is_reply is_leave read_submit whole_timeouts ends_in_name request_of read_content read_task read_declined read_status
+drawn_1_is_told = record { goes = refl; reads = refl; rests = refl }
+
+pub drawn_1_legal : Legal (goes_on [] drawn_1)
+drawn_1_legal = told_legal drawn_1 drawn_1_is_told
 
 abbrev drawn_2_m0 : Message
 drawn_2_m0 = message [] (codes "{\"msg_id\":\"j1\",\"msg_type\":\"registration_request\"}") (codes "{}") (codes "{}") (codes "{\"uuid\":\"e0\"}") []
@@ -179,7 +187,7 @@ abbrev drawn_2_m18 : Message
 drawn_2_m18 = message [] (codes "{\"msg_id\":\"l16\",\"msg_type\":\"unregistration_request\"}") (codes "{}") (codes "{}") (codes "{}") []
 
 -- 28 entries, 1 opening
-abbrev drawn_2 : List Line
+abbrev pub drawn_2 : List Line
 drawn_2 =
     line (Input (Open 0 PlainRandom 0 1)) None true []
     ∷ line (Input (Up 2 Engine 0 0 (codes "conn-2"))) None true []
@@ -212,8 +220,11 @@ drawn_2 =
     ∷ []
 
 pub drawn_2_is_told : IsTold drawn_2
-unfolding digits escape_byte reserved_front next_word answer_id beat_id beat_request outcome_id resubmit_id header_text reply_type is_request submit_refused empty_object ok_content join_content beat_content error_content outcome_content resubmit_content connection_content history_content queue_member queue_content settled_member result_content engine_lost_text date_of day_text time_text date_digits civil_date from_year from_month encode_with serde_json_on_literals is_utf8 chars read_header
-drawn_2_is_told = record { goes = refl; rests = refl }
+unfolding digits escape_byte reserved_front next_word answer_id beat_id beat_request outcome_id resubmit_id header_text reply_type submit_refused empty_object ok_content join_content beat_content error_content outcome_content resubmit_content connection_content history_content queue_member queue_content settled_member result_content engine_lost_text date_of day_text time_text date_digits civil_date from_year from_month encode_with serde_json_on_literals is_utf8 chars event_of read_header is_request is_reply is_leave read_submit whole_timeouts ends_in_name request_of read_content read_task read_declined read_status
+drawn_2_is_told = record { goes = refl; reads = refl; rests = refl }
+
+pub drawn_2_legal : Legal (goes_on [] drawn_2)
+drawn_2_legal = told_legal drawn_2 drawn_2_is_told
 
 abbrev drawn_3_m0 : Message
 drawn_3_m0 = message [] (codes "{\"msg_id\":\"j2\",\"msg_type\":\"registration_request\"}") (codes "{}") (codes "{}") (codes "{\"uuid\":\"e3\"}") []
@@ -261,7 +272,7 @@ abbrev drawn_3_m14 : Message
 drawn_3_m14 = message [] (codes "{\"msg_id\":\"out-5\",\"session\":\"controller\",\"username\":\"controller\",\"date\":\"1993-10-12T20:05:24.371Z\",\"msg_type\":\"apply_reply\",\"version\":\"5.3\"}") (codes "{\"msg_id\":\"t8\",\"msg_type\":\"apply_request\",\"session\":\"s\",\"username\":\"u\"}") (codes "{}") (codes "{\"status\":\"error\",\"ename\":\"TaskTimeout\",\"evalue\":\"the task waited past its timeout\",\"traceback\":[]}") []
 
 -- 38 entries, 2 openings
-abbrev drawn_3 : List Line
+abbrev pub drawn_3 : List Line
 drawn_3 =
     line (Input (Open 0 Lru 1 1)) None true []
     ∷ line (Input (Up 3 Engine 0 0 (codes "conn-3"))) None true []
@@ -304,8 +315,11 @@ drawn_3 =
     ∷ []
 
 pub drawn_3_is_told : IsTold drawn_3
-unfolding digits escape_byte reserved_front next_word answer_id beat_id beat_request outcome_id resubmit_id header_text reply_type is_request submit_refused empty_object ok_content join_content beat_content error_content outcome_content resubmit_content connection_content history_content queue_member queue_content settled_member result_content engine_lost_text date_of day_text time_text date_digits civil_date from_year from_month encode_with
-drawn_3_is_told = record { goes = refl; rests = refl }
+unfolding digits escape_byte reserved_front next_word answer_id beat_id beat_request outcome_id resubmit_id header_text reply_type submit_refused empty_object ok_content join_content beat_content error_content outcome_content resubmit_content connection_content history_content queue_member queue_content settled_member result_content engine_lost_text date_of day_text time_text date_digits civil_date from_year from_month encode_with serde_json_on_literals is_utf8 chars event_of read_header is_request is_reply is_leave read_submit whole_timeouts ends_in_name request_of read_content read_task read_declined read_status
+drawn_3_is_told = record { goes = refl; reads = refl; rests = refl }
+
+pub drawn_3_legal : Legal (goes_on [] drawn_3)
+drawn_3_legal = told_legal drawn_3 drawn_3_is_told
 
 abbrev drawn_4_m0 : Message
 drawn_4_m0 = message [] (codes "{\"msg_id\":\"j1\",\"msg_type\":\"registration_request\"}") (codes "{}") (codes "{}") (codes "{\"uuid\":\"e1\"}") []
@@ -365,7 +379,7 @@ abbrev drawn_4_m18 : Message
 drawn_4_m18 = message [] (codes "{\"msg_id\":\"t17\",\"msg_type\":\"apply_request\",\"session\":\"s\",\"username\":\"u\"}") (codes "{}") (codes "{\"after\":{\"dependencies\":[\"t13\"],\"success\":false}}") (codes "{\"code\":\"2+0\"}") ((codes "buf") ∷ (codes "buf") ∷ [])
 
 -- 39 entries, 1 opening
-abbrev drawn_4 : List Line
+abbrev pub drawn_4 : List Line
 drawn_4 =
     line (Input (Open 0 LeastLoad 0 1)) None true []
     ∷ line (Input (Up 4 Engine 0 0 (codes "x4"))) None true []
@@ -409,8 +423,11 @@ drawn_4 =
     ∷ []
 
 pub drawn_4_is_told : IsTold drawn_4
-unfolding digits escape_byte reserved_front next_word answer_id beat_id beat_request outcome_id resubmit_id header_text reply_type is_request submit_refused empty_object ok_content join_content beat_content error_content outcome_content resubmit_content connection_content history_content queue_member queue_content settled_member result_content engine_lost_text date_of day_text time_text date_digits civil_date from_year from_month encode_with
-drawn_4_is_told = record { goes = refl; rests = refl }
+unfolding digits escape_byte reserved_front next_word answer_id beat_id beat_request outcome_id resubmit_id header_text reply_type submit_refused empty_object ok_content join_content beat_content error_content outcome_content resubmit_content connection_content history_content queue_member queue_content settled_member result_content engine_lost_text date_of day_text time_text date_digits civil_date from_year from_month encode_with serde_json_on_literals is_utf8 chars event_of read_header is_request is_reply is_leave read_submit whole_timeouts ends_in_name request_of read_content read_task read_declined read_status
+drawn_4_is_told = record { goes = refl; reads = refl; rests = refl }
+
+pub drawn_4_legal : Legal (goes_on [] drawn_4)
+drawn_4_legal = told_legal drawn_4 drawn_4_is_told
 
 abbrev drawn_5_m0 : Message
 drawn_5_m0 = message [] (codes "{\"msg_id\":\"j1\",\"msg_type\":\"registration_request\"}") (codes "{}") (codes "{}") (codes "{\"uuid\":\"e4\"}") []
@@ -455,7 +472,7 @@ abbrev drawn_5_m13 : Message
 drawn_5_m13 = message [] (codes "{\"msg_id\":\"j16\",\"msg_type\":\"registration_request\"}") (codes "{}") (codes "{}") (codes "{\"uuid\":\"e2\"}") []
 
 -- 30 entries, 1 opening
-abbrev drawn_5 : List Line
+abbrev pub drawn_5 : List Line
 drawn_5 =
     line (Input (Open 0 TwoBin 2 1)) None true []
     ∷ line (Input (Up 4 Engine 0 0 (241 ∷ []))) None true []
@@ -490,8 +507,11 @@ drawn_5 =
     ∷ []
 
 pub drawn_5_is_told : IsTold drawn_5
-unfolding digits escape_byte reserved_front next_word answer_id beat_id beat_request outcome_id resubmit_id header_text reply_type is_request submit_refused empty_object ok_content join_content beat_content error_content outcome_content resubmit_content connection_content history_content queue_member queue_content settled_member result_content engine_lost_text date_of day_text time_text date_digits civil_date from_year from_month encode_with serde_json_on_literals is_utf8 chars read_header
-drawn_5_is_told = record { goes = refl; rests = refl }
+unfolding digits escape_byte reserved_front next_word answer_id beat_id beat_request outcome_id resubmit_id header_text reply_type submit_refused empty_object ok_content join_content beat_content error_content outcome_content resubmit_content connection_content history_content queue_member queue_content settled_member result_content engine_lost_text date_of day_text time_text date_digits civil_date from_year from_month encode_with serde_json_on_literals is_utf8 chars event_of read_header is_request is_reply is_leave read_submit whole_timeouts ends_in_name request_of read_content read_task read_declined read_status
+drawn_5_is_told = record { goes = refl; reads = refl; rests = refl }
+
+pub drawn_5_legal : Legal (goes_on [] drawn_5)
+drawn_5_legal = told_legal drawn_5 drawn_5_is_told
 
 abbrev drawn_6_m0 : Message
 drawn_6_m0 = message [] (codes "{\"msg_id\":\"j1\",\"msg_type\":\"registration_request\"}") (codes "{}") (codes "{}") (codes "{\"uuid\":\"e0\"}") []
@@ -545,7 +565,7 @@ abbrev drawn_6_m16 : Message
 drawn_6_m16 = message [] (codes "{\"msg_id\":\"r18\",\"msg_type\":\"apply_reply\"}") (codes "{\"msg_id\":\"t16\",\"x\":1}") (codes "{\"started\":\"x\"}") (codes "{\"status\":\"ok\",\"result\":\"42\"}") []
 
 -- 29 entries, 1 opening
-abbrev drawn_6 : List Line
+abbrev pub drawn_6 : List Line
 drawn_6 =
     line (Input (Open 0 PlainRandom 0 1)) None true []
     ∷ line (Input (Up 3 Engine 0 0 (codes "x3"))) None true []
@@ -579,5 +599,8 @@ drawn_6 =
     ∷ []
 
 pub drawn_6_is_told : IsTold drawn_6
-unfolding digits escape_byte reserved_front next_word answer_id beat_id beat_request outcome_id resubmit_id header_text reply_type is_request submit_refused empty_object ok_content join_content beat_content error_content outcome_content resubmit_content connection_content history_content queue_member queue_content settled_member result_content engine_lost_text date_of day_text time_text date_digits civil_date from_year from_month encode_with
-drawn_6_is_told = record { goes = refl; rests = refl }
+unfolding digits escape_byte reserved_front next_word answer_id beat_id beat_request outcome_id resubmit_id header_text reply_type submit_refused empty_object ok_content join_content beat_content error_content outcome_content resubmit_content connection_content history_content queue_member queue_content settled_member result_content engine_lost_text date_of day_text time_text date_digits civil_date from_year from_month encode_with serde_json_on_literals is_utf8 chars event_of read_header is_request is_reply is_leave read_submit whole_timeouts ends_in_name request_of read_content read_task read_declined read_status
+drawn_6_is_told = record { goes = refl; reads = refl; rests = refl }
+
+pub drawn_6_legal : Legal (goes_on [] drawn_6)
+drawn_6_legal = told_legal drawn_6 drawn_6_is_told

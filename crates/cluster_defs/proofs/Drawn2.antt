@@ -1,4 +1,4 @@
--- Short histories that a second, independent model of the cluster drew at random, with what it says of each entry. No other module imports them.
+-- Short histories that a second, independent model of the cluster drew at random, with what it says of each entry. Nothing rests on them.
 use Rattle.std.proofs.Common.{List, [], ◌∷◌, Option, Some, None, Bool, true, false, refl}
 use Rattle.std.specs.Prelude.{codes}
 use Rattle.std.specs.Fmt.{digits}
@@ -18,12 +18,17 @@ use Rattle.cluster_types.specs.declared.event.Query.TheVariants.{Connection, Que
 use Rattle.cluster_types.specs.declared.out.Out.TheVariants.{Pass, Made}
 use Rattle.cluster_types.specs.declared.entry.Input.TheVariants.{Open, Up, Down, In, Beat, Time}
 use Rattle.cluster_types.specs.declared.entry.Entry.TheVariants.{Input, Hand, Settle, Lose}
-use Rattle.message_defs.specs.Event.{is_request}
+use Rattle.message_defs.specs.Event.{event_of, is_request, is_reply, is_leave}
+use Rattle.message_defs.specs.Points.{whole_timeouts, ends_in_name}
+use Rattle.message_defs.specs.Submit.{read_submit}
+use Rattle.message_defs.specs.Reply.{read_task, read_declined, read_status}
+use Rattle.message_defs.specs.Hub.{request_of, read_content}
 use Rattle.message_defs.specs.Header.{read_header}
 use Rattle.message_defs.specs.Texts.{answer_id, beat_id, beat_request, outcome_id, resubmit_id, header_text, reply_type, submit_refused, empty_object, ok_content, join_content, beat_content, error_content, outcome_content, resubmit_content, connection_content, history_content, queue_member, queue_content, settled_member, result_content}
 use Rattle.cluster_defs.specs.Acceptance.{no_dependency, reserved_front}
 use Rattle.cluster_defs.specs.Steps.{next_word}
-use Rattle.cluster_defs.proofs.Told.{Line, line, decision, message, dep, submission, IsTold}
+use Rattle.cluster_defs.specs.Histories.{Legal}
+use Rattle.cluster_defs.proofs.Told.{Line, line, decision, message, dep, submission, IsTold, goes_on, told_legal}
 
 abbrev drawn_7_m0 : Message
 drawn_7_m0 = message [] (codes "{\"msg_id\":\"j1\",\"msg_type\":\"registration_request\"}") (codes "{}") (codes "{}") (codes "{\"uuid\":\"e4\"}") []
@@ -68,7 +73,7 @@ abbrev drawn_7_m13 : Message
 drawn_7_m13 = message [] (codes "{\"msg_id\":\"q18\",\"msg_type\":\"queue_request\"}") (codes "{}") (codes "{}") (codes "{\"targets\":[],\"verbose\":false}") []
 
 -- 27 entries, 1 opening
-abbrev drawn_7 : List Line
+abbrev pub drawn_7 : List Line
 drawn_7 =
     line (Input (Open 0 PlainRandom 0 1)) None true []
     ∷ line (Input (Up 3 Engine 0 0 (codes "_"))) None true []
@@ -100,8 +105,11 @@ drawn_7 =
     ∷ []
 
 pub drawn_7_is_told : IsTold drawn_7
-unfolding digits escape_byte reserved_front next_word answer_id beat_id beat_request outcome_id resubmit_id header_text reply_type is_request submit_refused empty_object ok_content join_content beat_content error_content outcome_content resubmit_content connection_content history_content queue_member queue_content settled_member result_content engine_lost_text date_of day_text time_text date_digits civil_date from_year from_month encode_with serde_json_on_literals is_utf8 chars read_header
-drawn_7_is_told = record { goes = refl; rests = refl }
+unfolding digits escape_byte reserved_front next_word answer_id beat_id beat_request outcome_id resubmit_id header_text reply_type submit_refused empty_object ok_content join_content beat_content error_content outcome_content resubmit_content connection_content history_content queue_member queue_content settled_member result_content engine_lost_text date_of day_text time_text date_digits civil_date from_year from_month encode_with serde_json_on_literals is_utf8 chars event_of read_header is_request is_reply is_leave read_submit whole_timeouts ends_in_name request_of read_content read_task read_declined read_status
+drawn_7_is_told = record { goes = refl; reads = refl; rests = refl }
+
+pub drawn_7_legal : Legal (goes_on [] drawn_7)
+drawn_7_legal = told_legal drawn_7 drawn_7_is_told
 
 abbrev drawn_8_m0 : Message
 drawn_8_m0 = message [] (codes "{\"msg_id\":\"j1\",\"msg_type\":\"registration_request\"}") (codes "{}") (codes "{}") (codes "{\"uuid\":\"e4\"}") []
@@ -155,7 +163,7 @@ abbrev drawn_8_m16 : Message
 drawn_8_m16 = message [] (codes "{\"msg_id\":\"p16\",\"msg_type\":\"beat_reply\"}") (codes "{}") (codes "{}") (codes "{\"beat\":0}") []
 
 -- 34 entries, 1 opening
-abbrev drawn_8 : List Line
+abbrev pub drawn_8 : List Line
 drawn_8 =
     line (Input (Open 0 LeastLoad 1 1)) None true []
     ∷ line (Input (Up 4 Engine 0 0 (codes "d"))) None true []
@@ -194,8 +202,11 @@ drawn_8 =
     ∷ []
 
 pub drawn_8_is_told : IsTold drawn_8
-unfolding digits escape_byte reserved_front next_word answer_id beat_id beat_request outcome_id resubmit_id header_text reply_type is_request submit_refused empty_object ok_content join_content beat_content error_content outcome_content resubmit_content connection_content history_content queue_member queue_content settled_member result_content engine_lost_text date_of day_text time_text date_digits civil_date from_year from_month encode_with serde_json_on_literals is_utf8 chars read_header
-drawn_8_is_told = record { goes = refl; rests = refl }
+unfolding digits escape_byte reserved_front next_word answer_id beat_id beat_request outcome_id resubmit_id header_text reply_type submit_refused empty_object ok_content join_content beat_content error_content outcome_content resubmit_content connection_content history_content queue_member queue_content settled_member result_content engine_lost_text date_of day_text time_text date_digits civil_date from_year from_month encode_with serde_json_on_literals is_utf8 chars event_of read_header is_request is_reply is_leave read_submit whole_timeouts ends_in_name request_of read_content read_task read_declined read_status
+drawn_8_is_told = record { goes = refl; reads = refl; rests = refl }
+
+pub drawn_8_legal : Legal (goes_on [] drawn_8)
+drawn_8_legal = told_legal drawn_8 drawn_8_is_told
 
 abbrev drawn_9_m0 : Message
 drawn_9_m0 = message [] (codes "{\"msg_id\":\"j1\",\"msg_type\":\"registration_request\"}") (codes "{}") (codes "{}") (codes "{\"uuid\":\"e2\"}") []
@@ -255,7 +266,7 @@ abbrev drawn_9_m18 : Message
 drawn_9_m18 = message [] (codes "{\"msg_id\":\"q22\",\"msg_type\":\"result_request\"}") (codes "{}") (codes "{}") (codes "{\"msg_ids\":[\"t11\",\"t10\",\"t9\",\"t10\",\"t6\"],\"status_only\":false}") []
 
 -- 35 entries, 1 opening
-abbrev drawn_9 : List Line
+abbrev pub drawn_9 : List Line
 drawn_9 =
     line (Input (Open 0 PlainRandom 2 2)) None true []
     ∷ line (Input (Up 4 Engine 0 0 (codes "conn-4"))) None true []
@@ -295,8 +306,11 @@ drawn_9 =
     ∷ []
 
 pub drawn_9_is_told : IsTold drawn_9
-unfolding digits escape_byte reserved_front next_word answer_id beat_id beat_request outcome_id resubmit_id header_text reply_type is_request submit_refused empty_object ok_content join_content beat_content error_content outcome_content resubmit_content connection_content history_content queue_member queue_content settled_member result_content engine_lost_text date_of day_text time_text date_digits civil_date from_year from_month encode_with
-drawn_9_is_told = record { goes = refl; rests = refl }
+unfolding digits escape_byte reserved_front next_word answer_id beat_id beat_request outcome_id resubmit_id header_text reply_type submit_refused empty_object ok_content join_content beat_content error_content outcome_content resubmit_content connection_content history_content queue_member queue_content settled_member result_content engine_lost_text date_of day_text time_text date_digits civil_date from_year from_month encode_with serde_json_on_literals is_utf8 chars event_of read_header is_request is_reply is_leave read_submit whole_timeouts ends_in_name request_of read_content read_task read_declined read_status
+drawn_9_is_told = record { goes = refl; reads = refl; rests = refl }
+
+pub drawn_9_legal : Legal (goes_on [] drawn_9)
+drawn_9_legal = told_legal drawn_9 drawn_9_is_told
 
 abbrev drawn_10_m0 : Message
 drawn_10_m0 = message [] (codes "{\"msg_id\":\"j1\",\"msg_type\":\"registration_request\"}") (codes "{}") (codes "{}") (codes "{\"uuid\":\"e5\"}") []
@@ -350,7 +364,7 @@ abbrev drawn_10_m16 : Message
 drawn_10_m16 = message (codes "junk") (codes "{\"msg_id\":\"t3\",\"msg_type\":\"execute_request\",\"session\":\"s\",\"username\":\"u\"}") (codes "{}") (codes "{\"after\":[\"t11\"],\"follow\":{\"dependencies\":[],\"all\":false}}") (codes "{\"code\":\"2+3\"}") ((codes "buf") ∷ (codes "buf") ∷ [])
 
 -- 37 entries, 2 openings
-abbrev drawn_10 : List Line
+abbrev pub drawn_10 : List Line
 drawn_10 =
     line (Input (Open 0 LeastLoad 2 3)) None true []
     ∷ line (Input (Up 1 Engine 0 0 (codes "c"))) None true []
@@ -392,8 +406,11 @@ drawn_10 =
     ∷ []
 
 pub drawn_10_is_told : IsTold drawn_10
-unfolding digits escape_byte reserved_front next_word answer_id beat_id beat_request outcome_id resubmit_id header_text reply_type is_request submit_refused empty_object ok_content join_content beat_content error_content outcome_content resubmit_content connection_content history_content queue_member queue_content settled_member result_content engine_lost_text date_of day_text time_text date_digits civil_date from_year from_month encode_with
-drawn_10_is_told = record { goes = refl; rests = refl }
+unfolding digits escape_byte reserved_front next_word answer_id beat_id beat_request outcome_id resubmit_id header_text reply_type submit_refused empty_object ok_content join_content beat_content error_content outcome_content resubmit_content connection_content history_content queue_member queue_content settled_member result_content engine_lost_text date_of day_text time_text date_digits civil_date from_year from_month encode_with serde_json_on_literals is_utf8 chars event_of read_header is_request is_reply is_leave read_submit whole_timeouts ends_in_name request_of read_content read_task read_declined read_status
+drawn_10_is_told = record { goes = refl; reads = refl; rests = refl }
+
+pub drawn_10_legal : Legal (goes_on [] drawn_10)
+drawn_10_legal = told_legal drawn_10 drawn_10_is_told
 
 abbrev drawn_11_m0 : Message
 drawn_11_m0 = message [] (codes "{\"msg_id\":\"j2\",\"msg_type\":\"registration_request\"}") (codes "{}") (codes "{}") (codes "{\"uuid\":\"e2\"}") []
@@ -435,7 +452,7 @@ abbrev drawn_11_m12 : Message
 drawn_11_m12 = message [] (codes "{\"msg_id\":\"d10\",\"msg_type\":\"execute_request\"}") (codes "{}") (codes "{}") (codes "{\"code\":\"1\"}") []
 
 -- 25 entries, 1 opening
-abbrev drawn_11 : List Line
+abbrev pub drawn_11 : List Line
 drawn_11 =
     line (Input (Open 0 TwoBin 1 1)) None true []
     ∷ line (Input (Up 1 Engine 0 0 (228 ∷ []))) None true []
@@ -465,8 +482,11 @@ drawn_11 =
     ∷ []
 
 pub drawn_11_is_told : IsTold drawn_11
-unfolding digits escape_byte reserved_front next_word answer_id beat_id beat_request outcome_id resubmit_id header_text reply_type is_request submit_refused empty_object ok_content join_content beat_content error_content outcome_content resubmit_content connection_content history_content queue_member queue_content settled_member result_content engine_lost_text date_of day_text time_text date_digits civil_date from_year from_month encode_with serde_json_on_literals is_utf8 chars read_header
-drawn_11_is_told = record { goes = refl; rests = refl }
+unfolding digits escape_byte reserved_front next_word answer_id beat_id beat_request outcome_id resubmit_id header_text reply_type submit_refused empty_object ok_content join_content beat_content error_content outcome_content resubmit_content connection_content history_content queue_member queue_content settled_member result_content engine_lost_text date_of day_text time_text date_digits civil_date from_year from_month encode_with serde_json_on_literals is_utf8 chars event_of read_header is_request is_reply is_leave read_submit whole_timeouts ends_in_name request_of read_content read_task read_declined read_status
+drawn_11_is_told = record { goes = refl; reads = refl; rests = refl }
+
+pub drawn_11_legal : Legal (goes_on [] drawn_11)
+drawn_11_legal = told_legal drawn_11 drawn_11_is_told
 
 abbrev drawn_12_m0 : Message
 drawn_12_m0 = message [] (codes "{\"msg_id\":\"j1\",\"msg_type\":\"registration_request\"}") (codes "{}") (codes "{}") (codes "{\"uuid\":\"e5\"}") []
@@ -508,7 +528,7 @@ abbrev drawn_12_m12 : Message
 drawn_12_m12 = message [] (codes "{\"msg_id\":\"t13\",\"msg_type\":\"apply_request\",\"session\":\"s\",\"username\":\"u\"}") (codes "{}") (codes "{}") (codes "{\"code\":\"6+4\"}") []
 
 -- 28 entries, 1 opening
-abbrev drawn_12 : List Line
+abbrev pub drawn_12 : List Line
 drawn_12 =
     line (Input (Open 0 Lru 1 1)) None true []
     ∷ line (Input (Up 3 Engine 0 0 (codes "x3"))) None true []
@@ -541,5 +561,8 @@ drawn_12 =
     ∷ []
 
 pub drawn_12_is_told : IsTold drawn_12
-unfolding digits escape_byte reserved_front next_word answer_id beat_id beat_request outcome_id resubmit_id header_text reply_type is_request submit_refused empty_object ok_content join_content beat_content error_content outcome_content resubmit_content connection_content history_content queue_member queue_content settled_member result_content engine_lost_text date_of day_text time_text date_digits civil_date from_year from_month encode_with
-drawn_12_is_told = record { goes = refl; rests = refl }
+unfolding digits escape_byte reserved_front next_word answer_id beat_id beat_request outcome_id resubmit_id header_text reply_type submit_refused empty_object ok_content join_content beat_content error_content outcome_content resubmit_content connection_content history_content queue_member queue_content settled_member result_content engine_lost_text date_of day_text time_text date_digits civil_date from_year from_month encode_with serde_json_on_literals is_utf8 chars event_of read_header is_request is_reply is_leave read_submit whole_timeouts ends_in_name request_of read_content read_task read_declined read_status
+drawn_12_is_told = record { goes = refl; reads = refl; rests = refl }
+
+pub drawn_12_legal : Legal (goes_on [] drawn_12)
+drawn_12_legal = told_legal drawn_12 drawn_12_is_told

@@ -1,4 +1,4 @@
--- Short histories that a second, independent model of the cluster drew at random, with what it says of each entry. No other module imports them.
+-- Short histories that a second, independent model of the cluster drew at random, with what it says of each entry. Nothing rests on them.
 use Rattle.std.proofs.Common.{List, [], ◌∷◌, Option, Some, None, Bool, true, false, refl}
 use Rattle.std.specs.Prelude.{codes}
 use Rattle.std.specs.Fmt.{digits}
@@ -18,12 +18,17 @@ use Rattle.cluster_types.specs.declared.event.Query.TheVariants.{Connection, Que
 use Rattle.cluster_types.specs.declared.out.Out.TheVariants.{Pass, Made}
 use Rattle.cluster_types.specs.declared.entry.Input.TheVariants.{Open, Up, Down, In, Beat, Time}
 use Rattle.cluster_types.specs.declared.entry.Entry.TheVariants.{Input, Hand, Settle, Lose}
-use Rattle.message_defs.specs.Event.{is_request}
+use Rattle.message_defs.specs.Event.{event_of, is_request, is_reply, is_leave}
+use Rattle.message_defs.specs.Points.{whole_timeouts, ends_in_name}
+use Rattle.message_defs.specs.Submit.{read_submit}
+use Rattle.message_defs.specs.Reply.{read_task, read_declined, read_status}
+use Rattle.message_defs.specs.Hub.{request_of, read_content}
 use Rattle.message_defs.specs.Header.{read_header}
 use Rattle.message_defs.specs.Texts.{answer_id, beat_id, beat_request, outcome_id, resubmit_id, header_text, reply_type, submit_refused, empty_object, ok_content, join_content, beat_content, error_content, outcome_content, resubmit_content, connection_content, history_content, queue_member, queue_content, settled_member, result_content}
 use Rattle.cluster_defs.specs.Acceptance.{no_dependency, reserved_front}
 use Rattle.cluster_defs.specs.Steps.{next_word}
-use Rattle.cluster_defs.proofs.Told.{Line, line, decision, message, dep, submission, IsTold}
+use Rattle.cluster_defs.specs.Histories.{Legal}
+use Rattle.cluster_defs.proofs.Told.{Line, line, decision, message, dep, submission, IsTold, goes_on, told_legal}
 
 abbrev drawn_13_m0 : Message
 drawn_13_m0 = message [] (codes "{\"msg_id\":\"j1\",\"msg_type\":\"registration_request\"}") (codes "{}") (codes "{}") (codes "{\"uuid\":\"e4\"}") []
@@ -53,7 +58,7 @@ abbrev drawn_13_m8 : Message
 drawn_13_m8 = message [] (codes "{\"msg_id\":\"r11\",\"msg_type\":\"execute_reply\"}") (codes "{\"msg_id\":\"resubmit:2\",\"x\":1}") (codes "{\"dependencies_met\":false}") (codes "{\"status\":\"error\",\"result\":\"42\"}") ((codes "b") ∷ [])
 
 -- 16 entries, 1 opening
-abbrev drawn_13 : List Line
+abbrev pub drawn_13 : List Line
 drawn_13 =
     line (Input (Open 0 Lru 0 3)) None true []
     ∷ line (Input (Up 2 Engine 0 0 (codes "conn-2"))) None true []
@@ -74,8 +79,11 @@ drawn_13 =
     ∷ []
 
 pub drawn_13_is_told : IsTold drawn_13
-unfolding digits escape_byte reserved_front next_word answer_id beat_id beat_request outcome_id resubmit_id header_text reply_type is_request submit_refused empty_object ok_content join_content beat_content error_content outcome_content resubmit_content connection_content history_content queue_member queue_content settled_member result_content engine_lost_text date_of day_text time_text date_digits civil_date from_year from_month encode_with
-drawn_13_is_told = record { goes = refl; rests = refl }
+unfolding digits escape_byte reserved_front next_word answer_id beat_id beat_request outcome_id resubmit_id header_text reply_type submit_refused empty_object ok_content join_content beat_content error_content outcome_content resubmit_content connection_content history_content queue_member queue_content settled_member result_content engine_lost_text date_of day_text time_text date_digits civil_date from_year from_month encode_with serde_json_on_literals is_utf8 chars event_of read_header is_request is_reply is_leave read_submit whole_timeouts ends_in_name request_of read_content read_task read_declined read_status
+drawn_13_is_told = record { goes = refl; reads = refl; rests = refl }
+
+pub drawn_13_legal : Legal (goes_on [] drawn_13)
+drawn_13_legal = told_legal drawn_13 drawn_13_is_told
 
 abbrev drawn_14_m0 : Message
 drawn_14_m0 = message [] (codes "{\"msg_id\":\"j1\",\"msg_type\":\"registration_request\"}") (codes "{}") (codes "{}") (codes "{\"uuid\":\"e1\"}") []
@@ -150,7 +158,7 @@ abbrev drawn_14_m23 : Message
 drawn_14_m23 = message [] (codes "{\"msg_id\":\"out-8\",\"session\":\"controller\",\"username\":\"controller\",\"date\":\"1997-02-24T10:57:51.397Z\",\"msg_type\":\"apply_reply\",\"version\":\"5.3\"}") (codes "{\"msg_id\":\"resubmit:8\",\"session\":\"s\",\"username\":\"u\",\"date\":\"1997-02-24T10:57:51.397Z\",\"msg_type\":\"apply_request\",\"version\":\"5.3\"}") (codes "{}") (codes "{\"status\":\"error\",\"ename\":\"ImpossibleDependency\",\"evalue\":\"the dependencies of this task cannot be met\",\"traceback\":[]}") []
 
 -- 39 entries, 1 opening
-abbrev drawn_14 : List Line
+abbrev pub drawn_14 : List Line
 drawn_14 =
     line (Input (Open 0 PlainRandom 2 1)) None true []
     ∷ line (Input (Up 1 Engine 0 0 (codes "conn-1"))) None true []
@@ -194,8 +202,11 @@ drawn_14 =
     ∷ []
 
 pub drawn_14_is_told : IsTold drawn_14
-unfolding digits escape_byte reserved_front next_word answer_id beat_id beat_request outcome_id resubmit_id header_text reply_type is_request submit_refused empty_object ok_content join_content beat_content error_content outcome_content resubmit_content connection_content history_content queue_member queue_content settled_member result_content engine_lost_text date_of day_text time_text date_digits civil_date from_year from_month encode_with
-drawn_14_is_told = record { goes = refl; rests = refl }
+unfolding digits escape_byte reserved_front next_word answer_id beat_id beat_request outcome_id resubmit_id header_text reply_type submit_refused empty_object ok_content join_content beat_content error_content outcome_content resubmit_content connection_content history_content queue_member queue_content settled_member result_content engine_lost_text date_of day_text time_text date_digits civil_date from_year from_month encode_with serde_json_on_literals is_utf8 chars event_of read_header is_request is_reply is_leave read_submit whole_timeouts ends_in_name request_of read_content read_task read_declined read_status
+drawn_14_is_told = record { goes = refl; reads = refl; rests = refl }
+
+pub drawn_14_legal : Legal (goes_on [] drawn_14)
+drawn_14_legal = told_legal drawn_14 drawn_14_is_told
 
 abbrev drawn_15_m0 : Message
 drawn_15_m0 = message [] (codes "{\"msg_id\":\"j1\",\"msg_type\":\"registration_request\"}") (codes "{}") (codes "{}") (codes "{\"uuid\":\"e0\"}") []
@@ -234,7 +245,7 @@ abbrev drawn_15_m11 : Message
 drawn_15_m11 = message [] (codes "{\"msg_id\":\"out-2\",\"session\":\"controller\",\"username\":\"controller\",\"date\":\"2005-10-01T15:47:33.895Z\",\"msg_type\":\"execute_reply\",\"version\":\"5.3\"}") (codes "{\"msg_id\":\"t8\",\"msg_type\":\"execute_request\",\"session\":\"s\",\"username\":\"u\"}") (codes "{}") (codes "{\"status\":\"error\",\"ename\":\"ImpossibleDependency\",\"evalue\":\"the dependencies of this task cannot be met\",\"traceback\":[]}") []
 
 -- 23 entries, 1 opening
-abbrev drawn_15 : List Line
+abbrev pub drawn_15 : List Line
 drawn_15 =
     line (Input (Open 0 TwoBin 1 2)) None true []
     ∷ line (Input (Up 1 Engine 0 0 (codes "conn-1"))) None true []
@@ -262,8 +273,11 @@ drawn_15 =
     ∷ []
 
 pub drawn_15_is_told : IsTold drawn_15
-unfolding digits escape_byte reserved_front next_word answer_id beat_id beat_request outcome_id resubmit_id header_text reply_type is_request submit_refused empty_object ok_content join_content beat_content error_content outcome_content resubmit_content connection_content history_content queue_member queue_content settled_member result_content engine_lost_text date_of day_text time_text date_digits civil_date from_year from_month encode_with
-drawn_15_is_told = record { goes = refl; rests = refl }
+unfolding digits escape_byte reserved_front next_word answer_id beat_id beat_request outcome_id resubmit_id header_text reply_type submit_refused empty_object ok_content join_content beat_content error_content outcome_content resubmit_content connection_content history_content queue_member queue_content settled_member result_content engine_lost_text date_of day_text time_text date_digits civil_date from_year from_month encode_with serde_json_on_literals is_utf8 chars event_of read_header is_request is_reply is_leave read_submit whole_timeouts ends_in_name request_of read_content read_task read_declined read_status
+drawn_15_is_told = record { goes = refl; reads = refl; rests = refl }
+
+pub drawn_15_legal : Legal (goes_on [] drawn_15)
+drawn_15_legal = told_legal drawn_15 drawn_15_is_told
 
 abbrev drawn_16_m0 : Message
 drawn_16_m0 = message [] (codes "{\"msg_id\":\"j1\",\"msg_type\":\"registration_request\"}") (codes "{}") (codes "{}") (codes "{\"uuid\":\"e5\"}") []
@@ -308,7 +322,7 @@ abbrev drawn_16_m13 : Message
 drawn_16_m13 = message [] (codes "{\"msg_id\":\"t11\",\"msg_type\":\"execute_request\",\"session\":\"s\",\"username\":\"u\"}") (codes "{}") (codes "{\"after\":{\"dependencies\":[\"d9\"],\"all\":false},\"retries\":null}") (codes "{\"code\":\"7+8\"}") []
 
 -- 30 entries, 1 opening
-abbrev drawn_16 : List Line
+abbrev pub drawn_16 : List Line
 drawn_16 =
     line (Input (Open 0 Lru 2 1)) None true []
     ∷ line (Input (Up 2 Engine 0 0 (codes "x2"))) None true []
@@ -343,8 +357,11 @@ drawn_16 =
     ∷ []
 
 pub drawn_16_is_told : IsTold drawn_16
-unfolding digits escape_byte reserved_front next_word answer_id beat_id beat_request outcome_id resubmit_id header_text reply_type is_request submit_refused empty_object ok_content join_content beat_content error_content outcome_content resubmit_content connection_content history_content queue_member queue_content settled_member result_content engine_lost_text date_of day_text time_text date_digits civil_date from_year from_month encode_with
-drawn_16_is_told = record { goes = refl; rests = refl }
+unfolding digits escape_byte reserved_front next_word answer_id beat_id beat_request outcome_id resubmit_id header_text reply_type submit_refused empty_object ok_content join_content beat_content error_content outcome_content resubmit_content connection_content history_content queue_member queue_content settled_member result_content engine_lost_text date_of day_text time_text date_digits civil_date from_year from_month encode_with serde_json_on_literals is_utf8 chars event_of read_header is_request is_reply is_leave read_submit whole_timeouts ends_in_name request_of read_content read_task read_declined read_status
+drawn_16_is_told = record { goes = refl; reads = refl; rests = refl }
+
+pub drawn_16_legal : Legal (goes_on [] drawn_16)
+drawn_16_legal = told_legal drawn_16 drawn_16_is_told
 
 abbrev drawn_17_m0 : Message
 drawn_17_m0 = message [] (codes "{\"msg_id\":\"j1\",\"msg_type\":\"registration_request\"}") (codes "{}") (codes "{}") (codes "{\"uuid\":\"e4\"}") []
@@ -389,7 +406,7 @@ abbrev drawn_17_m13 : Message
 drawn_17_m13 = message [] (codes "{\"msg_id\":\"j14\",\"msg_type\":\"registration_request\"}") (codes "{}") (codes "{}") (codes "[1]") []
 
 -- 28 entries, 1 opening
-abbrev drawn_17 : List Line
+abbrev pub drawn_17 : List Line
 drawn_17 =
     line (Input (Open 0 TwoBin 2 3)) None true []
     ∷ line (Input (Up 3 Engine 0 0 (codes "d"))) None true []
@@ -422,8 +439,11 @@ drawn_17 =
     ∷ []
 
 pub drawn_17_is_told : IsTold drawn_17
-unfolding digits escape_byte reserved_front next_word answer_id beat_id beat_request outcome_id resubmit_id header_text reply_type is_request submit_refused empty_object ok_content join_content beat_content error_content outcome_content resubmit_content connection_content history_content queue_member queue_content settled_member result_content engine_lost_text date_of day_text time_text date_digits civil_date from_year from_month encode_with serde_json_on_literals is_utf8 chars read_header
-drawn_17_is_told = record { goes = refl; rests = refl }
+unfolding digits escape_byte reserved_front next_word answer_id beat_id beat_request outcome_id resubmit_id header_text reply_type submit_refused empty_object ok_content join_content beat_content error_content outcome_content resubmit_content connection_content history_content queue_member queue_content settled_member result_content engine_lost_text date_of day_text time_text date_digits civil_date from_year from_month encode_with serde_json_on_literals is_utf8 chars event_of read_header is_request is_reply is_leave read_submit whole_timeouts ends_in_name request_of read_content read_task read_declined read_status
+drawn_17_is_told = record { goes = refl; reads = refl; rests = refl }
+
+pub drawn_17_legal : Legal (goes_on [] drawn_17)
+drawn_17_legal = told_legal drawn_17 drawn_17_is_told
 
 abbrev drawn_18_m0 : Message
 drawn_18_m0 = message [] (codes "{\"msg_id\":\"j1\",\"msg_type\":\"registration_request\"}") (codes "{}") (codes "{}") (codes "{\"uuid\":\"e1\"}") []
@@ -477,7 +497,7 @@ abbrev drawn_18_m16 : Message
 drawn_18_m16 = message [] (codes "{\"msg_id\":\"out-4\",\"session\":\"controller\",\"username\":\"controller\",\"date\":\"2003-08-22T20:24:48.134Z\",\"msg_type\":\"execute_reply\",\"version\":\"5.3\"}") (codes "{\"msg_id\":\"t6\",\"msg_type\":\"execute_request\",\"session\":\"s\",\"username\":\"u\"}") (codes "{}") (codes "{\"status\":\"error\",\"ename\":\"ImpossibleDependency\",\"evalue\":\"the dependencies of this task cannot be met\",\"traceback\":[]}") []
 
 -- 34 entries, 2 openings
-abbrev drawn_18 : List Line
+abbrev pub drawn_18 : List Line
 drawn_18 =
     line (Input (Open 0 TwoBin 0 1)) None true []
     ∷ line (Input (Up 3 Engine 0 0 (146 ∷ []))) None true []
@@ -516,5 +536,8 @@ drawn_18 =
     ∷ []
 
 pub drawn_18_is_told : IsTold drawn_18
-unfolding digits escape_byte reserved_front next_word answer_id beat_id beat_request outcome_id resubmit_id header_text reply_type is_request submit_refused empty_object ok_content join_content beat_content error_content outcome_content resubmit_content connection_content history_content queue_member queue_content settled_member result_content engine_lost_text date_of day_text time_text date_digits civil_date from_year from_month encode_with
-drawn_18_is_told = record { goes = refl; rests = refl }
+unfolding digits escape_byte reserved_front next_word answer_id beat_id beat_request outcome_id resubmit_id header_text reply_type submit_refused empty_object ok_content join_content beat_content error_content outcome_content resubmit_content connection_content history_content queue_member queue_content settled_member result_content engine_lost_text date_of day_text time_text date_digits civil_date from_year from_month encode_with serde_json_on_literals is_utf8 chars event_of read_header is_request is_reply is_leave read_submit whole_timeouts ends_in_name request_of read_content read_task read_declined read_status
+drawn_18_is_told = record { goes = refl; reads = refl; rests = refl }
+
+pub drawn_18_legal : Legal (goes_on [] drawn_18)
+drawn_18_legal = told_legal drawn_18 drawn_18_is_told

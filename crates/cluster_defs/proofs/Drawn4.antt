@@ -1,4 +1,4 @@
--- Short histories that a second, independent model of the cluster drew at random, with what it says of each entry. No other module imports them.
+-- Short histories that a second, independent model of the cluster drew at random, with what it says of each entry. Nothing rests on them.
 use Rattle.std.proofs.Common.{List, [], ◌∷◌, Option, Some, None, Bool, true, false, refl}
 use Rattle.std.specs.Prelude.{codes}
 use Rattle.std.specs.Fmt.{digits}
@@ -18,12 +18,17 @@ use Rattle.cluster_types.specs.declared.event.Query.TheVariants.{Connection, Que
 use Rattle.cluster_types.specs.declared.out.Out.TheVariants.{Pass, Made}
 use Rattle.cluster_types.specs.declared.entry.Input.TheVariants.{Open, Up, Down, In, Beat, Time}
 use Rattle.cluster_types.specs.declared.entry.Entry.TheVariants.{Input, Hand, Settle, Lose}
-use Rattle.message_defs.specs.Event.{is_request}
+use Rattle.message_defs.specs.Event.{event_of, is_request, is_reply, is_leave}
+use Rattle.message_defs.specs.Points.{whole_timeouts, ends_in_name}
+use Rattle.message_defs.specs.Submit.{read_submit}
+use Rattle.message_defs.specs.Reply.{read_task, read_declined, read_status}
+use Rattle.message_defs.specs.Hub.{request_of, read_content}
 use Rattle.message_defs.specs.Header.{read_header}
 use Rattle.message_defs.specs.Texts.{answer_id, beat_id, beat_request, outcome_id, resubmit_id, header_text, reply_type, submit_refused, empty_object, ok_content, join_content, beat_content, error_content, outcome_content, resubmit_content, connection_content, history_content, queue_member, queue_content, settled_member, result_content}
 use Rattle.cluster_defs.specs.Acceptance.{no_dependency, reserved_front}
 use Rattle.cluster_defs.specs.Steps.{next_word}
-use Rattle.cluster_defs.proofs.Told.{Line, line, decision, message, dep, submission, IsTold}
+use Rattle.cluster_defs.specs.Histories.{Legal}
+use Rattle.cluster_defs.proofs.Told.{Line, line, decision, message, dep, submission, IsTold, goes_on, told_legal}
 
 abbrev drawn_19_m0 : Message
 drawn_19_m0 = message [] (codes "{\"msg_id\":\"j1\",\"msg_type\":\"registration_request\"}") (codes "{}") (codes "{}") (codes "{\"uuid\":\"e0\"}") []
@@ -68,7 +73,7 @@ abbrev drawn_19_m13 : Message
 drawn_19_m13 = message [] (codes "{\"msg_id\":\"q6\",\"msg_type\":\"what\"}") (codes "{}") (codes "{}") (codes "{}") []
 
 -- 32 entries, 2 openings
-abbrev drawn_19 : List Line
+abbrev pub drawn_19 : List Line
 drawn_19 =
     line (Input (Open 0 Lru 1 2)) None true []
     ∷ line (Input (Up 2 Engine 0 0 (codes "conn-2"))) None true []
@@ -105,8 +110,11 @@ drawn_19 =
     ∷ []
 
 pub drawn_19_is_told : IsTold drawn_19
-unfolding digits escape_byte reserved_front next_word answer_id beat_id beat_request outcome_id resubmit_id header_text reply_type is_request submit_refused empty_object ok_content join_content beat_content error_content outcome_content resubmit_content connection_content history_content queue_member queue_content settled_member result_content engine_lost_text date_of day_text time_text date_digits civil_date from_year from_month encode_with serde_json_on_literals is_utf8 chars read_header
-drawn_19_is_told = record { goes = refl; rests = refl }
+unfolding digits escape_byte reserved_front next_word answer_id beat_id beat_request outcome_id resubmit_id header_text reply_type submit_refused empty_object ok_content join_content beat_content error_content outcome_content resubmit_content connection_content history_content queue_member queue_content settled_member result_content engine_lost_text date_of day_text time_text date_digits civil_date from_year from_month encode_with serde_json_on_literals is_utf8 chars event_of read_header is_request is_reply is_leave read_submit whole_timeouts ends_in_name request_of read_content read_task read_declined read_status
+drawn_19_is_told = record { goes = refl; reads = refl; rests = refl }
+
+pub drawn_19_legal : Legal (goes_on [] drawn_19)
+drawn_19_legal = told_legal drawn_19 drawn_19_is_told
 
 abbrev drawn_20_m0 : Message
 drawn_20_m0 = message [] (codes "{\"msg_id\":\"j1\",\"msg_type\":\"registration_request\"}") (codes "{}") (codes "{}") (codes "{\"uuid\":\"e3\"}") []
@@ -178,7 +186,7 @@ abbrev drawn_20_m22 : Message
 drawn_20_m22 = message [] (codes "{\"msg_id\":\"r20\",\"msg_type\":\"execute_reply\"}") (codes "{\"msg_id\":\"resubmit:5\"}") (codes "{}") (codes "{\"status\":\"ok\"}") []
 
 -- 40 entries, 1 opening
-abbrev drawn_20 : List Line
+abbrev pub drawn_20 : List Line
 drawn_20 =
     line (Input (Open 0 Lru 1 1)) None true []
     ∷ line (Input (Up 1 Engine 0 0 (codes "x1"))) None true []
@@ -223,8 +231,11 @@ drawn_20 =
     ∷ []
 
 pub drawn_20_is_told : IsTold drawn_20
-unfolding digits escape_byte reserved_front next_word answer_id beat_id beat_request outcome_id resubmit_id header_text reply_type is_request submit_refused empty_object ok_content join_content beat_content error_content outcome_content resubmit_content connection_content history_content queue_member queue_content settled_member result_content engine_lost_text date_of day_text time_text date_digits civil_date from_year from_month encode_with
-drawn_20_is_told = record { goes = refl; rests = refl }
+unfolding digits escape_byte reserved_front next_word answer_id beat_id beat_request outcome_id resubmit_id header_text reply_type submit_refused empty_object ok_content join_content beat_content error_content outcome_content resubmit_content connection_content history_content queue_member queue_content settled_member result_content engine_lost_text date_of day_text time_text date_digits civil_date from_year from_month encode_with serde_json_on_literals is_utf8 chars event_of read_header is_request is_reply is_leave read_submit whole_timeouts ends_in_name request_of read_content read_task read_declined read_status
+drawn_20_is_told = record { goes = refl; reads = refl; rests = refl }
+
+pub drawn_20_legal : Legal (goes_on [] drawn_20)
+drawn_20_legal = told_legal drawn_20 drawn_20_is_told
 
 abbrev drawn_21_m0 : Message
 drawn_21_m0 = message [] (codes "{\"msg_id\":\"t1\",\"msg_type\":\"apply_request\",\"session\":\"s\",\"username\":\"u\"}") (codes "{}") (codes "{}") (codes "{\"code\":\"6+8\"}") ((codes "buf") ∷ (codes "buf") ∷ [])
@@ -245,7 +256,7 @@ abbrev drawn_21_m5 : Message
 drawn_21_m5 = message [] (codes "{\"msg_id\":\"t6\",\"msg_type\":\"apply_request\",\"session\":\"s\",\"username\":\"u\"}") (codes "{}") (codes "{\"follow\":{\"dependencies\":[],\"failure\":true},\"retries\":2}") (codes "{\"code\":\"7+6\"}") []
 
 -- 14 entries, 1 opening
-abbrev drawn_21 : List Line
+abbrev pub drawn_21 : List Line
 drawn_21 =
     line (Input (Open 0 TwoBin 1 3)) None true []
     ∷ line (Input (Up 2 Task 523190487285 9568820862700308414 (codes "conn-2"))) None true []
@@ -264,8 +275,11 @@ drawn_21 =
     ∷ []
 
 pub drawn_21_is_told : IsTold drawn_21
-unfolding digits escape_byte reserved_front next_word answer_id beat_id beat_request outcome_id resubmit_id header_text reply_type is_request submit_refused empty_object ok_content join_content beat_content error_content outcome_content resubmit_content connection_content history_content queue_member queue_content settled_member result_content engine_lost_text date_of day_text time_text date_digits civil_date from_year from_month encode_with
-drawn_21_is_told = record { goes = refl; rests = refl }
+unfolding digits escape_byte reserved_front next_word answer_id beat_id beat_request outcome_id resubmit_id header_text reply_type submit_refused empty_object ok_content join_content beat_content error_content outcome_content resubmit_content connection_content history_content queue_member queue_content settled_member result_content engine_lost_text date_of day_text time_text date_digits civil_date from_year from_month encode_with serde_json_on_literals is_utf8 chars event_of read_header is_request is_reply is_leave read_submit whole_timeouts ends_in_name request_of read_content read_task read_declined read_status
+drawn_21_is_told = record { goes = refl; reads = refl; rests = refl }
+
+pub drawn_21_legal : Legal (goes_on [] drawn_21)
+drawn_21_legal = told_legal drawn_21 drawn_21_is_told
 
 abbrev drawn_22_m0 : Message
 drawn_22_m0 = message [] (codes "{\"msg_id\":\"j1\",\"msg_type\":\"registration_request\"}") (codes "{}") (codes "{}") (codes "{\"uuid\":\"engine \\u00e9\"}") []
@@ -298,7 +312,7 @@ abbrev drawn_22_m9 : Message
 drawn_22_m9 = message [] (codes "{\"msg_id\":\"q9\",\"msg_type\":\"resubmit_request\"}") (codes "{}") (codes "{}") (codes "{\"msg_ids\":[]}") []
 
 -- 17 entries, 1 opening
-abbrev drawn_22 : List Line
+abbrev pub drawn_22 : List Line
 drawn_22 =
     line (Input (Open 0 Lru 1 3)) None true []
     ∷ line (Input (Up 2 Engine 0 0 (codes "conn-2"))) None true []
@@ -320,8 +334,11 @@ drawn_22 =
     ∷ []
 
 pub drawn_22_is_told : IsTold drawn_22
-unfolding digits escape_byte reserved_front next_word answer_id beat_id beat_request outcome_id resubmit_id header_text reply_type is_request submit_refused empty_object ok_content join_content beat_content error_content outcome_content resubmit_content connection_content history_content queue_member queue_content settled_member result_content engine_lost_text date_of day_text time_text date_digits civil_date from_year from_month encode_with
-drawn_22_is_told = record { goes = refl; rests = refl }
+unfolding digits escape_byte reserved_front next_word answer_id beat_id beat_request outcome_id resubmit_id header_text reply_type submit_refused empty_object ok_content join_content beat_content error_content outcome_content resubmit_content connection_content history_content queue_member queue_content settled_member result_content engine_lost_text date_of day_text time_text date_digits civil_date from_year from_month encode_with serde_json_on_literals is_utf8 chars event_of read_header is_request is_reply is_leave read_submit whole_timeouts ends_in_name request_of read_content read_task read_declined read_status
+drawn_22_is_told = record { goes = refl; reads = refl; rests = refl }
+
+pub drawn_22_legal : Legal (goes_on [] drawn_22)
+drawn_22_legal = told_legal drawn_22 drawn_22_is_told
 
 abbrev drawn_23_m0 : Message
 drawn_23_m0 = message [] (codes "{\"msg_id\":\"j1\",\"msg_type\":\"registration_request\"}") (codes "{}") (codes "{}") (codes "{\"uuid\":\"e0\"}") []
@@ -369,7 +386,7 @@ abbrev drawn_23_m14 : Message
 drawn_23_m14 = message [] (codes "{\"msg_id\":\"t13\",\"msg_type\":\"apply_request\",\"session\":\"s\",\"username\":\"u\"}") (codes "{}") (codes "{\"after\":\"t9\",\"follow\":{\"dependencies\":[\"t9\",\"t9\"],\"all\":false,\"success\":false,\"failure\":true},\"targets\":[\"e3\",\"e3\",\"nobody\"],\"timeout\":60}") (codes "{\"code\":\"4+3\"} ") ((codes "buf") ∷ (codes "buf") ∷ [])
 
 -- 27 entries, 1 opening
-abbrev drawn_23 : List Line
+abbrev pub drawn_23 : List Line
 drawn_23 =
     line (Input (Open 0 Lru 2 1)) None true []
     ∷ line (Input (Up 3 Engine 0 0 (codes "conn-3"))) None true []
@@ -401,8 +418,11 @@ drawn_23 =
     ∷ []
 
 pub drawn_23_is_told : IsTold drawn_23
-unfolding digits escape_byte reserved_front next_word answer_id beat_id beat_request outcome_id resubmit_id header_text reply_type is_request submit_refused empty_object ok_content join_content beat_content error_content outcome_content resubmit_content connection_content history_content queue_member queue_content settled_member result_content engine_lost_text date_of day_text time_text date_digits civil_date from_year from_month encode_with serde_json_on_literals is_utf8 chars read_header
-drawn_23_is_told = record { goes = refl; rests = refl }
+unfolding digits escape_byte reserved_front next_word answer_id beat_id beat_request outcome_id resubmit_id header_text reply_type submit_refused empty_object ok_content join_content beat_content error_content outcome_content resubmit_content connection_content history_content queue_member queue_content settled_member result_content engine_lost_text date_of day_text time_text date_digits civil_date from_year from_month encode_with serde_json_on_literals is_utf8 chars event_of read_header is_request is_reply is_leave read_submit whole_timeouts ends_in_name request_of read_content read_task read_declined read_status
+drawn_23_is_told = record { goes = refl; reads = refl; rests = refl }
+
+pub drawn_23_legal : Legal (goes_on [] drawn_23)
+drawn_23_legal = told_legal drawn_23 drawn_23_is_told
 
 abbrev drawn_24_m0 : Message
 drawn_24_m0 = message [] (codes "{\"msg_id\":\"j2\",\"msg_type\":\"registration_request\"}") (codes "{}") (codes "{}") (codes "{\"uuid\":\"e4\"}") []
@@ -450,7 +470,7 @@ abbrev drawn_24_m14 : Message
 drawn_24_m14 = message [] (codes "{\"msg_id\":\"r17\",\"msg_type\":\"apply_reply\"}") (codes "{\"msg_id\":\"t16\",\"x\":1}") (codes "{\"dependencies_met\":false}") (codes "{\"status\":\"ok\",\"result\":\"42\"}") ((codes "b") ∷ (codes "b") ∷ (codes "b") ∷ [])
 
 -- 28 entries, 1 opening
-abbrev drawn_24 : List Line
+abbrev pub drawn_24 : List Line
 drawn_24 =
     line (Input (Open 0 PlainRandom 2 1)) None true []
     ∷ line (Input (Up 5 Task 0 0 (codes "@@@@@@@@@@@@@@@@@@@@@@@@@@@@@@@@@@@@@@@@@@@@@@@@@@@@@@@@@@@@@@@@@@@@@@@@@@@@@@@@@@@@@@@@@@@@@@@@@@@@@@@@@@@@@@@@@@@@@@@@@@@@@@@@@@@@@@@@@@@@@@@@@@@@@@@@@@@@@@@@@@@@@@@@@@@@@@@@@@@@@@@@@@@@@@@@@@@@@@@@@@@@@@@@@@@@@@@@@@@@@@@@@@@@@@@@@@@@@@@@@@@@@@@@@@@@@@@"))) None true []
@@ -483,5 +503,8 @@ drawn_24 =
     ∷ []
 
 pub drawn_24_is_told : IsTold drawn_24
-unfolding digits escape_byte reserved_front next_word answer_id beat_id beat_request outcome_id resubmit_id header_text reply_type is_request submit_refused empty_object ok_content join_content beat_content error_content outcome_content resubmit_content connection_content history_content queue_member queue_content settled_member result_content engine_lost_text date_of day_text time_text date_digits civil_date from_year from_month encode_with serde_json_on_literals is_utf8 chars read_header
-drawn_24_is_told = record { goes = refl; rests = refl }
+unfolding digits escape_byte reserved_front next_word answer_id beat_id beat_request outcome_id resubmit_id header_text reply_type submit_refused empty_object ok_content join_content beat_content error_content outcome_content resubmit_content connection_content history_content queue_member queue_content settled_member result_content engine_lost_text date_of day_text time_text date_digits civil_date from_year from_month encode_with serde_json_on_literals is_utf8 chars event_of read_header is_request is_reply is_leave read_submit whole_timeouts ends_in_name request_of read_content read_task read_declined read_status
+drawn_24_is_told = record { goes = refl; reads = refl; rests = refl }
+
+pub drawn_24_legal : Legal (goes_on [] drawn_24)
+drawn_24_legal = told_legal drawn_24 drawn_24_is_told

@@ -1,4 +1,4 @@
--- Short histories that a second, independent model of the cluster drew at random, with what it says of each entry. No other module imports them.
+-- Short histories that a second, independent model of the cluster drew at random, with what it says of each entry. Nothing rests on them.
 use Rattle.std.proofs.Common.{List, [], ◌∷◌, Option, Some, None, Bool, true, false, refl}
 use Rattle.std.specs.Prelude.{codes}
 use Rattle.std.specs.Fmt.{digits}
@@ -18,12 +18,17 @@ use Rattle.cluster_types.specs.declared.event.Query.TheVariants.{Connection, Que
 use Rattle.cluster_types.specs.declared.out.Out.TheVariants.{Pass, Made}
 use Rattle.cluster_types.specs.declared.entry.Input.TheVariants.{Open, Up, Down, In, Beat, Time}
 use Rattle.cluster_types.specs.declared.entry.Entry.TheVariants.{Input, Hand, Settle, Lose}
-use Rattle.message_defs.specs.Event.{is_request}
+use Rattle.message_defs.specs.Event.{event_of, is_request, is_reply, is_leave}
+use Rattle.message_defs.specs.Points.{whole_timeouts, ends_in_name}
+use Rattle.message_defs.specs.Submit.{read_submit}
+use Rattle.message_defs.specs.Reply.{read_task, read_declined, read_status}
+use Rattle.message_defs.specs.Hub.{request_of, read_content}
 use Rattle.message_defs.specs.Header.{read_header}
 use Rattle.message_defs.specs.Texts.{answer_id, beat_id, beat_request, outcome_id, resubmit_id, header_text, reply_type, submit_refused, empty_object, ok_content, join_content, beat_content, error_content, outcome_content, resubmit_content, connection_content, history_content, queue_member, queue_content, settled_member, result_content}
 use Rattle.cluster_defs.specs.Acceptance.{no_dependency, reserved_front}
 use Rattle.cluster_defs.specs.Steps.{next_word}
-use Rattle.cluster_defs.proofs.Told.{Line, line, decision, message, dep, submission, IsTold}
+use Rattle.cluster_defs.specs.Histories.{Legal}
+use Rattle.cluster_defs.proofs.Told.{Line, line, decision, message, dep, submission, IsTold, goes_on, told_legal}
 
 abbrev drawn_25_m0 : Message
 drawn_25_m0 = message [] (codes "{\"msg_id\":\"j1\",\"msg_type\":\"registration_request\"}") (codes "{}") (codes "{}") (codes "{\"uuid\":\"e2\"}") []
@@ -89,7 +94,7 @@ abbrev drawn_25_m20 : Message
 drawn_25_m20 = message [] (codes "{\"msg_id\":\"t15\",\"msg_type\":\"execute_request\",\"session\":\"s\",\"username\":\"u\"}") (codes "{}") (codes "{\"retries\":1}") (codes "{\"code\":\"2+3\"}") []
 
 -- 32 entries, 1 opening
-abbrev drawn_25 : List Line
+abbrev pub drawn_25 : List Line
 drawn_25 =
     line (Input (Open 0 PlainRandom 1 2)) None true []
     ∷ line (Input (Up 2 Engine 0 0 (codes "conn-2"))) None true []
@@ -126,8 +131,11 @@ drawn_25 =
     ∷ []
 
 pub drawn_25_is_told : IsTold drawn_25
-unfolding digits escape_byte reserved_front next_word answer_id beat_id beat_request outcome_id resubmit_id header_text reply_type is_request submit_refused empty_object ok_content join_content beat_content error_content outcome_content resubmit_content connection_content history_content queue_member queue_content settled_member result_content engine_lost_text date_of day_text time_text date_digits civil_date from_year from_month encode_with
-drawn_25_is_told = record { goes = refl; rests = refl }
+unfolding digits escape_byte reserved_front next_word answer_id beat_id beat_request outcome_id resubmit_id header_text reply_type submit_refused empty_object ok_content join_content beat_content error_content outcome_content resubmit_content connection_content history_content queue_member queue_content settled_member result_content engine_lost_text date_of day_text time_text date_digits civil_date from_year from_month encode_with serde_json_on_literals is_utf8 chars event_of read_header is_request is_reply is_leave read_submit whole_timeouts ends_in_name request_of read_content read_task read_declined read_status
+drawn_25_is_told = record { goes = refl; reads = refl; rests = refl }
+
+pub drawn_25_legal : Legal (goes_on [] drawn_25)
+drawn_25_legal = told_legal drawn_25 drawn_25_is_told
 
 abbrev drawn_26_m0 : Message
 drawn_26_m0 = message [] (codes "{\"msg_id\":\"j1\",\"msg_type\":\"registration_request\"}") (codes "{}") (codes "{}") (codes "{\"uuid\":\"e3\"}") []
@@ -175,7 +183,7 @@ abbrev drawn_26_m14 : Message
 drawn_26_m14 = message [] (codes "{\"msg_id\":\"q16\",\"msg_type\":\"what\"}") (codes "{}") (codes "{}") (codes "{}") []
 
 -- 32 entries, 1 opening
-abbrev drawn_26 : List Line
+abbrev pub drawn_26 : List Line
 drawn_26 =
     line (Input (Open 0 Lru 0 2)) None true []
     ∷ line (Input (Up 2 Engine 0 0 (codes "c"))) None true []
@@ -212,8 +220,11 @@ drawn_26 =
     ∷ []
 
 pub drawn_26_is_told : IsTold drawn_26
-unfolding digits escape_byte reserved_front next_word answer_id beat_id beat_request outcome_id resubmit_id header_text reply_type is_request submit_refused empty_object ok_content join_content beat_content error_content outcome_content resubmit_content connection_content history_content queue_member queue_content settled_member result_content engine_lost_text date_of day_text time_text date_digits civil_date from_year from_month encode_with serde_json_on_literals is_utf8 chars read_header
-drawn_26_is_told = record { goes = refl; rests = refl }
+unfolding digits escape_byte reserved_front next_word answer_id beat_id beat_request outcome_id resubmit_id header_text reply_type submit_refused empty_object ok_content join_content beat_content error_content outcome_content resubmit_content connection_content history_content queue_member queue_content settled_member result_content engine_lost_text date_of day_text time_text date_digits civil_date from_year from_month encode_with serde_json_on_literals is_utf8 chars event_of read_header is_request is_reply is_leave read_submit whole_timeouts ends_in_name request_of read_content read_task read_declined read_status
+drawn_26_is_told = record { goes = refl; reads = refl; rests = refl }
+
+pub drawn_26_legal : Legal (goes_on [] drawn_26)
+drawn_26_legal = told_legal drawn_26 drawn_26_is_told
 
 abbrev drawn_27_m0 : Message
 drawn_27_m0 = message [] (codes "{\"msg_id\":\"j2\",\"msg_type\":\"registration_request\"}") (codes "{}") (codes "{}") (codes "{\"uuid\":\"e2\"}") []
@@ -285,7 +296,7 @@ abbrev drawn_27_m22 : Message
 drawn_27_m22 = message [] (codes "{\"msg_id\":\"q21\",\"msg_type\":\"purge_request\"}") (codes "{}") (codes "{}") (codes "{\"msg_ids\":[\"d16\",\"t15\",\"d11\",\"t3\",\"t3\"]}") []
 
 -- 39 entries, 1 opening
-abbrev drawn_27 : List Line
+abbrev pub drawn_27 : List Line
 drawn_27 =
     line (Input (Open 0 LeastLoad 1 2)) None true []
     ∷ line (Input (Up 1 Engine 0 0 (codes "conn-1"))) None true []
@@ -329,8 +340,11 @@ drawn_27 =
     ∷ []
 
 pub drawn_27_is_told : IsTold drawn_27
-unfolding digits escape_byte reserved_front next_word answer_id beat_id beat_request outcome_id resubmit_id header_text reply_type is_request submit_refused empty_object ok_content join_content beat_content error_content outcome_content resubmit_content connection_content history_content queue_member queue_content settled_member result_content engine_lost_text date_of day_text time_text date_digits civil_date from_year from_month encode_with
-drawn_27_is_told = record { goes = refl; rests = refl }
+unfolding digits escape_byte reserved_front next_word answer_id beat_id beat_request outcome_id resubmit_id header_text reply_type submit_refused empty_object ok_content join_content beat_content error_content outcome_content resubmit_content connection_content history_content queue_member queue_content settled_member result_content engine_lost_text date_of day_text time_text date_digits civil_date from_year from_month encode_with serde_json_on_literals is_utf8 chars event_of read_header is_request is_reply is_leave read_submit whole_timeouts ends_in_name request_of read_content read_task read_declined read_status
+drawn_27_is_told = record { goes = refl; reads = refl; rests = refl }
+
+pub drawn_27_legal : Legal (goes_on [] drawn_27)
+drawn_27_legal = told_legal drawn_27 drawn_27_is_told
 
 abbrev drawn_28_m0 : Message
 drawn_28_m0 = message [] (codes "{\"msg_id\":\"j1\",\"msg_type\":\"registration_request\"}") (codes "{}") (codes "{}") (codes "{\"uuid\":\"e5\"}") []
@@ -387,7 +401,7 @@ abbrev drawn_28_m17 : Message
 drawn_28_m17 = message [] (codes "{\"msg_id\":\"r16\",\"msg_type\":\"execute_reply\"}") (codes "{\"msg_id\":\"t3\",\"x\":1}") (codes "{\"dependencies_met\":false}") (codes "{\"status\":\"error\",\"result\":\"42\"}") ((codes "b") ∷ [])
 
 -- 34 entries, 1 opening
-abbrev drawn_28 : List Line
+abbrev pub drawn_28 : List Line
 drawn_28 =
     line (Input (Open 0 TwoBin 0 2)) None true []
     ∷ line (Input (Up 4 Engine 0 0 (codes "c"))) None true []
@@ -426,8 +440,11 @@ drawn_28 =
     ∷ []
 
 pub drawn_28_is_told : IsTold drawn_28
-unfolding digits escape_byte reserved_front next_word answer_id beat_id beat_request outcome_id resubmit_id header_text reply_type is_request submit_refused empty_object ok_content join_content beat_content error_content outcome_content resubmit_content connection_content history_content queue_member queue_content settled_member result_content engine_lost_text date_of day_text time_text date_digits civil_date from_year from_month encode_with
-drawn_28_is_told = record { goes = refl; rests = refl }
+unfolding digits escape_byte reserved_front next_word answer_id beat_id beat_request outcome_id resubmit_id header_text reply_type submit_refused empty_object ok_content join_content beat_content error_content outcome_content resubmit_content connection_content history_content queue_member queue_content settled_member result_content engine_lost_text date_of day_text time_text date_digits civil_date from_year from_month encode_with serde_json_on_literals is_utf8 chars event_of read_header is_request is_reply is_leave read_submit whole_timeouts ends_in_name request_of read_content read_task read_declined read_status
+drawn_28_is_told = record { goes = refl; reads = refl; rests = refl }
+
+pub drawn_28_legal : Legal (goes_on [] drawn_28)
+drawn_28_legal = told_legal drawn_28 drawn_28_is_told
 
 abbrev drawn_29_m0 : Message
 drawn_29_m0 = message [] (codes "{\"msg_id\":\"j1\",\"msg_type\":\"registration_request\"}") (codes "{}") (codes "{}") (codes "{\"uuid\":\"e2\"}") []
@@ -475,7 +492,7 @@ abbrev drawn_29_m14 : Message
 drawn_29_m14 = message [] (codes "{\"msg_id\":\"out-5\",\"session\":\"controller\",\"username\":\"controller\",\"date\":\"1986-09-21T19:19:47.286Z\",\"msg_type\":\"apply_reply\",\"version\":\"5.3\"}") (codes "{\"msg_id\":\"t7\",\"msg_type\":\"apply_request\",\"session\":\"s\",\"username\":\"u\"}") (codes "{}") (codes "{\"status\":\"error\",\"ename\":\"ImpossibleDependency\",\"evalue\":\"the dependencies of this task cannot be met\",\"traceback\":[]}") []
 
 -- 33 entries, 2 openings
-abbrev drawn_29 : List Line
+abbrev pub drawn_29 : List Line
 drawn_29 =
     line (Input (Open 0 PlainRandom 2 3)) None true []
     ∷ line (Input (Up 1 Engine 0 0 (codes "d"))) None true []
@@ -513,8 +530,11 @@ drawn_29 =
     ∷ []
 
 pub drawn_29_is_told : IsTold drawn_29
-unfolding digits escape_byte reserved_front next_word answer_id beat_id beat_request outcome_id resubmit_id header_text reply_type is_request submit_refused empty_object ok_content join_content beat_content error_content outcome_content resubmit_content connection_content history_content queue_member queue_content settled_member result_content engine_lost_text date_of day_text time_text date_digits civil_date from_year from_month encode_with serde_json_on_literals is_utf8 chars read_header
-drawn_29_is_told = record { goes = refl; rests = refl }
+unfolding digits escape_byte reserved_front next_word answer_id beat_id beat_request outcome_id resubmit_id header_text reply_type submit_refused empty_object ok_content join_content beat_content error_content outcome_content resubmit_content connection_content history_content queue_member queue_content settled_member result_content engine_lost_text date_of day_text time_text date_digits civil_date from_year from_month encode_with serde_json_on_literals is_utf8 chars event_of read_header is_request is_reply is_leave read_submit whole_timeouts ends_in_name request_of read_content read_task read_declined read_status
+drawn_29_is_told = record { goes = refl; reads = refl; rests = refl }
+
+pub drawn_29_legal : Legal (goes_on [] drawn_29)
+drawn_29_legal = told_legal drawn_29 drawn_29_is_told
 
 abbrev drawn_30_m0 : Message
 drawn_30_m0 = message [] (codes "{\"msg_id\":\"j1\",\"msg_type\":\"registration_request\"}") (codes "{}") (codes "{}") (codes "{\"uuid\":\"e4\"}") []
@@ -571,7 +591,7 @@ abbrev drawn_30_m17 : Message
 drawn_30_m17 = message [] (codes "{\"msg_id\":\"r2\",\"msg_type\":\"execute_reply\"}") (codes "{\"msg_id\":\"t4\"}") (codes "{}") (codes "{\"status\":\"ok\"}") []
 
 -- 37 entries, 1 opening
-abbrev drawn_30 : List Line
+abbrev pub drawn_30 : List Line
 drawn_30 =
     line (Input (Open 0 PlainRandom 1 1)) None true []
     ∷ line (Input (Up 2 Engine 0 0 (codes "x2"))) None true []
@@ -613,5 +633,8 @@ drawn_30 =
     ∷ []
 
 pub drawn_30_is_told : IsTold drawn_30
-unfolding digits escape_byte reserved_front next_word answer_id beat_id beat_request outcome_id resubmit_id header_text reply_type is_request submit_refused empty_object ok_content join_content beat_content error_content outcome_content resubmit_content connection_content history_content queue_member queue_content settled_member result_content engine_lost_text date_of day_text time_text date_digits civil_date from_year from_month encode_with
-drawn_30_is_told = record { goes = refl; rests = refl }
+unfolding digits escape_byte reserved_front next_word answer_id beat_id beat_request outcome_id resubmit_id header_text reply_type submit_refused empty_object ok_content join_content beat_content error_content outcome_content resubmit_content connection_content history_content queue_member queue_content settled_member result_content engine_lost_text date_of day_text time_text date_digits civil_date from_year from_month encode_with serde_json_on_literals is_utf8 chars event_of read_header is_request is_reply is_leave read_submit whole_timeouts ends_in_name request_of read_content read_task read_declined read_status
+drawn_30_is_told = record { goes = refl; reads = refl; rests = refl }
+
+pub drawn_30_legal : Legal (goes_on [] drawn_30)
+drawn_30_legal = told_legal drawn_30 drawn_30_is_told

@@ -1,4 +1,4 @@
--- Short histories that a second, independent model of the cluster drew at random, with what it says of each entry. No other module imports them.
+-- Short histories that a second, independent model of the cluster drew at random, with what it says of each entry. Nothing rests on them.
 use Rattle.std.proofs.Common.{List, [], ◌∷◌, Option, Some, None, Bool, true, false, refl}
 use Rattle.std.specs.Prelude.{codes}
 use Rattle.std.specs.Fmt.{digits}
@@ -18,12 +18,17 @@ use Rattle.cluster_types.specs.declared.event.Query.TheVariants.{Connection, Que
 use Rattle.cluster_types.specs.declared.out.Out.TheVariants.{Pass, Made}
 use Rattle.cluster_types.specs.declared.entry.Input.TheVariants.{Open, Up, Down, In, Beat, Time}
 use Rattle.cluster_types.specs.declared.entry.Entry.TheVariants.{Input, Hand, Settle, Lose}
-use Rattle.message_defs.specs.Event.{is_request}
+use Rattle.message_defs.specs.Event.{event_of, is_request, is_reply, is_leave}
+use Rattle.message_defs.specs.Points.{whole_timeouts, ends_in_name}
+use Rattle.message_defs.specs.Submit.{read_submit}
+use Rattle.message_defs.specs.Reply.{read_task, read_declined, read_status}
+use Rattle.message_defs.specs.Hub.{request_of, read_content}
 use Rattle.message_defs.specs.Header.{read_header}
 use Rattle.message_defs.specs.Texts.{answer_id, beat_id, beat_request, outcome_id, resubmit_id, header_text, reply_type, submit_refused, empty_object, ok_content, join_content, beat_content, error_content, outcome_content, resubmit_content, connection_content, history_content, queue_member, queue_content, settled_member, result_content}
 use Rattle.cluster_defs.specs.Acceptance.{no_dependency, reserved_front}
 use Rattle.cluster_defs.specs.Steps.{next_word}
-use Rattle.cluster_defs.proofs.Told.{Line, line, decision, message, dep, submission, IsTold}
+use Rattle.cluster_defs.specs.Histories.{Legal}
+use Rattle.cluster_defs.proofs.Told.{Line, line, decision, message, dep, submission, IsTold, goes_on, told_legal}
 
 abbrev drawn_31_m0 : Message
 drawn_31_m0 = message [] (codes "{\"msg_id\":\"j1\",\"msg_type\":\"registration_request\"}") (codes "{}") (codes "{}") (codes "{\"uuid\":\"e4\"}") []
@@ -83,7 +88,7 @@ abbrev drawn_31_m18 : Message
 drawn_31_m18 = message [] (codes "{\"msg_id\":\"d7\",\"msg_type\":\"execute_request\"}") (codes "{}") (codes "{}") (codes "{\"code\":\"1\"}") []
 
 -- 40 entries, 2 openings
-abbrev drawn_31 : List Line
+abbrev pub drawn_31 : List Line
 drawn_31 =
     line (Input (Open 0 Lru 1 3)) None true []
     ∷ line (Input (Up 2 Engine 0 0 (codes "LLLLLLLLLLLLLLLLLLLLLLLLLLLLLLLLLLLLLLLLLLLLLLLLLLLLLLLLLLLLLLLLLLLLLLLLLLLLLLLLLLLLLLLLLLLLLLLLLLLLLLLLLLLLLLLLLLLLLLLLLLLLLLLLLLLLLLLLLLLLLLLLLLLLLLLLLLLLLLLLLLLLLLLLLLLLLLLLLLLLLLLLLLLLLLLLLLLLLLLLLLLLLLLLLLLLLLLLLLLLLLLLLLLLLLLLLLLLLLLLLLLLLLLLLLLLLLL"))) None true []
@@ -128,8 +133,11 @@ drawn_31 =
     ∷ []
 
 pub drawn_31_is_told : IsTold drawn_31
-unfolding digits escape_byte reserved_front next_word answer_id beat_id beat_request outcome_id resubmit_id header_text reply_type is_request submit_refused empty_object ok_content join_content beat_content error_content outcome_content resubmit_content connection_content history_content queue_member queue_content settled_member result_content engine_lost_text date_of day_text time_text date_digits civil_date from_year from_month encode_with
-drawn_31_is_told = record { goes = refl; rests = refl }
+unfolding digits escape_byte reserved_front next_word answer_id beat_id beat_request outcome_id resubmit_id header_text reply_type submit_refused empty_object ok_content join_content beat_content error_content outcome_content resubmit_content connection_content history_content queue_member queue_content settled_member result_content engine_lost_text date_of day_text time_text date_digits civil_date from_year from_month encode_with serde_json_on_literals is_utf8 chars event_of read_header is_request is_reply is_leave read_submit whole_timeouts ends_in_name request_of read_content read_task read_declined read_status
+drawn_31_is_told = record { goes = refl; reads = refl; rests = refl }
+
+pub drawn_31_legal : Legal (goes_on [] drawn_31)
+drawn_31_legal = told_legal drawn_31 drawn_31_is_told
 
 abbrev drawn_32_m0 : Message
 drawn_32_m0 = message [] (codes "{\"msg_id\":\"j1\",\"msg_type\":\"registration_request\"}") (codes "{}") (codes "{}") (codes "{\"uuid\":\"e3\"}") []
@@ -183,7 +191,7 @@ abbrev drawn_32_m16 : Message
 drawn_32_m16 = message [] (codes "{\"msg_id\":\"t9\",\"msg_type\":\"execute_request\",\"session\":\"s\",\"username\":\"u\"}") (codes "{}") (codes "{\"targets\":[\"e4\",\"nobody\"]}") (codes "{\"code\":\"1+4\"}") ((codes "buf") ∷ (codes "buf") ∷ [])
 
 -- 42 entries, 2 openings
-abbrev drawn_32 : List Line
+abbrev pub drawn_32 : List Line
 drawn_32 =
     line (Input (Open 0 Lru 1 3)) None true []
     ∷ line (Input (Up 2 Engine 0 0 (codes "conn-2"))) None true []
@@ -230,8 +238,11 @@ drawn_32 =
     ∷ []
 
 pub drawn_32_is_told : IsTold drawn_32
-unfolding digits escape_byte reserved_front next_word answer_id beat_id beat_request outcome_id resubmit_id header_text reply_type is_request submit_refused empty_object ok_content join_content beat_content error_content outcome_content resubmit_content connection_content history_content queue_member queue_content settled_member result_content engine_lost_text date_of day_text time_text date_digits civil_date from_year from_month encode_with
-drawn_32_is_told = record { goes = refl; rests = refl }
+unfolding digits escape_byte reserved_front next_word answer_id beat_id beat_request outcome_id resubmit_id header_text reply_type submit_refused empty_object ok_content join_content beat_content error_content outcome_content resubmit_content connection_content history_content queue_member queue_content settled_member result_content engine_lost_text date_of day_text time_text date_digits civil_date from_year from_month encode_with serde_json_on_literals is_utf8 chars event_of read_header is_request is_reply is_leave read_submit whole_timeouts ends_in_name request_of read_content read_task read_declined read_status
+drawn_32_is_told = record { goes = refl; reads = refl; rests = refl }
+
+pub drawn_32_legal : Legal (goes_on [] drawn_32)
+drawn_32_legal = told_legal drawn_32 drawn_32_is_told
 
 abbrev drawn_33_m0 : Message
 drawn_33_m0 = message [] (codes "{\"msg_id\":\"j1\",\"msg_type\":\"registration_request\"}") (codes "{}") (codes "{}") (codes "{\"uuid\":\"e4\"}") []
@@ -285,7 +296,7 @@ abbrev drawn_33_m16 : Message
 drawn_33_m16 = message [] (codes "{\"msg_id\":\"r19\",\"msg_type\":\"apply_reply\"}") (codes "{\"msg_id\":\"t18\",\"x\":1}") (codes "{\"dependencies_met\":true}") (codes "{\"status\":\"aborted\",\"result\":\"42\"}") []
 
 -- 41 entries, 2 openings
-abbrev drawn_33 : List Line
+abbrev pub drawn_33 : List Line
 drawn_33 =
     line (Input (Open 0 LeastLoad 2 3)) None true []
     ∷ line (Input (Up 4 Engine 0 0 (codes "c"))) None true []
@@ -331,8 +342,11 @@ drawn_33 =
     ∷ []
 
 pub drawn_33_is_told : IsTold drawn_33
-unfolding digits escape_byte reserved_front next_word answer_id beat_id beat_request outcome_id resubmit_id header_text reply_type is_request submit_refused empty_object ok_content join_content beat_content error_content outcome_content resubmit_content connection_content history_content queue_member queue_content settled_member result_content engine_lost_text date_of day_text time_text date_digits civil_date from_year from_month encode_with
-drawn_33_is_told = record { goes = refl; rests = refl }
+unfolding digits escape_byte reserved_front next_word answer_id beat_id beat_request outcome_id resubmit_id header_text reply_type submit_refused empty_object ok_content join_content beat_content error_content outcome_content resubmit_content connection_content history_content queue_member queue_content settled_member result_content engine_lost_text date_of day_text time_text date_digits civil_date from_year from_month encode_with serde_json_on_literals is_utf8 chars event_of read_header is_request is_reply is_leave read_submit whole_timeouts ends_in_name request_of read_content read_task read_declined read_status
+drawn_33_is_told = record { goes = refl; reads = refl; rests = refl }
+
+pub drawn_33_legal : Legal (goes_on [] drawn_33)
+drawn_33_legal = told_legal drawn_33 drawn_33_is_told
 
 abbrev drawn_34_m0 : Message
 drawn_34_m0 = message [] (codes "{\"msg_id\":\"q3\",\"msg_type\":\"queue_request\"}") (codes "{}") (codes "{}") (codes "{\"targets\":[1,0,1],\"verbose\":true}") []
@@ -362,7 +376,7 @@ abbrev drawn_34_m8 : Message
 drawn_34_m8 = message [] (codes "{\"msg_id\":\"q13\",\"msg_type\":\"queue_request\"}") (codes "{}") (codes "{}") (codes "{\"targets\":[99],\"verbose\":false}") []
 
 -- 19 entries, 1 opening
-abbrev drawn_34 : List Line
+abbrev pub drawn_34 : List Line
 drawn_34 =
     line (Input (Open 0 LeastLoad 1 3)) None true []
     ∷ line (Input (Up 1 Engine 0 0 (codes "d"))) None true []
@@ -386,8 +400,11 @@ drawn_34 =
     ∷ []
 
 pub drawn_34_is_told : IsTold drawn_34
-unfolding digits escape_byte reserved_front next_word answer_id beat_id beat_request outcome_id resubmit_id header_text reply_type is_request submit_refused empty_object ok_content join_content beat_content error_content outcome_content resubmit_content connection_content history_content queue_member queue_content settled_member result_content engine_lost_text date_of day_text time_text date_digits civil_date from_year from_month encode_with
-drawn_34_is_told = record { goes = refl; rests = refl }
+unfolding digits escape_byte reserved_front next_word answer_id beat_id beat_request outcome_id resubmit_id header_text reply_type submit_refused empty_object ok_content join_content beat_content error_content outcome_content resubmit_content connection_content history_content queue_member queue_content settled_member result_content engine_lost_text date_of day_text time_text date_digits civil_date from_year from_month encode_with serde_json_on_literals is_utf8 chars event_of read_header is_request is_reply is_leave read_submit whole_timeouts ends_in_name request_of read_content read_task read_declined read_status
+drawn_34_is_told = record { goes = refl; reads = refl; rests = refl }
+
+pub drawn_34_legal : Legal (goes_on [] drawn_34)
+drawn_34_legal = told_legal drawn_34 drawn_34_is_told
 
 abbrev drawn_35_m0 : Message
 drawn_35_m0 = message [] (codes "{\"msg_id\":\"j1\",\"msg_type\":\"registration_request\"}") (codes "{}") (codes "{}") (codes "{\"uuid\":\"engine \\u00e9\"}") []
@@ -414,7 +431,7 @@ abbrev drawn_35_m7 : Message
 drawn_35_m7 = message [] (codes "{\"msg_id\":\"q15\",\"msg_type\":\"purge_request\"}") (codes "{}") (codes "{}") (codes "{\"msg_ids\":[\"t7\"]}") []
 
 -- 18 entries, 1 opening
-abbrev drawn_35 : List Line
+abbrev pub drawn_35 : List Line
 drawn_35 =
     line (Input (Open 0 Lru 2 1)) None true []
     ∷ line (Input (Up 2 Engine 0 0 (codes "conn-2"))) None true []
@@ -437,8 +454,11 @@ drawn_35 =
     ∷ []
 
 pub drawn_35_is_told : IsTold drawn_35
-unfolding digits escape_byte reserved_front next_word answer_id beat_id beat_request outcome_id resubmit_id header_text reply_type is_request submit_refused empty_object ok_content join_content beat_content error_content outcome_content resubmit_content connection_content history_content queue_member queue_content settled_member result_content engine_lost_text date_of day_text time_text date_digits civil_date from_year from_month encode_with
-drawn_35_is_told = record { goes = refl; rests = refl }
+unfolding digits escape_byte reserved_front next_word answer_id beat_id beat_request outcome_id resubmit_id header_text reply_type submit_refused empty_object ok_content join_content beat_content error_content outcome_content resubmit_content connection_content history_content queue_member queue_content settled_member result_content engine_lost_text date_of day_text time_text date_digits civil_date from_year from_month encode_with serde_json_on_literals is_utf8 chars event_of read_header is_request is_reply is_leave read_submit whole_timeouts ends_in_name request_of read_content read_task read_declined read_status
+drawn_35_is_told = record { goes = refl; reads = refl; rests = refl }
+
+pub drawn_35_legal : Legal (goes_on [] drawn_35)
+drawn_35_legal = told_legal drawn_35 drawn_35_is_told
 
 abbrev drawn_36_m0 : Message
 drawn_36_m0 = message [] (codes "{\"msg_id\":\"j1\",\"msg_type\":\"registration_request\"}") (codes "{}") (codes "{}") (codes "{\"uuid\":\"e5\"}") []
@@ -507,7 +527,7 @@ abbrev drawn_36_m21 : Message
 drawn_36_m21 = message [] (codes "{\"msg_id\":\"t15\",\"msg_type\":\"apply_request\",\"session\":\"s\",\"username\":\"u\"}") (codes "{}") (codes "{\"timeout\":5}") (codes "{\"code\":\"1+5\"}") []
 
 -- 38 entries, 1 opening
-abbrev drawn_36 : List Line
+abbrev pub drawn_36 : List Line
 drawn_36 =
     line (Input (Open 0 PlainRandom 2 1)) None true []
     ∷ line (Input (Up 1 Engine 0 0 (codes "l"))) None true []
@@ -550,5 +570,8 @@ drawn_36 =
     ∷ []
 
 pub drawn_36_is_told : IsTold drawn_36
-unfolding digits escape_byte reserved_front next_word answer_id beat_id beat_request outcome_id resubmit_id header_text reply_type is_request submit_refused empty_object ok_content join_content beat_content error_content outcome_content resubmit_content connection_content history_content queue_member queue_content settled_member result_content engine_lost_text date_of day_text time_text date_digits civil_date from_year from_month encode_with
-drawn_36_is_told = record { goes = refl; rests = refl }
+unfolding digits escape_byte reserved_front next_word answer_id beat_id beat_request outcome_id resubmit_id header_text reply_type submit_refused empty_object ok_content join_content beat_content error_content outcome_content resubmit_content connection_content history_content queue_member queue_content settled_member result_content engine_lost_text date_of day_text time_text date_digits civil_date from_year from_month encode_with serde_json_on_literals is_utf8 chars event_of read_header is_request is_reply is_leave read_submit whole_timeouts ends_in_name request_of read_content read_task read_declined read_status
+drawn_36_is_told = record { goes = refl; reads = refl; rests = refl }
+
+pub drawn_36_legal : Legal (goes_on [] drawn_36)
+drawn_36_legal = told_legal drawn_36 drawn_36_is_told

@@ -1,4 +1,4 @@
--- Worked rows on dependencies, targets and draws, computed. No other module imports them.
+-- Worked rows on dependencies, targets and draws, computed. Nothing rests on them.
 use Rattle.std.proofs.Common.{List, [], ◌∷◌, Option, Some, None, Bool, true, false, refl}
 use Rattle.std.specs.Prelude.{codes}
 use Rattle.std.specs.Fmt.{digits}
@@ -18,12 +18,17 @@ use Rattle.cluster_types.specs.declared.event.Query.TheVariants.{Connection, Que
 use Rattle.cluster_types.specs.declared.out.Out.TheVariants.{Pass, Made}
 use Rattle.cluster_types.specs.declared.entry.Input.TheVariants.{Open, Up, Down, In, Beat, Time}
 use Rattle.cluster_types.specs.declared.entry.Entry.TheVariants.{Input, Hand, Settle, Lose}
-use Rattle.message_defs.specs.Event.{is_request}
+use Rattle.message_defs.specs.Event.{event_of, is_request, is_reply, is_leave}
+use Rattle.message_defs.specs.Points.{whole_timeouts, ends_in_name}
+use Rattle.message_defs.specs.Submit.{read_submit}
+use Rattle.message_defs.specs.Reply.{read_task, read_declined, read_status}
+use Rattle.message_defs.specs.Hub.{request_of, read_content}
 use Rattle.message_defs.specs.Header.{read_header}
 use Rattle.message_defs.specs.Texts.{answer_id, beat_id, beat_request, outcome_id, resubmit_id, header_text, reply_type, submit_refused, empty_object, ok_content, join_content, beat_content, error_content, outcome_content, resubmit_content, connection_content, history_content, queue_member, queue_content, settled_member, result_content}
 use Rattle.cluster_defs.specs.Acceptance.{no_dependency, reserved_front}
 use Rattle.cluster_defs.specs.Steps.{next_word}
-use Rattle.cluster_defs.proofs.Told.{Line, line, decision, message, dep, submission, IsTold}
+use Rattle.cluster_defs.specs.Histories.{Legal}
+use Rattle.cluster_defs.proofs.Told.{Line, line, decision, message, dep, submission, IsTold, goes_on, told_legal}
 
 abbrev after_both_kinds_met_m0 : Message
 after_both_kinds_met_m0 = message [] (codes "{\"msg_id\":\"join-e0\",\"msg_type\":\"registration_request\"}") (codes "{}") (codes "{}") (codes "{\"uuid\":\"e0\"}") []
@@ -44,7 +49,7 @@ abbrev after_both_kinds_met_m5 : Message
 after_both_kinds_met_m5 = message [] (codes "{\"msg_id\":\"t\",\"msg_type\":\"execute_request\"}") (codes "{}") (codes "{\"after\":{\"dependencies\":[\"x\",\"y\"],\"success\":true,\"failure\":true}}") (codes "{\"code\":\"6*7\"}") []
 
 -- `x` completed and `y` failed: `after` of both with `success` and `failure` is met
-abbrev after_both_kinds_met : List Line
+abbrev pub after_both_kinds_met : List Line
 after_both_kinds_met =
     line (Input (Open 0 LeastLoad 1 10)) None true []
     ∷ line (Input (Up 1 Engine 0 0 (codes "e"))) None true []
@@ -63,8 +68,11 @@ after_both_kinds_met =
     ∷ []
 
 pub after_both_kinds_met_is_told : IsTold after_both_kinds_met
-unfolding digits escape_byte reserved_front next_word answer_id beat_id beat_request outcome_id resubmit_id header_text reply_type is_request submit_refused empty_object ok_content join_content beat_content error_content outcome_content resubmit_content connection_content history_content queue_member queue_content settled_member result_content engine_lost_text date_of day_text time_text date_digits civil_date from_year from_month encode_with
-after_both_kinds_met_is_told = record { goes = refl; rests = refl }
+unfolding digits escape_byte reserved_front next_word answer_id beat_id beat_request outcome_id resubmit_id header_text reply_type submit_refused empty_object ok_content join_content beat_content error_content outcome_content resubmit_content connection_content history_content queue_member queue_content settled_member result_content engine_lost_text date_of day_text time_text date_digits civil_date from_year from_month encode_with serde_json_on_literals is_utf8 chars event_of read_header is_request is_reply is_leave read_submit whole_timeouts ends_in_name request_of read_content read_task read_declined read_status
+after_both_kinds_met_is_told = record { goes = refl; reads = refl; rests = refl }
+
+pub after_both_kinds_met_legal : Legal (goes_on [] after_both_kinds_met)
+after_both_kinds_met_legal = told_legal after_both_kinds_met after_both_kinds_met_is_told
 
 abbrev after_both_kinds_default_m0 : Message
 after_both_kinds_default_m0 = message [] (codes "{\"msg_id\":\"join-e0\",\"msg_type\":\"registration_request\"}") (codes "{}") (codes "{}") (codes "{\"uuid\":\"e0\"}") []
@@ -88,7 +96,7 @@ abbrev after_both_kinds_default_m6 : Message
 after_both_kinds_default_m6 = message [] (codes "{\"msg_id\":\"out-3\",\"session\":\"controller\",\"username\":\"controller\",\"date\":\"1970-01-01T00:00:00.000Z\",\"msg_type\":\"execute_reply\",\"version\":\"5.3\"}") (codes "{\"msg_id\":\"t\",\"msg_type\":\"execute_request\"}") (codes "{}") (codes "{\"status\":\"error\",\"ename\":\"ImpossibleDependency\",\"evalue\":\"the dependencies of this task cannot be met\",\"traceback\":[]}") []
 
 -- with the defaults it is impossible
-abbrev after_both_kinds_default : List Line
+abbrev pub after_both_kinds_default : List Line
 after_both_kinds_default =
     line (Input (Open 0 LeastLoad 1 10)) None true []
     ∷ line (Input (Up 1 Engine 0 0 (codes "e"))) None true []
@@ -107,8 +115,11 @@ after_both_kinds_default =
     ∷ []
 
 pub after_both_kinds_default_is_told : IsTold after_both_kinds_default
-unfolding digits escape_byte reserved_front next_word answer_id beat_id beat_request outcome_id resubmit_id header_text reply_type is_request submit_refused empty_object ok_content join_content beat_content error_content outcome_content resubmit_content connection_content history_content queue_member queue_content settled_member result_content engine_lost_text date_of day_text time_text date_digits civil_date from_year from_month encode_with
-after_both_kinds_default_is_told = record { goes = refl; rests = refl }
+unfolding digits escape_byte reserved_front next_word answer_id beat_id beat_request outcome_id resubmit_id header_text reply_type submit_refused empty_object ok_content join_content beat_content error_content outcome_content resubmit_content connection_content history_content queue_member queue_content settled_member result_content engine_lost_text date_of day_text time_text date_digits civil_date from_year from_month encode_with serde_json_on_literals is_utf8 chars event_of read_header is_request is_reply is_leave read_submit whole_timeouts ends_in_name request_of read_content read_task read_declined read_status
+after_both_kinds_default_is_told = record { goes = refl; reads = refl; rests = refl }
+
+pub after_both_kinds_default_legal : Legal (goes_on [] after_both_kinds_default)
+after_both_kinds_default_legal = told_legal after_both_kinds_default after_both_kinds_default_is_told
 
 abbrev follow_two_engines_m0 : Message
 follow_two_engines_m0 = message [] (codes "{\"msg_id\":\"join-e0\",\"msg_type\":\"registration_request\"}") (codes "{}") (codes "{}") (codes "{\"uuid\":\"e0\"}") []
@@ -135,7 +146,7 @@ abbrev follow_two_engines_m7 : Message
 follow_two_engines_m7 = message [] (codes "{\"msg_id\":\"out-3\",\"session\":\"controller\",\"username\":\"controller\",\"date\":\"1970-01-01T00:00:00.000Z\",\"msg_type\":\"execute_reply\",\"version\":\"5.3\"}") (codes "{\"msg_id\":\"t\",\"msg_type\":\"execute_request\"}") (codes "{}") (codes "{\"status\":\"error\",\"ename\":\"ImpossibleDependency\",\"evalue\":\"the dependencies of this task cannot be met\",\"traceback\":[]}") []
 
 -- `follow` of two tasks that completed on two engines is impossible at once
-abbrev follow_two_engines : List Line
+abbrev pub follow_two_engines : List Line
 follow_two_engines =
     line (Input (Open 0 LeastLoad 1 10)) None true []
     ∷ line (Input (Up 1 Engine 0 0 (codes "e"))) None true []
@@ -156,8 +167,11 @@ follow_two_engines =
     ∷ []
 
 pub follow_two_engines_is_told : IsTold follow_two_engines
-unfolding digits escape_byte reserved_front next_word answer_id beat_id beat_request outcome_id resubmit_id header_text reply_type is_request submit_refused empty_object ok_content join_content beat_content error_content outcome_content resubmit_content connection_content history_content queue_member queue_content settled_member result_content engine_lost_text date_of day_text time_text date_digits civil_date from_year from_month encode_with
-follow_two_engines_is_told = record { goes = refl; rests = refl }
+unfolding digits escape_byte reserved_front next_word answer_id beat_id beat_request outcome_id resubmit_id header_text reply_type submit_refused empty_object ok_content join_content beat_content error_content outcome_content resubmit_content connection_content history_content queue_member queue_content settled_member result_content engine_lost_text date_of day_text time_text date_digits civil_date from_year from_month encode_with serde_json_on_literals is_utf8 chars event_of read_header is_request is_reply is_leave read_submit whole_timeouts ends_in_name request_of read_content read_task read_declined read_status
+follow_two_engines_is_told = record { goes = refl; reads = refl; rests = refl }
+
+pub follow_two_engines_legal : Legal (goes_on [] follow_two_engines)
+follow_two_engines_legal = told_legal follow_two_engines follow_two_engines_is_told
 
 abbrev invalid_dependency_m0 : Message
 invalid_dependency_m0 = message [] (codes "{\"msg_id\":\"join-e0\",\"msg_type\":\"registration_request\"}") (codes "{}") (codes "{}") (codes "{\"uuid\":\"e0\"}") []
@@ -175,7 +189,7 @@ abbrev invalid_dependency_m4 : Message
 invalid_dependency_m4 = message [] (codes "{\"msg_id\":\"out-2\",\"session\":\"controller\",\"username\":\"controller\",\"date\":\"1970-01-01T00:00:00.000Z\",\"msg_type\":\"execute_reply\",\"version\":\"5.3\"}") (codes "{\"msg_id\":\"b\",\"msg_type\":\"execute_request\"}") (codes "{}") (codes "{\"status\":\"error\",\"ename\":\"InvalidDependency\",\"evalue\":\"a dependency is unknown or is the task itself\",\"traceback\":[]}") []
 
 -- a task that waits for itself, and one that waits for an unknown id: invalid both, no hand-out
-abbrev invalid_dependency : List Line
+abbrev pub invalid_dependency : List Line
 invalid_dependency =
     line (Input (Open 0 LeastLoad 1 10)) None true []
     ∷ line (Input (Up 1 Engine 0 0 (codes "e"))) None true []
@@ -188,8 +202,11 @@ invalid_dependency =
     ∷ []
 
 pub invalid_dependency_is_told : IsTold invalid_dependency
-unfolding digits escape_byte reserved_front next_word answer_id beat_id beat_request outcome_id resubmit_id header_text reply_type is_request submit_refused empty_object ok_content join_content beat_content error_content outcome_content resubmit_content connection_content history_content queue_member queue_content settled_member result_content engine_lost_text date_of day_text time_text date_digits civil_date from_year from_month encode_with
-invalid_dependency_is_told = record { goes = refl; rests = refl }
+unfolding digits escape_byte reserved_front next_word answer_id beat_id beat_request outcome_id resubmit_id header_text reply_type submit_refused empty_object ok_content join_content beat_content error_content outcome_content resubmit_content connection_content history_content queue_member queue_content settled_member result_content engine_lost_text date_of day_text time_text date_digits civil_date from_year from_month encode_with serde_json_on_literals is_utf8 chars event_of read_header is_request is_reply is_leave read_submit whole_timeouts ends_in_name request_of read_content read_task read_declined read_status
+invalid_dependency_is_told = record { goes = refl; reads = refl; rests = refl }
+
+pub invalid_dependency_legal : Legal (goes_on [] invalid_dependency)
+invalid_dependency_legal = told_legal invalid_dependency invalid_dependency_is_told
 
 abbrev declines_wait_m0 : Message
 declines_wait_m0 = message [] (codes "{\"msg_id\":\"join-e0\",\"msg_type\":\"registration_request\"}") (codes "{}") (codes "{}") (codes "{\"uuid\":\"e0\"}") []
@@ -207,7 +224,7 @@ abbrev declines_wait_m4 : Message
 declines_wait_m4 = message [] (codes "{\"msg_id\":\"r2\",\"msg_type\":\"execute_reply\"}") (codes "{\"msg_id\":\"a\"}") (codes "{\"dependencies_met\":false}") (codes "{\"status\":\"ok\"}") []
 
 -- two engines decline: the task waits
-abbrev declines_wait : List Line
+abbrev pub declines_wait : List Line
 declines_wait =
     line (Input (Open 0 LeastLoad 1 10)) None true []
     ∷ line (Input (Up 1 Engine 0 0 (codes "e"))) None true []
@@ -223,8 +240,11 @@ declines_wait =
     ∷ []
 
 pub declines_wait_is_told : IsTold declines_wait
-unfolding digits escape_byte reserved_front next_word answer_id beat_id beat_request outcome_id resubmit_id header_text reply_type is_request submit_refused empty_object ok_content join_content beat_content error_content outcome_content resubmit_content connection_content history_content queue_member queue_content settled_member result_content engine_lost_text date_of day_text time_text date_digits civil_date from_year from_month encode_with
-declines_wait_is_told = record { goes = refl; rests = refl }
+unfolding digits escape_byte reserved_front next_word answer_id beat_id beat_request outcome_id resubmit_id header_text reply_type submit_refused empty_object ok_content join_content beat_content error_content outcome_content resubmit_content connection_content history_content queue_member queue_content settled_member result_content engine_lost_text date_of day_text time_text date_digits civil_date from_year from_month encode_with serde_json_on_literals is_utf8 chars event_of read_header is_request is_reply is_leave read_submit whole_timeouts ends_in_name request_of read_content read_task read_declined read_status
+declines_wait_is_told = record { goes = refl; reads = refl; rests = refl }
+
+pub declines_wait_legal : Legal (goes_on [] declines_wait)
+declines_wait_legal = told_legal declines_wait declines_wait_is_told
 
 abbrev declines_of_targets_m0 : Message
 declines_of_targets_m0 = message [] (codes "{\"msg_id\":\"join-e0\",\"msg_type\":\"registration_request\"}") (codes "{}") (codes "{}") (codes "{\"uuid\":\"e0\"}") []
@@ -245,7 +265,7 @@ abbrev declines_of_targets_m5 : Message
 declines_of_targets_m5 = message [] (codes "{\"msg_id\":\"out-1\",\"session\":\"controller\",\"username\":\"controller\",\"date\":\"1970-01-01T00:00:00.000Z\",\"msg_type\":\"execute_reply\",\"version\":\"5.3\"}") (codes "{\"msg_id\":\"a\",\"msg_type\":\"execute_request\"}") (codes "{}") (codes "{\"status\":\"error\",\"ename\":\"ImpossibleDependency\",\"evalue\":\"the dependencies of this task cannot be met\",\"traceback\":[]}") []
 
 -- where both are its targets it is impossible after the second
-abbrev declines_of_targets : List Line
+abbrev pub declines_of_targets : List Line
 declines_of_targets =
     line (Input (Open 0 LeastLoad 1 10)) None true []
     ∷ line (Input (Up 1 Engine 0 0 (codes "e"))) None true []
@@ -262,8 +282,11 @@ declines_of_targets =
     ∷ []
 
 pub declines_of_targets_is_told : IsTold declines_of_targets
-unfolding digits escape_byte reserved_front next_word answer_id beat_id beat_request outcome_id resubmit_id header_text reply_type is_request submit_refused empty_object ok_content join_content beat_content error_content outcome_content resubmit_content connection_content history_content queue_member queue_content settled_member result_content engine_lost_text date_of day_text time_text date_digits civil_date from_year from_month encode_with
-declines_of_targets_is_told = record { goes = refl; rests = refl }
+unfolding digits escape_byte reserved_front next_word answer_id beat_id beat_request outcome_id resubmit_id header_text reply_type submit_refused empty_object ok_content join_content beat_content error_content outcome_content resubmit_content connection_content history_content queue_member queue_content settled_member result_content engine_lost_text date_of day_text time_text date_digits civil_date from_year from_month encode_with serde_json_on_literals is_utf8 chars event_of read_header is_request is_reply is_leave read_submit whole_timeouts ends_in_name request_of read_content read_task read_declined read_status
+declines_of_targets_is_told = record { goes = refl; reads = refl; rests = refl }
+
+pub declines_of_targets_legal : Legal (goes_on [] declines_of_targets)
+declines_of_targets_legal = told_legal declines_of_targets declines_of_targets_is_told
 
 abbrev targets_nobody_m0 : Message
 targets_nobody_m0 = message [] (codes "{\"msg_id\":\"join-e0\",\"msg_type\":\"registration_request\"}") (codes "{}") (codes "{}") (codes "{\"uuid\":\"e0\"}") []
@@ -278,7 +301,7 @@ abbrev targets_nobody_m3 : Message
 targets_nobody_m3 = message [] (codes "{\"msg_id\":\"out-1\",\"session\":\"controller\",\"username\":\"controller\",\"date\":\"1970-01-01T00:00:00.000Z\",\"msg_type\":\"execute_reply\",\"version\":\"5.3\"}") (codes "{\"msg_id\":\"a\",\"msg_type\":\"execute_request\"}") (codes "{}") (codes "{\"status\":\"error\",\"ename\":\"ImpossibleDependency\",\"evalue\":\"the dependencies of this task cannot be met\",\"traceback\":[]}") []
 
 -- targets that no live engine has: impossible at once
-abbrev targets_nobody : List Line
+abbrev pub targets_nobody : List Line
 targets_nobody =
     line (Input (Open 0 LeastLoad 1 10)) None true []
     ∷ line (Input (Up 1 Engine 0 0 (codes "e"))) None true []
@@ -291,8 +314,11 @@ targets_nobody =
     ∷ []
 
 pub targets_nobody_is_told : IsTold targets_nobody
-unfolding digits escape_byte reserved_front next_word answer_id beat_id beat_request outcome_id resubmit_id header_text reply_type is_request submit_refused empty_object ok_content join_content beat_content error_content outcome_content resubmit_content connection_content history_content queue_member queue_content settled_member result_content engine_lost_text date_of day_text time_text date_digits civil_date from_year from_month encode_with
-targets_nobody_is_told = record { goes = refl; rests = refl }
+unfolding digits escape_byte reserved_front next_word answer_id beat_id beat_request outcome_id resubmit_id header_text reply_type submit_refused empty_object ok_content join_content beat_content error_content outcome_content resubmit_content connection_content history_content queue_member queue_content settled_member result_content engine_lost_text date_of day_text time_text date_digits civil_date from_year from_month encode_with serde_json_on_literals is_utf8 chars event_of read_header is_request is_reply is_leave read_submit whole_timeouts ends_in_name request_of read_content read_task read_declined read_status
+targets_nobody_is_told = record { goes = refl; reads = refl; rests = refl }
+
+pub targets_nobody_legal : Legal (goes_on [] targets_nobody)
+targets_nobody_legal = told_legal targets_nobody targets_nobody_is_told
 
 abbrev plainrandom_words_m0 : Message
 plainrandom_words_m0 = message [] (codes "{\"msg_id\":\"join-e0\",\"msg_type\":\"registration_request\"}") (codes "{}") (codes "{}") (codes "{\"uuid\":\"e0\"}") []
@@ -316,7 +342,7 @@ abbrev plainrandom_words_m6 : Message
 plainrandom_words_m6 = message [] (codes "{\"msg_id\":\"r\",\"msg_type\":\"execute_reply\"}") (codes "{\"msg_id\":\"x\"}") (codes "{}") (codes "{\"status\":\"ok\"}") []
 
 -- words: place 1 of 1, 2, 0 by 7, then place 2 of 1, 0, 2 by the next word
-abbrev plainrandom_words : List Line
+abbrev pub plainrandom_words : List Line
 plainrandom_words =
     line (Input (Open 0 PlainRandom 0 10)) None true []
     ∷ line (Input (Up 1 Engine 0 0 (codes "e"))) None true []
@@ -337,5 +363,8 @@ plainrandom_words =
     ∷ []
 
 pub plainrandom_words_is_told : IsTold plainrandom_words
-unfolding digits escape_byte reserved_front next_word answer_id beat_id beat_request outcome_id resubmit_id header_text reply_type is_request submit_refused empty_object ok_content join_content beat_content error_content outcome_content resubmit_content connection_content history_content queue_member queue_content settled_member result_content engine_lost_text date_of day_text time_text date_digits civil_date from_year from_month encode_with
-plainrandom_words_is_told = record { goes = refl; rests = refl }
+unfolding digits escape_byte reserved_front next_word answer_id beat_id beat_request outcome_id resubmit_id header_text reply_type submit_refused empty_object ok_content join_content beat_content error_content outcome_content resubmit_content connection_content history_content queue_member queue_content settled_member result_content engine_lost_text date_of day_text time_text date_digits civil_date from_year from_month encode_with serde_json_on_literals is_utf8 chars event_of read_header is_request is_reply is_leave read_submit whole_timeouts ends_in_name request_of read_content read_task read_declined read_status
+plainrandom_words_is_told = record { goes = refl; reads = refl; rests = refl }
+
+pub plainrandom_words_legal : Legal (goes_on [] plainrandom_words)
+plainrandom_words_legal = told_legal plainrandom_words plainrandom_words_is_told

@@ -1,4 +1,4 @@
--- Worked rows on picks, and on the least moment, computed. No other module imports them.
+-- Worked rows on picks, and on the least moment, computed. Nothing rests on them.
 use Rattle.std.proofs.Common.{◌≡◌, ℕ, List, [], ◌∷◌, Some, refl}
 use Rattle.std.specs.Prelude.{codes}
 use Rattle.cluster_types.specs.declared.config.Scheme.TheVariants.{Lru, LeastLoad, PlainRandom, TwoBin}

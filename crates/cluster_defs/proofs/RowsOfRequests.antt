@@ -1,4 +1,4 @@
--- Worked rows on repeats, purges, direct requests, resubmissions and questions, computed. No other module imports them.
+-- Worked rows on repeats, purges, direct requests, resubmissions and questions, computed. Nothing rests on them.
 use Rattle.std.proofs.Common.{List, [], ◌∷◌, Option, Some, None, Bool, true, false, refl}
 use Rattle.std.specs.Prelude.{codes}
 use Rattle.std.specs.Fmt.{digits}
@@ -18,12 +18,17 @@ use Rattle.cluster_types.specs.declared.event.Query.TheVariants.{Connection, Que
 use Rattle.cluster_types.specs.declared.out.Out.TheVariants.{Pass, Made}
 use Rattle.cluster_types.specs.declared.entry.Input.TheVariants.{Open, Up, Down, In, Beat, Time}
 use Rattle.cluster_types.specs.declared.entry.Entry.TheVariants.{Input, Hand, Settle, Lose}
-use Rattle.message_defs.specs.Event.{is_request}
+use Rattle.message_defs.specs.Event.{event_of, is_request, is_reply, is_leave}
+use Rattle.message_defs.specs.Points.{whole_timeouts, ends_in_name}
+use Rattle.message_defs.specs.Submit.{read_submit}
+use Rattle.message_defs.specs.Reply.{read_task, read_declined, read_status}
+use Rattle.message_defs.specs.Hub.{request_of, read_content}
 use Rattle.message_defs.specs.Header.{read_header}
 use Rattle.message_defs.specs.Texts.{answer_id, beat_id, beat_request, outcome_id, resubmit_id, header_text, reply_type, submit_refused, empty_object, ok_content, join_content, beat_content, error_content, outcome_content, resubmit_content, connection_content, history_content, queue_member, queue_content, settled_member, result_content}
 use Rattle.cluster_defs.specs.Acceptance.{no_dependency, reserved_front}
 use Rattle.cluster_defs.specs.Steps.{next_word}
-use Rattle.cluster_defs.proofs.Told.{Line, line, decision, message, dep, submission, IsTold}
+use Rattle.cluster_defs.specs.Histories.{Legal}
+use Rattle.cluster_defs.proofs.Told.{Line, line, decision, message, dep, submission, IsTold, goes_on, told_legal}
 
 abbrev repeat_and_known_id_m0 : Message
 repeat_and_known_id_m0 = message [] (codes "{\"msg_id\":\"join-e0\",\"msg_type\":\"registration_request\"}") (codes "{}") (codes "{}") (codes "{\"uuid\":\"e0\"}") []
@@ -41,7 +46,7 @@ abbrev repeat_and_known_id_m4 : Message
 repeat_and_known_id_m4 = message [] (codes "{\"msg_id\":\"resubmit:9\",\"msg_type\":\"execute_request\"}") (codes "{}") (codes "{}") (codes "{\"code\":\"1\"}") []
 
 -- a repeat sends the outcome again; another content is refused, and so is a reserved id
-abbrev repeat_and_known_id : List Line
+abbrev pub repeat_and_known_id : List Line
 repeat_and_known_id =
     line (Input (Open 0 LeastLoad 1 10)) None true []
     ∷ line (Input (Up 1 Engine 0 0 (codes "e"))) None true []
@@ -57,8 +62,11 @@ repeat_and_known_id =
     ∷ []
 
 pub repeat_and_known_id_is_told : IsTold repeat_and_known_id
-unfolding digits escape_byte reserved_front next_word answer_id beat_id beat_request outcome_id resubmit_id header_text reply_type is_request submit_refused empty_object ok_content join_content beat_content error_content outcome_content resubmit_content connection_content history_content queue_member queue_content settled_member result_content engine_lost_text date_of day_text time_text date_digits civil_date from_year from_month encode_with
-repeat_and_known_id_is_told = record { goes = refl; rests = refl }
+unfolding digits escape_byte reserved_front next_word answer_id beat_id beat_request outcome_id resubmit_id header_text reply_type submit_refused empty_object ok_content join_content beat_content error_content outcome_content resubmit_content connection_content history_content queue_member queue_content settled_member result_content engine_lost_text date_of day_text time_text date_digits civil_date from_year from_month encode_with serde_json_on_literals is_utf8 chars event_of read_header is_request is_reply is_leave read_submit whole_timeouts ends_in_name request_of read_content read_task read_declined read_status
+repeat_and_known_id_is_told = record { goes = refl; reads = refl; rests = refl }
+
+pub repeat_and_known_id_legal : Legal (goes_on [] repeat_and_known_id)
+repeat_and_known_id_legal = told_legal repeat_and_known_id repeat_and_known_id_is_told
 
 abbrev purge_m0 : Message
 purge_m0 = message [] (codes "{\"msg_id\":\"join-e0\",\"msg_type\":\"registration_request\"}") (codes "{}") (codes "{}") (codes "{\"uuid\":\"e0\"}") []
@@ -85,7 +93,7 @@ abbrev purge_m7 : Message
 purge_m7 = message [] (codes "{\"msg_id\":\"ask\",\"msg_type\":\"result_request\"}") (codes "{}") (codes "{}") (codes "{\"msg_ids\":[\"a\"]}") []
 
 -- a purge of a settled and a running id drops nothing; of two settled ones both, for good
-abbrev purge : List Line
+abbrev pub purge : List Line
 purge =
     line (Input (Open 0 LeastLoad 1 10)) None true []
     ∷ line (Input (Up 1 Engine 0 0 (codes "e"))) None true []
@@ -108,8 +116,11 @@ purge =
     ∷ []
 
 pub purge_is_told : IsTold purge
-unfolding digits escape_byte reserved_front next_word answer_id beat_id beat_request outcome_id resubmit_id header_text reply_type is_request submit_refused empty_object ok_content join_content beat_content error_content outcome_content resubmit_content connection_content history_content queue_member queue_content settled_member result_content engine_lost_text date_of day_text time_text date_digits civil_date from_year from_month encode_with
-purge_is_told = record { goes = refl; rests = refl }
+unfolding digits escape_byte reserved_front next_word answer_id beat_id beat_request outcome_id resubmit_id header_text reply_type submit_refused empty_object ok_content join_content beat_content error_content outcome_content resubmit_content connection_content history_content queue_member queue_content settled_member result_content engine_lost_text date_of day_text time_text date_digits civil_date from_year from_month encode_with serde_json_on_literals is_utf8 chars event_of read_header is_request is_reply is_leave read_submit whole_timeouts ends_in_name request_of read_content read_task read_declined read_status
+purge_is_told = record { goes = refl; reads = refl; rests = refl }
+
+pub purge_legal : Legal (goes_on [] purge)
+purge_legal = told_legal purge purge_is_told
 
 abbrev metadata_as_sent_m0 : Message
 metadata_as_sent_m0 = message [] (codes "{\"msg_id\":\"join-e0\",\"msg_type\":\"registration_request\"}") (codes "{}") (codes "{}") (codes "{\"uuid\":\"e0\"}") []
@@ -121,7 +132,7 @@ abbrev metadata_as_sent_m2 : Message
 metadata_as_sent_m2 = message [] (codes "{\"msg_id\":\"b\",\"msg_type\":\"execute_request\"}") (codes "{}") (codes "{\"timeout\":1.5}") (codes "{\"code\":\"6*7\"}") []
 
 -- header, metadata and content are handed out with all octets as they came; a timeout with a fraction is refused
-abbrev metadata_as_sent : List Line
+abbrev pub metadata_as_sent : List Line
 metadata_as_sent =
     line (Input (Open 0 LeastLoad 1 10)) None true []
     ∷ line (Input (Up 1 Engine 0 0 (codes "e"))) None true []
@@ -133,8 +144,11 @@ metadata_as_sent =
     ∷ []
 
 pub metadata_as_sent_is_told : IsTold metadata_as_sent
-unfolding digits escape_byte reserved_front next_word answer_id beat_id beat_request outcome_id resubmit_id header_text reply_type is_request submit_refused empty_object ok_content join_content beat_content error_content outcome_content resubmit_content connection_content history_content queue_member queue_content settled_member result_content engine_lost_text date_of day_text time_text date_digits civil_date from_year from_month encode_with
-metadata_as_sent_is_told = record { goes = refl; rests = refl }
+unfolding digits escape_byte reserved_front next_word answer_id beat_id beat_request outcome_id resubmit_id header_text reply_type submit_refused empty_object ok_content join_content beat_content error_content outcome_content resubmit_content connection_content history_content queue_member queue_content settled_member result_content engine_lost_text date_of day_text time_text date_digits civil_date from_year from_month encode_with serde_json_on_literals is_utf8 chars event_of read_header is_request is_reply is_leave read_submit whole_timeouts ends_in_name request_of read_content read_task read_declined read_status
+metadata_as_sent_is_told = record { goes = refl; reads = refl; rests = refl }
+
+pub metadata_as_sent_legal : Legal (goes_on [] metadata_as_sent)
+metadata_as_sent_legal = told_legal metadata_as_sent metadata_as_sent_is_told
 
 abbrev direct_m0 : Message
 direct_m0 = message [] (codes "{\"msg_id\":\"join-e0\",\"msg_type\":\"registration_request\"}") (codes "{}") (codes "{}") (codes "{\"uuid\":\"e0\"}") []
@@ -155,7 +169,7 @@ abbrev direct_m5 : Message
 direct_m5 = message (codes "e9") (codes "{\"msg_id\":\"f\",\"msg_type\":\"execute_request\"}") (codes "{}") (codes "{}") (codes "{\"code\":\"6*7\"}") []
 
 -- a request to an engine is handed out at once; its entry in a result names the engine; an unknown target is refused
-abbrev direct : List Line
+abbrev pub direct : List Line
 direct =
     line (Input (Open 0 LeastLoad 1 10)) None true []
     ∷ line (Input (Up 1 Engine 0 0 (codes "e"))) None true []
@@ -172,8 +186,11 @@ direct =
     ∷ []
 
 pub direct_is_told : IsTold direct
-unfolding digits escape_byte reserved_front next_word answer_id beat_id beat_request outcome_id resubmit_id header_text reply_type is_request submit_refused empty_object ok_content join_content beat_content error_content outcome_content resubmit_content connection_content history_content queue_member queue_content settled_member result_content engine_lost_text date_of day_text time_text date_digits civil_date from_year from_month encode_with
-direct_is_told = record { goes = refl; rests = refl }
+unfolding digits escape_byte reserved_front next_word answer_id beat_id beat_request outcome_id resubmit_id header_text reply_type submit_refused empty_object ok_content join_content beat_content error_content outcome_content resubmit_content connection_content history_content queue_member queue_content settled_member result_content engine_lost_text date_of day_text time_text date_digits civil_date from_year from_month encode_with serde_json_on_literals is_utf8 chars event_of read_header is_request is_reply is_leave read_submit whole_timeouts ends_in_name request_of read_content read_task read_declined read_status
+direct_is_told = record { goes = refl; reads = refl; rests = refl }
+
+pub direct_legal : Legal (goes_on [] direct)
+direct_legal = told_legal direct direct_is_told
 
 abbrev resubmit_m0 : Message
 resubmit_m0 = message [] (codes "{\"msg_id\":\"join-e0\",\"msg_type\":\"registration_request\"}") (codes "{}") (codes "{}") (codes "{\"uuid\":\"e0\"}") []
@@ -191,7 +208,7 @@ abbrev resubmit_m4 : Message
 resubmit_m4 = message [] (codes "{\"msg_id\":\"resubmit:2\",\"session\":\"\",\"username\":\"\",\"date\":\"1970-01-01T00:00:00.000Z\",\"msg_type\":\"execute_request\",\"version\":\"5.3\"}") (codes "{}") (codes "{}") (codes "{\"code\":\"6*7\"}") []
 
 -- a settled task is resubmitted, and handed out under its new id
-abbrev resubmit : List Line
+abbrev pub resubmit : List Line
 resubmit =
     line (Input (Open 0 LeastLoad 1 10)) None true []
     ∷ line (Input (Up 1 Engine 0 0 (codes "e"))) None true []
@@ -207,8 +224,11 @@ resubmit =
     ∷ []
 
 pub resubmit_is_told : IsTold resubmit
-unfolding digits escape_byte reserved_front next_word answer_id beat_id beat_request outcome_id resubmit_id header_text reply_type is_request submit_refused empty_object ok_content join_content beat_content error_content outcome_content resubmit_content connection_content history_content queue_member queue_content settled_member result_content engine_lost_text date_of day_text time_text date_digits civil_date from_year from_month encode_with
-resubmit_is_told = record { goes = refl; rests = refl }
+unfolding digits escape_byte reserved_front next_word answer_id beat_id beat_request outcome_id resubmit_id header_text reply_type submit_refused empty_object ok_content join_content beat_content error_content outcome_content resubmit_content connection_content history_content queue_member queue_content settled_member result_content engine_lost_text date_of day_text time_text date_digits civil_date from_year from_month encode_with serde_json_on_literals is_utf8 chars event_of read_header is_request is_reply is_leave read_submit whole_timeouts ends_in_name request_of read_content read_task read_declined read_status
+resubmit_is_told = record { goes = refl; reads = refl; rests = refl }
+
+pub resubmit_legal : Legal (goes_on [] resubmit)
+resubmit_legal = told_legal resubmit resubmit_is_told
 
 abbrev joins_and_leaves_m0 : Message
 joins_and_leaves_m0 = message [] (codes "{\"msg_id\":\"join-e0\",\"msg_type\":\"registration_request\"}") (codes "{}") (codes "{}") (codes "{\"uuid\":\"e0\"}") []
@@ -220,7 +240,7 @@ abbrev joins_and_leaves_m2 : Message
 joins_and_leaves_m2 = message [] (codes "{\"msg_id\":\"leave-3\",\"msg_type\":\"unregistration_request\"}") (codes "{}") (codes "{}") (codes "{}") []
 
 -- a repeated join, and the refusals of joins and leaves
-abbrev joins_and_leaves : List Line
+abbrev pub joins_and_leaves : List Line
 joins_and_leaves =
     line (Input (Open 0 LeastLoad 1 10)) None true []
     ∷ line (Input (Up 1 Engine 0 0 (codes "e"))) None true []
@@ -233,8 +253,11 @@ joins_and_leaves =
     ∷ []
 
 pub joins_and_leaves_is_told : IsTold joins_and_leaves
-unfolding digits escape_byte reserved_front next_word answer_id beat_id beat_request outcome_id resubmit_id header_text reply_type is_request submit_refused empty_object ok_content join_content beat_content error_content outcome_content resubmit_content connection_content history_content queue_member queue_content settled_member result_content engine_lost_text date_of day_text time_text date_digits civil_date from_year from_month encode_with
-joins_and_leaves_is_told = record { goes = refl; rests = refl }
+unfolding digits escape_byte reserved_front next_word answer_id beat_id beat_request outcome_id resubmit_id header_text reply_type submit_refused empty_object ok_content join_content beat_content error_content outcome_content resubmit_content connection_content history_content queue_member queue_content settled_member result_content engine_lost_text date_of day_text time_text date_digits civil_date from_year from_month encode_with serde_json_on_literals is_utf8 chars event_of read_header is_request is_reply is_leave read_submit whole_timeouts ends_in_name request_of read_content read_task read_declined read_status
+joins_and_leaves_is_told = record { goes = refl; reads = refl; rests = refl }
+
+pub joins_and_leaves_legal : Legal (goes_on [] joins_and_leaves)
+joins_and_leaves_legal = told_legal joins_and_leaves joins_and_leaves_is_told
 
 abbrev leave_while_running_m0 : Message
 leave_while_running_m0 = message [] (codes "{\"msg_id\":\"join-e0\",\"msg_type\":\"registration_request\"}") (codes "{}") (codes "{}") (codes "{\"uuid\":\"e0\"}") []
@@ -249,7 +272,7 @@ abbrev leave_while_running_m3 : Message
 leave_while_running_m3 = message [] (codes "{\"msg_id\":\"out-1\",\"session\":\"controller\",\"username\":\"controller\",\"date\":\"1970-01-01T00:00:00.000Z\",\"msg_type\":\"execute_reply\",\"version\":\"5.3\"}") (codes "{\"msg_id\":\"a\",\"msg_type\":\"execute_request\"}") (codes "{}") (codes "{\"status\":\"error\",\"ename\":\"EngineError\",\"evalue\":\"engine 0 was lost while it ran this task\",\"traceback\":[]}") []
 
 -- an engine leaves while a task without retries runs on it
-abbrev leave_while_running : List Line
+abbrev pub leave_while_running : List Line
 leave_while_running =
     line (Input (Open 0 LeastLoad 1 10)) None true []
     ∷ line (Input (Up 1 Engine 0 0 (codes "e"))) None true []
@@ -262,8 +285,11 @@ leave_while_running =
     ∷ []
 
 pub leave_while_running_is_told : IsTold leave_while_running
-unfolding digits escape_byte reserved_front next_word answer_id beat_id beat_request outcome_id resubmit_id header_text reply_type is_request submit_refused empty_object ok_content join_content beat_content error_content outcome_content resubmit_content connection_content history_content queue_member queue_content settled_member result_content engine_lost_text date_of day_text time_text date_digits civil_date from_year from_month encode_with
-leave_while_running_is_told = record { goes = refl; rests = refl }
+unfolding digits escape_byte reserved_front next_word answer_id beat_id beat_request outcome_id resubmit_id header_text reply_type submit_refused empty_object ok_content join_content beat_content error_content outcome_content resubmit_content connection_content history_content queue_member queue_content settled_member result_content engine_lost_text date_of day_text time_text date_digits civil_date from_year from_month encode_with serde_json_on_literals is_utf8 chars event_of read_header is_request is_reply is_leave read_submit whole_timeouts ends_in_name request_of read_content read_task read_declined read_status
+leave_while_running_is_told = record { goes = refl; reads = refl; rests = refl }
+
+pub leave_while_running_legal : Legal (goes_on [] leave_while_running)
+leave_while_running_legal = told_legal leave_while_running leave_while_running_is_told
 
 abbrev queue_and_pending_result_m0 : Message
 queue_and_pending_result_m0 = message [] (codes "{\"msg_id\":\"join-e0\",\"msg_type\":\"registration_request\"}") (codes "{}") (codes "{}") (codes "{\"uuid\":\"e0\"}") []
@@ -278,7 +304,7 @@ abbrev queue_and_pending_result_m3 : Message
 queue_and_pending_result_m3 = message [] (codes "{\"msg_id\":\"ask\",\"msg_type\":\"result_request\"}") (codes "{}") (codes "{}") (codes "{\"msg_ids\":[\"a\"]}") []
 
 -- a queue request for an engine that isn't live, and a result request for a pending id
-abbrev queue_and_pending_result : List Line
+abbrev pub queue_and_pending_result : List Line
 queue_and_pending_result =
     line (Input (Open 0 LeastLoad 1 10)) None true []
     ∷ line (Input (Up 1 Engine 0 0 (codes "e"))) None true []
@@ -292,8 +318,11 @@ queue_and_pending_result =
     ∷ []
 
 pub queue_and_pending_result_is_told : IsTold queue_and_pending_result
-unfolding digits escape_byte reserved_front next_word answer_id beat_id beat_request outcome_id resubmit_id header_text reply_type is_request submit_refused empty_object ok_content join_content beat_content error_content outcome_content resubmit_content connection_content history_content queue_member queue_content settled_member result_content engine_lost_text date_of day_text time_text date_digits civil_date from_year from_month encode_with
-queue_and_pending_result_is_told = record { goes = refl; rests = refl }
+unfolding digits escape_byte reserved_front next_word answer_id beat_id beat_request outcome_id resubmit_id header_text reply_type submit_refused empty_object ok_content join_content beat_content error_content outcome_content resubmit_content connection_content history_content queue_member queue_content settled_member result_content engine_lost_text date_of day_text time_text date_digits civil_date from_year from_month encode_with serde_json_on_literals is_utf8 chars event_of read_header is_request is_reply is_leave read_submit whole_timeouts ends_in_name request_of read_content read_task read_declined read_status
+queue_and_pending_result_is_told = record { goes = refl; reads = refl; rests = refl }
+
+pub queue_and_pending_result_legal : Legal (goes_on [] queue_and_pending_result)
+queue_and_pending_result_legal = told_legal queue_and_pending_result queue_and_pending_result_is_told
 
 abbrev resubmit_refused_in_order_m0 : Message
 resubmit_refused_in_order_m0 = message [] (codes "{\"msg_id\":\"join-e0\",\"msg_type\":\"registration_request\"}") (codes "{}") (codes "{}") (codes "{\"uuid\":\"e0\"}") []
@@ -326,7 +355,7 @@ abbrev resubmit_refused_in_order_m9 : Message
 resubmit_refused_in_order_m9 = message [] (codes "{\"msg_id\":\"ask\",\"msg_type\":\"resubmit_request\"}") (codes "{}") (codes "{}") (codes "{\"msg_ids\":[\"b\"]}") []
 
 -- the refusals of a resubmission, in their order
-abbrev resubmit_refused_in_order : List Line
+abbrev pub resubmit_refused_in_order : List Line
 resubmit_refused_in_order =
     line (Input (Open 0 LeastLoad 1 10)) None true []
     ∷ line (Input (Up 1 Engine 0 0 (codes "e"))) None true []
@@ -350,5 +379,8 @@ resubmit_refused_in_order =
     ∷ []
 
 pub resubmit_refused_in_order_is_told : IsTold resubmit_refused_in_order
-unfolding digits escape_byte reserved_front next_word answer_id beat_id beat_request outcome_id resubmit_id header_text reply_type is_request submit_refused empty_object ok_content join_content beat_content error_content outcome_content resubmit_content connection_content history_content queue_member queue_content settled_member result_content engine_lost_text date_of day_text time_text date_digits civil_date from_year from_month encode_with
-resubmit_refused_in_order_is_told = record { goes = refl; rests = refl }
+unfolding digits escape_byte reserved_front next_word answer_id beat_id beat_request outcome_id resubmit_id header_text reply_type submit_refused empty_object ok_content join_content beat_content error_content outcome_content resubmit_content connection_content history_content queue_member queue_content settled_member result_content engine_lost_text date_of day_text time_text date_digits civil_date from_year from_month encode_with serde_json_on_literals is_utf8 chars event_of read_header is_request is_reply is_leave read_submit whole_timeouts ends_in_name request_of read_content read_task read_declined read_status
+resubmit_refused_in_order_is_told = record { goes = refl; reads = refl; rests = refl }
+
+pub resubmit_refused_in_order_legal : Legal (goes_on [] resubmit_refused_in_order)
+resubmit_refused_in_order_legal = told_legal resubmit_refused_in_order resubmit_refused_in_order_is_told

@@ -1,4 +1,4 @@
--- Worked rows on attempts, beats and timeouts, computed: each history is legal, is at rest, and sends what is said. No other module imports them.
+-- Worked rows on attempts, beats and timeouts, computed: each history is legal, is at rest, and sends what is said. Nothing rests on them.
 use Rattle.std.proofs.Common.{List, [], ◌∷◌, Option, Some, None, Bool, true, false, refl}
 use Rattle.std.specs.Prelude.{codes}
 use Rattle.std.specs.Fmt.{digits}
@@ -18,12 +18,17 @@ use Rattle.cluster_types.specs.declared.event.Query.TheVariants.{Connection, Que
 use Rattle.cluster_types.specs.declared.out.Out.TheVariants.{Pass, Made}
 use Rattle.cluster_types.specs.declared.entry.Input.TheVariants.{Open, Up, Down, In, Beat, Time}
 use Rattle.cluster_types.specs.declared.entry.Entry.TheVariants.{Input, Hand, Settle, Lose}
-use Rattle.message_defs.specs.Event.{is_request}
+use Rattle.message_defs.specs.Event.{event_of, is_request, is_reply, is_leave}
+use Rattle.message_defs.specs.Points.{whole_timeouts, ends_in_name}
+use Rattle.message_defs.specs.Submit.{read_submit}
+use Rattle.message_defs.specs.Reply.{read_task, read_declined, read_status}
+use Rattle.message_defs.specs.Hub.{request_of, read_content}
 use Rattle.message_defs.specs.Header.{read_header}
 use Rattle.message_defs.specs.Texts.{answer_id, beat_id, beat_request, outcome_id, resubmit_id, header_text, reply_type, submit_refused, empty_object, ok_content, join_content, beat_content, error_content, outcome_content, resubmit_content, connection_content, history_content, queue_member, queue_content, settled_member, result_content}
 use Rattle.cluster_defs.specs.Acceptance.{no_dependency, reserved_front}
 use Rattle.cluster_defs.specs.Steps.{next_word}
-use Rattle.cluster_defs.proofs.Told.{Line, line, decision, message, dep, submission, IsTold}
+use Rattle.cluster_defs.specs.Histories.{Legal}
+use Rattle.cluster_defs.proofs.Told.{Line, line, decision, message, dep, submission, IsTold, goes_on, told_legal}
 
 abbrev one_task_m0 : Message
 one_task_m0 = message [] (codes "{\"msg_id\":\"join-e0\",\"msg_type\":\"registration_request\"}") (codes "{}") (codes "{}") (codes "{\"uuid\":\"e0\"}") []
@@ -35,7 +40,7 @@ abbrev one_task_m2 : Message
 one_task_m2 = message [] (codes "{\"msg_id\":\"r1\",\"msg_type\":\"execute_reply\"}") (codes "{\"msg_id\":\"a\"}") (codes "{}") (codes "{\"status\":\"ok\",\"result\":\"42\"}") []
 
 -- one task: joined, submitted, handed out, replied to, settled
-abbrev one_task : List Line
+abbrev pub one_task : List Line
 one_task =
     line (Input (Open 0 LeastLoad 1 10)) None true []
     ∷ line (Input (Up 1 Engine 0 0 (codes "e"))) None true []
@@ -48,8 +53,11 @@ one_task =
     ∷ []
 
 pub one_task_is_told : IsTold one_task
-unfolding digits escape_byte reserved_front next_word answer_id beat_id beat_request outcome_id resubmit_id header_text reply_type is_request submit_refused empty_object ok_content join_content beat_content error_content outcome_content resubmit_content connection_content history_content queue_member queue_content settled_member result_content engine_lost_text date_of day_text time_text date_digits civil_date from_year from_month encode_with
-one_task_is_told = record { goes = refl; rests = refl }
+unfolding digits escape_byte reserved_front next_word answer_id beat_id beat_request outcome_id resubmit_id header_text reply_type submit_refused empty_object ok_content join_content beat_content error_content outcome_content resubmit_content connection_content history_content queue_member queue_content settled_member result_content engine_lost_text date_of day_text time_text date_digits civil_date from_year from_month encode_with serde_json_on_literals is_utf8 chars event_of read_header is_request is_reply is_leave read_submit whole_timeouts ends_in_name request_of read_content read_task read_declined read_status
+one_task_is_told = record { goes = refl; reads = refl; rests = refl }
+
+pub one_task_legal : Legal (goes_on [] one_task)
+one_task_legal = told_legal one_task one_task_is_told
 
 abbrev three_tries_m0 : Message
 three_tries_m0 = message [] (codes "{\"msg_id\":\"join-e0\",\"msg_type\":\"registration_request\"}") (codes "{}") (codes "{}") (codes "{\"uuid\":\"e0\"}") []
@@ -67,7 +75,7 @@ abbrev three_tries_m4 : Message
 three_tries_m4 = message [] (codes "{\"msg_id\":\"r2\",\"msg_type\":\"execute_reply\"}") (codes "{\"msg_id\":\"a\"}") (codes "{}") (codes "{\"status\":\"error\",\"n\":2}") []
 
 -- retries 2: an engine's end, an error reply, an error reply; the outcome is the last reply
-abbrev three_tries : List Line
+abbrev pub three_tries : List Line
 three_tries =
     line (Input (Open 0 LeastLoad 1 10)) None true []
     ∷ line (Input (Up 1 Engine 0 0 (codes "e"))) None true []
@@ -86,8 +94,11 @@ three_tries =
     ∷ []
 
 pub three_tries_is_told : IsTold three_tries
-unfolding digits escape_byte reserved_front next_word answer_id beat_id beat_request outcome_id resubmit_id header_text reply_type is_request submit_refused empty_object ok_content join_content beat_content error_content outcome_content resubmit_content connection_content history_content queue_member queue_content settled_member result_content engine_lost_text date_of day_text time_text date_digits civil_date from_year from_month encode_with
-three_tries_is_told = record { goes = refl; rests = refl }
+unfolding digits escape_byte reserved_front next_word answer_id beat_id beat_request outcome_id resubmit_id header_text reply_type submit_refused empty_object ok_content join_content beat_content error_content outcome_content resubmit_content connection_content history_content queue_member queue_content settled_member result_content engine_lost_text date_of day_text time_text date_digits civil_date from_year from_month encode_with serde_json_on_literals is_utf8 chars event_of read_header is_request is_reply is_leave read_submit whole_timeouts ends_in_name request_of read_content read_task read_declined read_status
+three_tries_is_told = record { goes = refl; reads = refl; rests = refl }
+
+pub three_tries_legal : Legal (goes_on [] three_tries)
+three_tries_legal = told_legal three_tries three_tries_is_told
 
 abbrev repeated_error_reply_m0 : Message
 repeated_error_reply_m0 = message [] (codes "{\"msg_id\":\"join-e0\",\"msg_type\":\"registration_request\"}") (codes "{}") (codes "{}") (codes "{\"uuid\":\"e0\"}") []
@@ -102,7 +113,7 @@ abbrev repeated_error_reply_m3 : Message
 repeated_error_reply_m3 = message [] (codes "{\"msg_id\":\"r2\",\"msg_type\":\"execute_reply\"}") (codes "{\"msg_id\":\"a\"}") (codes "{}") (codes "{\"status\":\"ok\"}") []
 
 -- the same error reply again, while the second attempt runs, isn't valid; the next ok reply completes
-abbrev repeated_error_reply : List Line
+abbrev pub repeated_error_reply : List Line
 repeated_error_reply =
     line (Input (Open 0 LeastLoad 1 10)) None true []
     ∷ line (Input (Up 1 Engine 0 0 (codes "e"))) None true []
@@ -118,8 +129,11 @@ repeated_error_reply =
     ∷ []
 
 pub repeated_error_reply_is_told : IsTold repeated_error_reply
-unfolding digits escape_byte reserved_front next_word answer_id beat_id beat_request outcome_id resubmit_id header_text reply_type is_request submit_refused empty_object ok_content join_content beat_content error_content outcome_content resubmit_content connection_content history_content queue_member queue_content settled_member result_content engine_lost_text date_of day_text time_text date_digits civil_date from_year from_month encode_with
-repeated_error_reply_is_told = record { goes = refl; rests = refl }
+unfolding digits escape_byte reserved_front next_word answer_id beat_id beat_request outcome_id resubmit_id header_text reply_type submit_refused empty_object ok_content join_content beat_content error_content outcome_content resubmit_content connection_content history_content queue_member queue_content settled_member result_content engine_lost_text date_of day_text time_text date_digits civil_date from_year from_month encode_with serde_json_on_literals is_utf8 chars event_of read_header is_request is_reply is_leave read_submit whole_timeouts ends_in_name request_of read_content read_task read_declined read_status
+repeated_error_reply_is_told = record { goes = refl; reads = refl; rests = refl }
+
+pub repeated_error_reply_legal : Legal (goes_on [] repeated_error_reply)
+repeated_error_reply_legal = told_legal repeated_error_reply repeated_error_reply_is_told
 
 abbrev leastload_order_m0 : Message
 leastload_order_m0 = message [] (codes "{\"msg_id\":\"join-e0\",\"msg_type\":\"registration_request\"}") (codes "{}") (codes "{}") (codes "{\"uuid\":\"e0\"}") []
@@ -158,7 +172,7 @@ abbrev leastload_order_m11 : Message
 leastload_order_m11 = message [] (codes "{\"msg_id\":\"r4\",\"msg_type\":\"execute_reply\"}") (codes "{\"msg_id\":\"t4\"}") (codes "{}") (codes "{\"status\":\"ok\"}") []
 
 -- five tasks under `leastload`, each answered before the next: to engines 0, 1, 0, 1, 0
-abbrev leastload_order : List Line
+abbrev pub leastload_order : List Line
 leastload_order =
     line (Input (Open 0 LeastLoad 1 10)) None true []
     ∷ line (Input (Up 1 Engine 0 0 (codes "e"))) None true []
@@ -189,14 +203,17 @@ leastload_order =
     ∷ []
 
 pub leastload_order_is_told : IsTold leastload_order
-unfolding digits escape_byte reserved_front next_word answer_id beat_id beat_request outcome_id resubmit_id header_text reply_type is_request submit_refused empty_object ok_content join_content beat_content error_content outcome_content resubmit_content connection_content history_content queue_member queue_content settled_member result_content engine_lost_text date_of day_text time_text date_digits civil_date from_year from_month encode_with
-leastload_order_is_told = record { goes = refl; rests = refl }
+unfolding digits escape_byte reserved_front next_word answer_id beat_id beat_request outcome_id resubmit_id header_text reply_type submit_refused empty_object ok_content join_content beat_content error_content outcome_content resubmit_content connection_content history_content queue_member queue_content settled_member result_content engine_lost_text date_of day_text time_text date_digits civil_date from_year from_month encode_with serde_json_on_literals is_utf8 chars event_of read_header is_request is_reply is_leave read_submit whole_timeouts ends_in_name request_of read_content read_task read_declined read_status
+leastload_order_is_told = record { goes = refl; reads = refl; rests = refl }
+
+pub leastload_order_legal : Legal (goes_on [] leastload_order)
+leastload_order_legal = told_legal leastload_order leastload_order_is_told
 
 abbrev missed_beats_lose_m0 : Message
 missed_beats_lose_m0 = message [] (codes "{\"msg_id\":\"join-e0\",\"msg_type\":\"registration_request\"}") (codes "{}") (codes "{}") (codes "{\"uuid\":\"e0\"}") []
 
 -- two beats without an echo, where one may be missed: the engine is lost
-abbrev missed_beats_lose : List Line
+abbrev pub missed_beats_lose : List Line
 missed_beats_lose =
     line (Input (Open 0 LeastLoad 1 1)) None true []
     ∷ line (Input (Up 1 Engine 0 0 (codes "e"))) None true []
@@ -208,8 +225,11 @@ missed_beats_lose =
     ∷ []
 
 pub missed_beats_lose_is_told : IsTold missed_beats_lose
-unfolding digits escape_byte reserved_front next_word answer_id beat_id beat_request outcome_id resubmit_id header_text reply_type is_request submit_refused empty_object ok_content join_content beat_content error_content outcome_content resubmit_content connection_content history_content queue_member queue_content settled_member result_content engine_lost_text date_of day_text time_text date_digits civil_date from_year from_month encode_with
-missed_beats_lose_is_told = record { goes = refl; rests = refl }
+unfolding digits escape_byte reserved_front next_word answer_id beat_id beat_request outcome_id resubmit_id header_text reply_type submit_refused empty_object ok_content join_content beat_content error_content outcome_content resubmit_content connection_content history_content queue_member queue_content settled_member result_content engine_lost_text date_of day_text time_text date_digits civil_date from_year from_month encode_with serde_json_on_literals is_utf8 chars event_of read_header is_request is_reply is_leave read_submit whole_timeouts ends_in_name request_of read_content read_task read_declined read_status
+missed_beats_lose_is_told = record { goes = refl; reads = refl; rests = refl }
+
+pub missed_beats_lose_legal : Legal (goes_on [] missed_beats_lose)
+missed_beats_lose_legal = told_legal missed_beats_lose missed_beats_lose_is_told
 
 abbrev missed_beats_echoed_m0 : Message
 missed_beats_echoed_m0 = message [] (codes "{\"msg_id\":\"join-e0\",\"msg_type\":\"registration_request\"}") (codes "{}") (codes "{}") (codes "{\"uuid\":\"e0\"}") []
@@ -218,7 +238,7 @@ abbrev missed_beats_echoed_m1 : Message
 missed_beats_echoed_m1 = message [] (codes "{\"msg_id\":\"pong-1\",\"msg_type\":\"beat_reply\"}") (codes "{}") (codes "{}") (codes "{\"beat\":1}") []
 
 -- with an echo of the first beat it stays live
-abbrev missed_beats_echoed : List Line
+abbrev pub missed_beats_echoed : List Line
 missed_beats_echoed =
     line (Input (Open 0 LeastLoad 1 1)) None true []
     ∷ line (Input (Up 1 Engine 0 0 (codes "e"))) None true []
@@ -230,8 +250,11 @@ missed_beats_echoed =
     ∷ []
 
 pub missed_beats_echoed_is_told : IsTold missed_beats_echoed
-unfolding digits escape_byte reserved_front next_word answer_id beat_id beat_request outcome_id resubmit_id header_text reply_type is_request submit_refused empty_object ok_content join_content beat_content error_content outcome_content resubmit_content connection_content history_content queue_member queue_content settled_member result_content engine_lost_text date_of day_text time_text date_digits civil_date from_year from_month encode_with
-missed_beats_echoed_is_told = record { goes = refl; rests = refl }
+unfolding digits escape_byte reserved_front next_word answer_id beat_id beat_request outcome_id resubmit_id header_text reply_type submit_refused empty_object ok_content join_content beat_content error_content outcome_content resubmit_content connection_content history_content queue_member queue_content settled_member result_content engine_lost_text date_of day_text time_text date_digits civil_date from_year from_month encode_with serde_json_on_literals is_utf8 chars event_of read_header is_request is_reply is_leave read_submit whole_timeouts ends_in_name request_of read_content read_task read_declined read_status
+missed_beats_echoed_is_told = record { goes = refl; reads = refl; rests = refl }
+
+pub missed_beats_echoed_legal : Legal (goes_on [] missed_beats_echoed)
+missed_beats_echoed_legal = told_legal missed_beats_echoed missed_beats_echoed_is_told
 
 abbrev missed_beats_running_m0 : Message
 missed_beats_running_m0 = message [] (codes "{\"msg_id\":\"join-e0\",\"msg_type\":\"registration_request\"}") (codes "{}") (codes "{}") (codes "{\"uuid\":\"e0\"}") []
@@ -243,7 +266,7 @@ abbrev missed_beats_running_m2 : Message
 missed_beats_running_m2 = message [] (codes "{\"msg_id\":\"out-1\",\"session\":\"controller\",\"username\":\"controller\",\"date\":\"1970-01-01T00:00:00.000Z\",\"msg_type\":\"execute_reply\",\"version\":\"5.3\"}") (codes "{\"msg_id\":\"a\",\"msg_type\":\"execute_request\"}") (codes "{}") (codes "{\"status\":\"error\",\"ename\":\"EngineError\",\"evalue\":\"engine 0 was lost while it ran this task\",\"traceback\":[]}") []
 
 -- a running task without retries fails with its engine
-abbrev missed_beats_running : List Line
+abbrev pub missed_beats_running : List Line
 missed_beats_running =
     line (Input (Open 0 LeastLoad 1 1)) None true []
     ∷ line (Input (Up 1 Engine 0 0 (codes "e"))) None true []
@@ -258,8 +281,11 @@ missed_beats_running =
     ∷ []
 
 pub missed_beats_running_is_told : IsTold missed_beats_running
-unfolding digits escape_byte reserved_front next_word answer_id beat_id beat_request outcome_id resubmit_id header_text reply_type is_request submit_refused empty_object ok_content join_content beat_content error_content outcome_content resubmit_content connection_content history_content queue_member queue_content settled_member result_content engine_lost_text date_of day_text time_text date_digits civil_date from_year from_month encode_with
-missed_beats_running_is_told = record { goes = refl; rests = refl }
+unfolding digits escape_byte reserved_front next_word answer_id beat_id beat_request outcome_id resubmit_id header_text reply_type submit_refused empty_object ok_content join_content beat_content error_content outcome_content resubmit_content connection_content history_content queue_member queue_content settled_member result_content engine_lost_text date_of day_text time_text date_digits civil_date from_year from_month encode_with serde_json_on_literals is_utf8 chars event_of read_header is_request is_reply is_leave read_submit whole_timeouts ends_in_name request_of read_content read_task read_declined read_status
+missed_beats_running_is_told = record { goes = refl; reads = refl; rests = refl }
+
+pub missed_beats_running_legal : Legal (goes_on [] missed_beats_running)
+missed_beats_running_legal = told_legal missed_beats_running missed_beats_running_is_told
 
 abbrev task_timeout_m0 : Message
 task_timeout_m0 = message [] (codes "{\"msg_id\":\"a\",\"msg_type\":\"execute_request\"}") (codes "{}") (codes "{\"timeout\":5}") (codes "{\"code\":\"6*7\"}") []
@@ -268,7 +294,7 @@ abbrev task_timeout_m1 : Message
 task_timeout_m1 = message [] (codes "{\"msg_id\":\"out-1\",\"session\":\"controller\",\"username\":\"controller\",\"date\":\"1970-01-01T00:00:06.000Z\",\"msg_type\":\"execute_reply\",\"version\":\"5.3\"}") (codes "{\"msg_id\":\"a\",\"msg_type\":\"execute_request\"}") (codes "{}") (codes "{\"status\":\"error\",\"ename\":\"TaskTimeout\",\"evalue\":\"the task waited past its timeout\",\"traceback\":[]}") []
 
 -- a timeout of 5 seconds from moment 1000 on: nothing at 5999, TaskTimeout at 6000
-abbrev task_timeout : List Line
+abbrev pub task_timeout : List Line
 task_timeout =
     line (Input (Open 0 LeastLoad 1 10)) None true []
     ∷ line (Input (Up 2 Task 0 0 (codes "c"))) None true []
@@ -279,5 +305,8 @@ task_timeout =
     ∷ []
 
 pub task_timeout_is_told : IsTold task_timeout
-unfolding digits escape_byte reserved_front next_word answer_id beat_id beat_request outcome_id resubmit_id header_text reply_type is_request submit_refused empty_object ok_content join_content beat_content error_content outcome_content resubmit_content connection_content history_content queue_member queue_content settled_member result_content engine_lost_text date_of day_text time_text date_digits civil_date from_year from_month encode_with
-task_timeout_is_told = record { goes = refl; rests = refl }
+unfolding digits escape_byte reserved_front next_word answer_id beat_id beat_request outcome_id resubmit_id header_text reply_type submit_refused empty_object ok_content join_content beat_content error_content outcome_content resubmit_content connection_content history_content queue_member queue_content settled_member result_content engine_lost_text date_of day_text time_text date_digits civil_date from_year from_month encode_with serde_json_on_literals is_utf8 chars event_of read_header is_request is_reply is_leave read_submit whole_timeouts ends_in_name request_of read_content read_task read_declined read_status
+task_timeout_is_told = record { goes = refl; reads = refl; rests = refl }
+
+pub task_timeout_legal : Legal (goes_on [] task_timeout)
+task_timeout_legal = told_legal task_timeout task_timeout_is_told

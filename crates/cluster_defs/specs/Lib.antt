@@ -11,6 +11,7 @@ pub mod Outs
 pub mod Purges
 pub mod Queries
 pub mod Requests
+pub mod Runs
 pub mod Safety
 pub mod Scheduling
 pub mod Steps
