@@ -1,5 +1,5 @@
 -- Short histories that a second, independent model of the cluster drew at random, with what it says of each entry. Nothing rests on them.
-use Rattle.std.proofs.Common.{List, [], ◌∷◌, Option, Some, None, Bool, true, false, refl}
+use Rattle.std.proofs.Common.{List, [], ◌∷◌, Some, None, true, false, refl}
 use Rattle.std.specs.Prelude.{codes}
 use Rattle.std.specs.Fmt.{digits}
 use Rattle.std.specs.Str.{is_utf8, chars}
@@ -14,7 +14,7 @@ use Rattle.cluster_types.specs.declared.verdict.Verdict.TheVariants.{Completed, 
 use Rattle.cluster_types.specs.declared.verdict.Cause.TheVariants.{Reply as ByReply, EngineError, ImpossibleDependency, InvalidDependency, TaskTimeout}
 use Rattle.cluster_types.specs.declared.message.Message.{Message}
 use Rattle.cluster_types.specs.declared.event.Event.TheVariants.{Submit, Direct, Reply, Join, Leave, Pong, Purge, Resubmit, Ask}
-use Rattle.cluster_types.specs.declared.event.Query.TheVariants.{Connection, Queue, Result, History, Shutdown, Unknown, Bad}
+use Rattle.cluster_types.specs.declared.event.Query.TheVariants.{Connection, Queue, Result, Shutdown, Unknown, Bad}
 use Rattle.cluster_types.specs.declared.out.Out.TheVariants.{Pass, Made}
 use Rattle.cluster_types.specs.declared.entry.Input.TheVariants.{Open, Up, Down, In, Beat, Time}
 use Rattle.cluster_types.specs.declared.entry.Entry.TheVariants.{Input, Hand, Settle, Lose}

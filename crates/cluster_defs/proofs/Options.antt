@@ -1,9 +1,9 @@
 -- Small lemmas on options, ids and searches.
 use Rattle.std.proofs.Common.{ap, ◌≡◌, ℕ, zero, suc, List, [], ◌∷◌, Bool, true, false, cond, refl, Option, Some, None, bytes_eq, ◌⊎◌, inl, inr}
 use Rattle.std.specs.Prelude.{find, option_map, filter, slice_get}
-use Rattle.std.specs.Option.{is_some, is_none, option_and_then}
+use Rattle.std.specs.Option.{is_some, option_and_then}
 use Rattle.std.proofs.lemmas.Slice.Eq.{bytes_eq-Decides}
-use Rattle.cluster_defs.specs.Words.{Id, or_else, is_empty}
+use Rattle.cluster_defs.specs.Words.{Id, or_else}
 
 pub none_from : {X : Type 0} (o : Option X) → is_some o ≡ false → o ≡ None
 none_from None h = refl

@@ -1,6 +1,6 @@
 -- What a decision that is due says.
-use Rattle.std.proofs.Common.{◌≡◌, ℕ, List, Bool, true, false, ◌&&◌, not, refl, subst, Option, Some, None, ◌⊎◌, inl, inr, ⊎_elim, map}
-use Rattle.std.specs.Prelude.{find, nat_lt, slice_get, option_map}
+use Rattle.std.proofs.Common.{◌≡◌, ℕ, Bool, true, false, ◌&&◌, not, refl, subst, Some, None, ◌⊎◌, inl, inr, ⊎_elim, map}
+use Rattle.std.specs.Prelude.{find, nat_lt, option_map}
 use Rattle.std.specs.Option.{is_some}
 use Rattle.std.proofs.lemmas.Bool.{and_parts, not-true}
 use Rattle.cluster_types.specs.declared.verdict.Verdict.{Verdict}
@@ -11,7 +11,7 @@ use Rattle.cluster_types.specs.declared.entry.Entry.TheVariants.{Input, Hand, Se
 use Rattle.cluster_defs.specs.declared.attempt.Attempt.{Attempt}
 use Rattle.cluster_defs.specs.declared.attempt.Attempt.TheVariants.{Never, Running, EndedOk, EndedBadly, Lost, Declined}
 use Rattle.cluster_defs.specs.declared.engine.Engine.{Engine}
-use Rattle.cluster_defs.specs.Words.{Id, or_else, is_empty}
+use Rattle.cluster_defs.specs.Words.{Id, is_empty}
 use Rattle.cluster_defs.specs.Engines.{missed}
 use Rattle.cluster_defs.specs.Tasks.{runs, is_never}
 use Rattle.cluster_defs.specs.Facts.{Facts, is_settled}

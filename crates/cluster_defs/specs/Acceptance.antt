@@ -1,6 +1,6 @@
 -- Which Submits and Directs are accepted, and the requests that they make.
-use Rattle.std.specs.Prelude.{ℕ, nat_le, ◌==◌, List, [], ◌∷◌, ◌++◌, length, Option, Some, None, Bool, true, false, not, ◌&&◌, if◌then◌else◌, bytes_eq, codes, option_map}
-use Rattle.std.specs.Option.{is_some, is_none, option_and_then}
+use Rattle.std.specs.Prelude.{ℕ, nat_le, List, [], ◌∷◌, length, Option, Some, None, Bool, true, false, ◌&&◌, if◌then◌else◌, bytes_eq, codes, option_map}
+use Rattle.std.specs.Option.{is_none, option_and_then}
 use Rattle.cluster_types.specs.declared.message.Message.{Message}
 use Rattle.cluster_types.specs.declared.event.Dep.{Dep}
 use Rattle.cluster_types.specs.declared.event.Submission.{Submission}

@@ -1,5 +1,5 @@
 -- All that is read off a history, as one record.
-use Rattle.std.specs.Prelude.{ℕ, List, [], length, ◌+◌, Option, Some, None, Bool, true, false, option_map, Result, Ok, Err}
+use Rattle.std.specs.Prelude.{ℕ, List, [], Option, Some, None, Bool, false, Result, Ok, Err}
 use Rattle.std.specs.Option.{is_some, option_and_then}
 use Rattle.cluster_types.specs.declared.config.Channel.{Channel}
 use Rattle.cluster_types.specs.declared.config.Scheme.{Scheme}

@@ -1,7 +1,6 @@
 -- What holds of every legal history: the statements, each ready to be the contract of a law.
-use Rattle.std.specs.Prelude.{◌≡◌, ◌<◌, ◌↔◌, ℕ, nat_lt, true, false, ◌==◌, List, [], ◌∷◌, ◌++◌, Option, Some, None, Bool}
+use Rattle.std.specs.Prelude.{◌≡◌, ◌<◌, ◌↔◌, ℕ, nat_lt, true, false, ◌==◌, List, ◌∷◌, ◌++◌, Some, None}
 use Rattle.std.specs.List.{list_any}
-use Rattle.cluster_types.specs.declared.message.Message.{Message}
 use Rattle.cluster_types.specs.declared.verdict.Verdict.{Verdict}
 use Rattle.cluster_types.specs.declared.verdict.Cause.{Cause}
 use Rattle.cluster_types.specs.declared.verdict.Cause.TheVariants.{ImpossibleDependency}
@@ -10,7 +9,7 @@ use Rattle.cluster_types.specs.declared.entry.Entry.TheVariants.{Input, Hand, Se
 use Rattle.cluster_types.specs.declared.entry.Input.TheVariants.{Open}
 use Rattle.cluster_types.specs.declared.config.Scheme.{Scheme}
 use Rattle.cluster_defs.specs.Words.{Id}
-use Rattle.cluster_defs.specs.Facts.{Facts, is_settled}
+use Rattle.cluster_defs.specs.Facts.{is_settled}
 use Rattle.cluster_defs.specs.Scheduling.{due, may_run, open_work, is_live}
 use Rattle.cluster_defs.specs.Histories.{History, facts, Legal, kept, decide_all}
 use Rattle.cluster_defs.specs.Outcomes.{outcome}
@@ -18,7 +17,7 @@ use Rattle.cluster_defs.specs.Outs.{outs}
 use Rattle.cluster_defs.specs.Uses.{last_use, Ascends, newest_word, newest_moment}
 use Rattle.cluster_defs.specs.Thin.{thin}
 use Rattle.cluster_defs.specs.Safety.{Safe}
-use Rattle.cluster_defs.specs.Lives.{Move, Life, Belongs, IsFront, world, World}
+use Rattle.cluster_defs.specs.Lives.{Move, Life, Belongs, IsFront, world}
 
 -- DUE DECISIONS COME TO AN END
 

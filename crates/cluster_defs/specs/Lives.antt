@@ -1,12 +1,12 @@
 -- A cluster over crashes: its history, what is safe on the disk, and all that was ever sent.
-use Rattle.std.specs.Prelude.{◌≡◌, ◌≤◌, ℕ, suc, ◌+◌, ◌==◌, List, [], ◌∷◌, ◌++◌, length, map, slice_get, Option, Some, None, Bool, true, false, if◌then◌else◌}
+use Rattle.std.specs.Prelude.{◌≡◌, ◌≤◌, ℕ, suc, ◌==◌, List, [], ◌∷◌, ◌++◌, length, map, slice_get, Some, None, Bool, true, false, if◌then◌else◌}
 use Rattle.cluster_types.specs.declared.out.Out.{Out}
 use Rattle.cluster_types.specs.declared.entry.Input.TheVariants.{Open}
 use Rattle.cluster_types.specs.declared.entry.Entry.{Entry}
 use Rattle.cluster_types.specs.declared.entry.Entry.TheVariants.{Input}
 use Rattle.cluster_defs.specs.Scheduling.{due, Allowed, is_kept}
 use Rattle.cluster_defs.specs.Histories.{History, facts, Legal, kept}
-use Rattle.cluster_defs.specs.Outs.{outs, outs_on, conn_of}
+use Rattle.cluster_defs.specs.Outs.{outs, outs_on}
 
 -- an out, with the history up to and with its entry
 abbrev pub Sending : Type 0

@@ -1,5 +1,5 @@
 -- The message that answers a task once it is settled, and the message that hands it out.
-use Rattle.std.specs.Prelude.{ℕ, suc, List, [], Option, Some, None, bytes_eq, option_map}
+use Rattle.std.specs.Prelude.{ℕ, suc, [], Option, bytes_eq, option_map}
 use Rattle.std.specs.List.{position_or_len}
 use Rattle.std.specs.Option.{option_and_then}
 use Rattle.cluster_types.specs.Verdicts.{cause_name, cause_value}

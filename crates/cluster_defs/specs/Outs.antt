@@ -1,7 +1,6 @@
 -- What each entry sends.
-use Rattle.std.specs.Prelude.{ℕ, ◌+◌, ◌==◌, List, [], ◌∷◌, ◌++◌, length, map, Option, Some, None, Bool, true, false, not, ◌&&◌, if◌then◌else◌, filter, nat_lt}
+use Rattle.std.specs.Prelude.{ℕ, ◌+◌, ◌==◌, List, [], ◌∷◌, ◌++◌, length, map, Option, Some, None, true, false, if◌then◌else◌, filter, nat_lt}
 use Rattle.std.specs.Option.{option_and_then}
-use Rattle.cluster_types.specs.declared.config.Channel.{Channel}
 use Rattle.cluster_types.specs.declared.message.Message.{Message}
 use Rattle.cluster_types.specs.declared.event.Event.{Event}
 use Rattle.cluster_types.specs.declared.event.Event.TheVariants.{Submit, Direct}
@@ -21,7 +20,7 @@ use Rattle.cluster_defs.specs.Connections.{connection_on, reached}
 use Rattle.cluster_defs.specs.Engines.{conn_in}
 use Rattle.cluster_defs.specs.Requests.{Request}
 use Rattle.cluster_defs.specs.Facts.{Facts, event_in}
-use Rattle.cluster_defs.specs.Acceptance.{Demand, acceptance}
+use Rattle.cluster_defs.specs.Acceptance.{acceptance}
 use Rattle.cluster_defs.specs.Steps.{step}
 use Rattle.cluster_defs.specs.Histories.{History, facts, place}
 use Rattle.cluster_defs.specs.Outcomes.{hand_out, outcome}

@@ -1,6 +1,6 @@
 -- Which ids a Purge drops, and which tasks a Resubmit makes.
-use Rattle.std.specs.Prelude.{ℕ, suc, nat_lt, ◌+◌, List, [], ◌∷◌, ◌++◌, length, map, Option, Some, None, Bool, true, false, not, ◌&&◌, ◌||◌, if◌then◌else◌, filter, find, bytes_eq, codes, option_map}
-use Rattle.std.specs.Option.{is_some, option_and_then}
+use Rattle.std.specs.Prelude.{ℕ, nat_lt, ◌+◌, List, [], ◌∷◌, length, map, Option, Some, None, Bool, true, false, not, ◌&&◌, ◌||◌, if◌then◌else◌, filter, find, bytes_eq, option_map}
+use Rattle.std.specs.Option.{option_and_then}
 use Rattle.cluster_types.specs.declared.event.Event.{Event}
 use Rattle.cluster_types.specs.declared.event.Event.TheVariants.{Purge, Resubmit}
 use Rattle.edges.specs.Date.{date_of}

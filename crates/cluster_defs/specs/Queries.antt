@@ -1,5 +1,5 @@
 -- Answers to messages: what each question about the cluster is answered, and what each request that is refused.
-use Rattle.std.specs.Prelude.{ℕ, ◌+◌, nat_lt, List, [], ◌∷◌, length, map, sum, Option, Some, None, Bool, true, false, not, ◌&&◌, ◌||◌, if◌then◌else◌, filter, find, filter_map, flat_map, codes, decimal, option_map, Ok, Err}
+use Rattle.std.specs.Prelude.{ℕ, ◌+◌, nat_lt, List, [], length, map, sum, Option, Some, None, Bool, true, false, not, ◌&&◌, ◌||◌, if◌then◌else◌, filter, find, filter_map, flat_map, codes, decimal, option_map, Ok, Err}
 use Rattle.std.specs.List.{list_any}
 use Rattle.std.specs.Option.{option_and_then}
 use Rattle.hex.specs.Hex.{encode_lower}
@@ -24,8 +24,8 @@ use Rattle.cluster_defs.specs.Words.{Id, is_empty, is_number, once}
 use Rattle.cluster_defs.specs.Engines.{joining, left}
 use Rattle.cluster_defs.specs.Tasks.{runs_at, Settled}
 use Rattle.cluster_defs.specs.Facts.{Facts, is_settled, is_direct_id}
-use Rattle.cluster_defs.specs.Acceptance.{Demand, acceptance}
-use Rattle.cluster_defs.specs.Purges.{inflight, gone_or_unknown, purge_list, Purging, Unknown, Inflight, Drops, purging, Copy, Resubmitting, NeverKnown, Gone, Running, NoRoom, Makes, resubmitting}
+use Rattle.cluster_defs.specs.Acceptance.{acceptance}
+use Rattle.cluster_defs.specs.Purges.{inflight, gone_or_unknown, purge_list, Purging, Unknown, Inflight, Drops, purging, Resubmitting, NeverKnown, Gone, Running, NoRoom, Makes, resubmitting}
 use Rattle.cluster_defs.specs.Scheduling.{is_live, rests}
 use Rattle.cluster_defs.specs.Outcomes.{outcome}
 

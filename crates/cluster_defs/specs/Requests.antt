@@ -1,5 +1,5 @@
 -- Requests that were accepted.
-use Rattle.std.specs.Prelude.{ℕ, ◌+◌, ◌*◌, ◌==◌, List, [], ◌++◌, map, Option, Some, None, Bool, not, ◌||◌, if◌then◌else◌, filter, bytes_eq, option_map}
+use Rattle.std.specs.Prelude.{ℕ, ◌+◌, ◌*◌, ◌==◌, List, [], ◌++◌, map, Option, Some, None, Bool, not, ◌||◌, if◌then◌else◌, filter, bytes_eq}
 use Rattle.std.specs.List.{list_any}
 use Rattle.std.specs.Option.{is_some}
 use Rattle.cluster_types.specs.declared.message.Message.{Message}

@@ -1,6 +1,5 @@
 -- Safe words: five properties of a history that name its Hands and Settles alone.
-use Rattle.std.specs.Prelude.{◌≡◌, ◌≤◌, ◌+◌, ◌==◌, ℕ, true, false, Bool, List, [], ◌∷◌, not, ◌&&◌, ◌||◌, Option, Some, None, bytes_eq, if◌then◌else◌}
-use Rattle.std.specs.List.{list_any}
+use Rattle.std.specs.Prelude.{◌≡◌, ◌≤◌, ◌+◌, ℕ, true, false, Bool, [], ◌∷◌, not, ◌&&◌, ◌||◌, Option, Some, None, bytes_eq, if◌then◌else◌}
 use Rattle.cluster_types.specs.declared.event.Event.{Event}
 use Rattle.cluster_types.specs.declared.event.Event.TheVariants.{Reply}
 use Rattle.cluster_types.specs.declared.entry.Input.TheVariants.{In}
