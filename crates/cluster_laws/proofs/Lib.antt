@@ -1,5 +1,11 @@
+pub mod ByUse
+pub mod Direct
 pub mod Kept
 pub mod Later
 pub mod Lists
 pub mod Order
+pub mod Parts
+pub mod Safe
+pub mod Sound
+pub mod Tries
 pub mod Word

@@ -1,6 +1,6 @@
 //! Laws of histories, over the definitions alone.
 
-ghost use Rattle.cluster_defs.specs.Laws.{KeptIsLegal, KeptIsOwn, KeptReadsSame, KeptOrder};
+ghost use Rattle.cluster_defs.specs.Laws.{KeptIsLegal, KeptIsOwn, KeptReadsSame, KeptOrder, UseAscends, UseHasLive, DrawsByWord, SettlesAtMoment, IsSafe};
 
 /// The kept entries of a legal history make a legal history that is its own kept one, and read the same; the places of
 /// last use differ, but not their order.
@@ -9,4 +9,20 @@ pub fn kept_reads_the_same()
     ensures own { KeptIsOwn }
     ensures same { KeptReadsSame }
     ensures order { KeptOrder }
+{}
+
+/// The order of the engines ascends by the places of their last use and has each live one; a hand-out draws by the word
+/// of the newest input, and a settle has its moment, whether that input is kept or not.
+pub fn uses_in_order()
+    ensures ascends { UseAscends }
+    ensures live { UseHasLive }
+    ensures word { DrawsByWord }
+    ensures moment { SettlesAtMoment }
+{}
+
+/// Each legal history has the five safe words: an id is settled at most once and not handed out after that; each
+/// hand-out comes after what it waits for, goes to where what it follows finished, and to a live engine that is a
+/// target; and an id is handed out at most once more than its retries, declined hand-outs apart.
+pub fn histories_are_safe()
+    ensures { IsSafe }
 {}
