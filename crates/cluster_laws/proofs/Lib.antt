@@ -1,5 +1,6 @@
 pub mod ByUse
 pub mod Direct
+pub mod Impossible
 pub mod Kept
 pub mod Later
 pub mod Lists

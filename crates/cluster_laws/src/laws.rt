@@ -1,6 +1,6 @@
 //! Laws of histories, over the definitions alone.
 
-ghost use Rattle.cluster_defs.specs.Laws.{KeptIsLegal, KeptIsOwn, KeptReadsSame, KeptOrder, UseAscends, UseHasLive, DrawsByWord, SettlesAtMoment, IsSafe};
+ghost use Rattle.cluster_defs.specs.Laws.{KeptIsLegal, KeptIsOwn, KeptReadsSame, KeptOrder, UseAscends, UseHasLive, DrawsByWord, SettlesAtMoment, IsSafe, ImpossibleStays};
 
 /// The kept entries of a legal history make a legal history that is its own kept one, and read the same; the places of
 /// last use differ, but not their order.
@@ -25,4 +25,9 @@ pub fn uses_in_order()
 /// target; and an id is handed out at most once more than its retries, declined hand-outs apart.
 pub fn histories_are_safe()
     ensures { IsSafe }
+{}
+
+/// What is settled as impossible could not have run on any engine later on, whatever comes.
+pub fn impossible_stays()
+    ensures { ImpossibleStays }
 {}
