@@ -1,10 +1,14 @@
 pub mod ByUse
+pub mod Closed
+pub mod Copies
 pub mod Direct
 pub mod Impossible
 pub mod Kept
 pub mod Later
+pub mod Life
 pub mod Lists
 pub mod Order
+pub mod Outcome
 pub mod Parts
 pub mod Safe
 pub mod Sound

@@ -1,6 +1,6 @@
 //! Laws of histories, over the definitions alone.
 
-ghost use Rattle.cluster_defs.specs.Laws.{KeptIsLegal, KeptIsOwn, KeptReadsSame, KeptOrder, UseAscends, UseHasLive, DrawsByWord, SettlesAtMoment, IsSafe, ImpossibleStays};
+ghost use Rattle.cluster_defs.specs.Laws.{KeptIsLegal, KeptIsOwn, KeptReadsSame, KeptOrder, UseAscends, UseHasLive, DrawsByWord, SettlesAtMoment, IsSafe, ImpossibleStays, LifeIsLegal, SentBelongs, AnsweredAlike};
 
 /// The kept entries of a legal history make a legal history that is its own kept one, and read the same; the places of
 /// last use differ, but not their order.
@@ -30,4 +30,12 @@ pub fn histories_are_safe()
 /// What is settled as impossible could not have run on any engine later on, whatever comes.
 pub fn impossible_stays()
     ensures { ImpossibleStays }
+{}
+
+/// Over every life, with crashes at any moment, the history is legal, and what was ever sent belongs to it; an outcome
+/// that was sent stays the outcome.
+pub fn sent_belongs()
+    ensures legal { LifeIsLegal }
+    ensures sent { SentBelongs }
+    ensures alike { AnsweredAlike }
 {}
