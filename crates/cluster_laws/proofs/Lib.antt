@@ -12,5 +12,6 @@ pub mod Outcome
 pub mod Parts
 pub mod Safe
 pub mod Sound
+pub mod ThinEvent
 pub mod Tries
 pub mod Word
