@@ -7,6 +7,7 @@ pub mod Kept
 pub mod Later
 pub mod Life
 pub mod Lists
+pub mod Numbers
 pub mod Order
 pub mod Outcome
 pub mod Parts
