@@ -13,6 +13,8 @@ pub mod Outcome
 pub mod Parts
 pub mod Safe
 pub mod Sound
+pub mod Thin
 pub mod ThinEvent
+pub mod ThinStep
 pub mod Tries
 pub mod Word
