@@ -5,6 +5,7 @@ pub mod Direct
 pub mod Impossible
 pub mod Kept
 pub mod Later
+pub mod LetGo
 pub mod Life
 pub mod Lists
 pub mod Numbers
