@@ -2,6 +2,7 @@ pub mod ByUse
 pub mod Closed
 pub mod Copies
 pub mod Direct
+pub mod Gone
 pub mod Impossible
 pub mod Kept
 pub mod Later
