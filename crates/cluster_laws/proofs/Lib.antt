@@ -17,6 +17,8 @@ pub mod Safe
 pub mod Sound
 pub mod Thin
 pub mod ThinEvent
+pub mod ThinLaws
+pub mod ThinOuts
 pub mod ThinStep
 pub mod Tries
 pub mod Word

@@ -1,6 +1,6 @@
 //! Laws of histories, over the definitions alone.
 
-ghost use Rattle.cluster_defs.specs.Laws.{KeptIsLegal, KeptIsOwn, KeptReadsSame, KeptOrder, UseAscends, UseHasLive, DrawsByWord, SettlesAtMoment, IsSafe, ImpossibleStays, LifeIsLegal, SentBelongs, AnsweredAlike};
+ghost use Rattle.cluster_defs.specs.Laws.{KeptIsLegal, KeptIsOwn, KeptReadsSame, KeptOrder, UseAscends, UseHasLive, DrawsByWord, SettlesAtMoment, IsSafe, ImpossibleStays, LifeIsLegal, SentBelongs, AnsweredAlike, ThinIsLegal, ThinIsKept, ThinDue, ThinGoesOn, ThinSendsSame, DueFalls, DecidesMore, DecidesNone};
 
 /// The kept entries of a legal history make a legal history that is its own kept one, and read the same; the places of
 /// last use differ, but not their order.
@@ -38,4 +38,21 @@ pub fn sent_belongs()
     ensures legal { LifeIsLegal }
     ensures sent { SentBelongs }
     ensures alike { AnsweredAlike }
+{}
+
+/// What a purge lets go is read by nothing later: the thin history is legal, and the same entries go on from it, from an
+/// Open on, and send the same.
+pub fn thin_goes_on()
+    ensures legal { ThinIsLegal }
+    ensures kept { ThinIsKept }
+    ensures due { ThinDue }
+    ensures further { ThinGoesOn }
+    ensures outs { ThinSendsSame }
+{}
+
+/// Each due decision leaves less to decide; all due decisions are those after one more, and none where none is due.
+pub fn decisions_end()
+    ensures falls { DueFalls }
+    ensures more { DecidesMore }
+    ensures none { DecidesNone }
 {}
