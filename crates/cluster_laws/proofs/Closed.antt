@@ -1,8 +1,8 @@
 -- What is settled is known and at rest, what is purged is settled, and what is known has a request.
-use Rattle.std.proofs.Common.{◌≡◌, ℕ, List, [], ◌∷◌, ◌++◌, Bool, true, false, cond, not, ◌&&◌, ◌||◌, refl, ap, ◌∙◌, subst, sym, Option, Some, None, bytes_eq, ⊎_elim}
+use Rattle.std.proofs.Common.{◌≡◌, ℕ, List, [], ◌∷◌, ◌++◌, Bool, true, false, cond, ◌&&◌, ◌||◌, refl, ap, ◌∙◌, subst, sym, Option, Some, None, bytes_eq, ⊎_elim}
 use Rattle.std.specs.Prelude.{find, option_map}
 use Rattle.std.specs.Option.{is_some, option_and_then}
-use Rattle.std.proofs.lemmas.Bool.{and_parts, or_cases, or_left, both_ways}
+use Rattle.std.proofs.lemmas.Bool.{or_cases, or_left, both_ways}
 use Rattle.std.proofs.lemmas.List.Folds.{list_any-append}
 use Rattle.cluster_types.specs.declared.message.Message.{Message}
 use Rattle.cluster_types.specs.declared.verdict.Verdict.{Verdict}
@@ -22,12 +22,11 @@ use Rattle.cluster_defs.specs.Tasks.{Task, Settled, Ending, Well, Badly, Decline
 use Rattle.cluster_defs.specs.Requests.{Request}
 use Rattle.cluster_defs.specs.Facts.{Facts, event_on, is_settled, is_direct_id}
 use Rattle.cluster_defs.specs.Acceptance.{Demand, accepted, accepted_id, request_from, request_made}
-use Rattle.cluster_defs.specs.Purges.{Copy, purged_by, copied_by, copied_ids, copied_from, request_copied, resubmitted}
+use Rattle.cluster_defs.specs.Purges.{Copy, copied_by, copied_ids, copied_from, request_copied, resubmitted}
 use Rattle.cluster_defs.specs.Steps.{next}
 use Rattle.cluster_defs.specs.Histories.{History, facts, Legal}
 use Rattle.cluster_defs.proofs.Options.{same_id, id_self}
 use Rattle.cluster_defs.proofs.Says.{due_says}
-use Rattle.cluster_laws.proofs.Lists.{or_right}
 use Rattle.cluster_laws.proofs.Later.{settled_stays, request_stays}
 use Rattle.cluster_laws.proofs.Safe.{hand_open}
 use Rattle.cluster_laws.proofs.Copies.{purge_settled, old_copied, listed_copied}

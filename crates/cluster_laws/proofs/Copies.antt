@@ -1,16 +1,15 @@
 -- What is purged is settled, and what is resubmitted is known, settled and not purged.
-use Rattle.std.proofs.Common.{◌≡◌, ℕ, suc, ◌+◌, List, [], ◌∷◌, ◌++◌, Bool, true, false, cond, not, ◌&&◌, ◌||◌, refl, sym, ap, ◌∙◌, subst, Option, Some, None, bytes_eq, ⊎_elim}
+use Rattle.std.proofs.Common.{◌≡◌, ℕ, ◌+◌, List, [], ◌∷◌, Bool, true, false, cond, not, ◌&&◌, ◌||◌, refl, sym, subst, Option, Some, None, bytes_eq, ⊎_elim}
 use Rattle.std.specs.Prelude.{filter, find, option_map, nat_lt, length}
-use Rattle.std.specs.List.{list_all, list_any}
-use Rattle.std.proofs.lemmas.Bool.{and_parts, and_from, not-true, or_parts, or_cases, both_ways}
+use Rattle.std.specs.List.{list_all}
+use Rattle.std.proofs.lemmas.Bool.{and_parts, not-true, or_cases}
 use Rattle.cluster_types.specs.declared.event.Event.{Event}
 use Rattle.cluster_types.specs.declared.event.Event.TheVariants.{Submit, Direct, Reply, Join, Leave, Pong, Purge, Resubmit, Ask}
-use Rattle.message_defs.specs.Texts.{resubmit_id}
 use Rattle.cluster_defs.specs.Words.{Id, is_empty, is_listed, once}
 use Rattle.cluster_defs.specs.Facts.{Facts, is_settled}
 use Rattle.cluster_defs.specs.Acceptance.{most_ids}
-use Rattle.cluster_defs.specs.Purges.{inflight, gone_or_unknown, purge_list, purging, Purging, Unknown, Inflight, Drops, dropped, purged_by, drops, Copy, copies_from, never_known, gone, resubmitting, resubmitting_known, Resubmitting, NeverKnown, Gone, Running, NoRoom, Makes, made, copied_by, copied_ids, copied_from}
-use Rattle.cluster_defs.proofs.Options.{same_id, find_passes}
+use Rattle.cluster_defs.specs.Purges.{inflight, gone_or_unknown, purge_list, purging, Unknown, Inflight, Drops, dropped, purged_by, drops, Copy, copies_from, never_known, gone, resubmitting, resubmitting_known, Resubmitting, NeverKnown, Gone, Running, NoRoom, Makes, made, copied_by, copied_ids, copied_from}
+use Rattle.cluster_defs.proofs.Options.{same_id}
 
 -- where nothing passes a test, all fail it
 pub none_pass : {X : Type 0} (p : X → Bool) (xs : List X) → is_empty (filter p xs) ≡ true → list_all (λ x. not (p x)) xs ≡ true

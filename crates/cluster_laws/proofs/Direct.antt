@@ -1,13 +1,12 @@
 -- A direct request that waits for its engine, waits for one that is live.
-use Rattle.std.proofs.Common.{◌≡◌, ℕ, ◌+◌, List, [], ◌∷◌, ◌++◌, Bool, true, false, cond, not, ◌&&◌, ◌||◌, refl, sym, ap, ◌∙◌, subst, Option, Some, None, bytes_eq, ⊎_elim}
+use Rattle.std.proofs.Common.{◌≡◌, ℕ, List, [], ◌∷◌, ◌++◌, Bool, true, false, cond, ◌&&◌, ◌||◌, refl, sym, ap, ◌∙◌, subst, Option, Some, None, bytes_eq}
 use Rattle.std.specs.Prelude.{find, option_map, nat_lt, ◌==◌}
-use Rattle.std.specs.Option.{is_some, is_none, option_and_then}
-use Rattle.std.proofs.lemmas.Bool.{or_cases, or_left, eq-eqb}
+use Rattle.std.specs.Option.{is_some, option_and_then}
+use Rattle.std.proofs.lemmas.Bool.{or_left, eq-eqb}
 use Rattle.std.proofs.lemmas.List.Folds.{list_any-append}
 use Rattle.cluster_types.specs.declared.message.Message.{Message}
 use Rattle.cluster_types.specs.declared.event.Event.{Event}
 use Rattle.cluster_types.specs.declared.event.Event.TheVariants.{Submit, Direct, Reply, Join, Leave, Pong, Purge, Resubmit, Ask}
-use Rattle.cluster_types.specs.declared.entry.Input.{Input as InputType}
 use Rattle.cluster_types.specs.declared.entry.Input.TheVariants.{Open, Up, Down, In, Beat, Time}
 use Rattle.cluster_types.specs.declared.entry.Entry.{Entry}
 use Rattle.cluster_types.specs.declared.entry.Entry.TheVariants.{Input, Hand, Settle, Lose}
@@ -16,19 +15,19 @@ use Rattle.cluster_defs.specs.declared.attempt.Attempt.TheVariants.{Never, Runni
 use Rattle.cluster_defs.specs.declared.engine.Engine.{Engine}
 use Rattle.cluster_defs.specs.Words.{Id, or_else, is_listed}
 use Rattle.cluster_defs.specs.Engines.{Engines, engine_on, engine_named, lists_number, left, missed}
-use Rattle.cluster_defs.specs.Tasks.{Task, Settled, Ending, Well, Badly, Declines, ending, lost, took, replied, after_reply, after_end, counts, handed, runs_at, is_never}
+use Rattle.cluster_defs.specs.Tasks.{Task, Ending, Well, Badly, Declines, ending, lost, took, replied, after_reply, after_end, counts, handed, runs_at, is_never}
 use Rattle.cluster_defs.specs.Requests.{Request}
 use Rattle.cluster_defs.specs.Facts.{Facts, event_on, is_settled, is_direct_id}
-use Rattle.cluster_defs.specs.Acceptance.{Demand, demanded, accepted, accepted_as, acceptance, is_accepted, accepted_id, request_from, request_made, request_direct, request_submit}
+use Rattle.cluster_defs.specs.Acceptance.{Demand, accepted, accepted_id, request_from, request_made, request_direct, request_submit}
 use Rattle.cluster_defs.specs.Purges.{Copy, copied_by, copied_ids, copied_from, request_copied, resubmitted}
-use Rattle.cluster_defs.specs.Steps.{next, engines_in, task_after, request_after}
+use Rattle.cluster_defs.specs.Steps.{next, engines_in}
 use Rattle.cluster_defs.specs.Scheduling.{due, lose_due, is_live, ready_for, direct_engine, Allowed}
 use Rattle.cluster_defs.specs.Histories.{History, facts, Legal}
-use Rattle.cluster_defs.proofs.Options.{if_some, map_some, or_else_some, same_id}
+use Rattle.cluster_defs.proofs.Options.{map_some}
 use Rattle.cluster_defs.proofs.Says.{SaysLose, due_says}
 use Rattle.cluster_laws.proofs.Lists.{or_right}
 use Rattle.cluster_laws.proofs.Later.{request_stays}
-use Rattle.cluster_laws.proofs.Parts.{Waits, waits, waits_back, NoneDue, none_due, none_waits}
+use Rattle.cluster_laws.proofs.Parts.{Waits, waits, waits_back, none_due, none_waits}
 
 -- AN ATTEMPT IS FIRST MADE BY A HAND-OUT
 

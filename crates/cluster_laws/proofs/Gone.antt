@@ -1,23 +1,22 @@
 -- The thin history is legal, and the same further entries are legal after both histories.
-use Rattle.std.proofs.Common.{◌≡◌, ℕ, ◌≤◌, suc, List, [], ◌∷◌, ◌++◌, length, Bool, true, false, cond, not, ◌&&◌, refl, sym, ap, ◌∙◌, subst, arith, Option, Some, None}
+use Rattle.std.proofs.Common.{◌≡◌, ℕ, ◌≤◌, suc, List, [], ◌∷◌, ◌++◌, length, Bool, true, false, cond, refl, sym, ap, ◌∙◌, subst, arith, Some}
 use Rattle.std.specs.Option.{is_some}
 use Rattle.std.proofs.lemmas.Bool.{false_from_ne_true, both_ways}
 use Rattle.cluster_types.specs.declared.config.Scheme.{Scheme}
-use Rattle.cluster_types.specs.declared.entry.Input.{Input as InputType}
 use Rattle.cluster_types.specs.declared.entry.Input.TheVariants.{Open, Up, Down, In, Beat, Time}
 use Rattle.cluster_types.specs.declared.entry.Entry.{Entry}
 use Rattle.cluster_types.specs.declared.entry.Entry.TheVariants.{Input, Hand, Settle, Lose}
 use Rattle.cluster_defs.specs.Words.{Id}
 use Rattle.cluster_defs.specs.Facts.{Facts, event_on, event_in}
 use Rattle.cluster_defs.specs.Acceptance.{accepted}
-use Rattle.cluster_defs.specs.Purges.{Copy, copied_by, copied_from}
+use Rattle.cluster_defs.specs.Purges.{copied_from}
 use Rattle.cluster_defs.specs.Steps.{next, changes}
 use Rattle.cluster_defs.specs.Scheduling.{due, Allowed, is_kept}
 use Rattle.cluster_defs.specs.Histories.{History, facts, Legal, kept}
 use Rattle.cluster_defs.specs.Thin.{thin_request, thin_reply, thin_entry, thin_by, with_bodies}
 use Rattle.cluster_laws.proofs.Closed.{purged_stays}
 use Rattle.cluster_laws.proofs.Copies.{old_copied}
-use Rattle.cluster_laws.proofs.Thin.{Bodies, Replies, Like, Thinned, thin_message, changes_alike}
+use Rattle.cluster_laws.proofs.Thin.{Bodies, Replies, Like, thin_message, changes_alike}
 use Rattle.cluster_laws.proofs.ThinStep.{Shut, AllShut, copies_in, same_like, facts_thin}
 
 -- LEGAL IS THE SAME, since no decision and no input reads what is let go

@@ -6,7 +6,6 @@ use Rattle.std.proofs.lemmas.Bool.{both_ways, and_parts, or_cases, not-true, eqb
 use Rattle.cluster_types.specs.Verdicts.{completed}
 use Rattle.cluster_types.specs.declared.event.Dep.{Dep}
 use Rattle.cluster_types.specs.declared.verdict.Verdict.{Verdict}
-use Rattle.cluster_types.specs.declared.verdict.Verdict.TheVariants.{Completed, Failed}
 use Rattle.cluster_types.specs.declared.verdict.Cause.{Cause}
 use Rattle.cluster_types.specs.declared.verdict.Cause.TheVariants.{Reply as ByReply, EngineError, ImpossibleDependency, InvalidDependency, TaskTimeout}
 use Rattle.cluster_types.specs.declared.entry.Entry.{Entry}
@@ -18,7 +17,7 @@ use Rattle.cluster_defs.specs.Tasks.{Settled}
 use Rattle.cluster_defs.specs.Dependencies.{quantified, met, unreachable, asked, other_kind, on_engine, apart, same_engine, scattered}
 use Rattle.cluster_defs.specs.Requests.{Request, is_direct, is_bound, is_target}
 use Rattle.cluster_defs.specs.Facts.{Facts}
-use Rattle.cluster_defs.specs.Scheduling.{is_live, excludes, is_dead, no_target, follow_dead, follow_spoilt, spoils, usable, usable_on, may_run, may_run_as, verdict_at, rests, failing, failing_as, failing_id, is_timed_out}
+use Rattle.cluster_defs.specs.Scheduling.{is_live, excludes, is_dead, no_target, follow_dead, follow_spoilt, spoils, usable, usable_on, may_run, may_run_as, verdict_at, rests, failing, failing_as, is_timed_out}
 use Rattle.cluster_defs.specs.Histories.{History, facts, Legal}
 use Rattle.cluster_defs.proofs.Options.{if_some}
 use Rattle.cluster_defs.proofs.Says.{due_says}

@@ -1,6 +1,5 @@
 -- An entry that isn't kept changes nothing, so the kept entries alone read the same.
 use Rattle.std.proofs.Common.{◌≡◌, ℕ, List, [], ◌∷◌, ◌++◌, append-nil, Bool, true, false, cond, ◌&&◌, ◌||◌, refl, sym, ap, ◌∙◌, subst, Option, Some, None, bytes_eq}
-use Rattle.std.specs.Option.{is_some}
 use Rattle.std.proofs.lemmas.Bool.{or_parts}
 use Rattle.cluster_types.specs.declared.message.Message.{Message}
 use Rattle.cluster_types.specs.declared.event.Event.{Event}
@@ -9,13 +8,13 @@ use Rattle.cluster_types.specs.declared.entry.Input.TheVariants.{Open, Up, Down,
 use Rattle.cluster_types.specs.declared.entry.Entry.{Entry}
 use Rattle.cluster_types.specs.declared.entry.Entry.TheVariants.{Input, Hand, Settle, Lose}
 use Rattle.cluster_defs.specs.Words.{Id, or_else}
-use Rattle.cluster_defs.specs.Engines.{Engines, joined, left, echoed}
-use Rattle.cluster_defs.specs.Tasks.{Task, counts, after_reply, after_end}
-use Rattle.cluster_defs.specs.Facts.{Facts, event_on, event_in, is_direct_id}
+use Rattle.cluster_defs.specs.Engines.{joined, left, echoed}
+use Rattle.cluster_defs.specs.Tasks.{counts, after_reply, after_end}
+use Rattle.cluster_defs.specs.Facts.{Facts, event_on, is_direct_id}
 use Rattle.cluster_defs.specs.Acceptance.{accepted, accepted_id, request_from, body_from}
 use Rattle.cluster_defs.specs.Purges.{purged_by, drops, copied_by, copied_ids, request_copied, body_copied}
 use Rattle.cluster_defs.specs.Steps.{step, next, changes, is_valid_reply, engines_in, with_joined, reply_from}
-use Rattle.cluster_defs.specs.Scheduling.{Allowed, is_kept, is_kept_as}
+use Rattle.cluster_defs.specs.Scheduling.{Allowed, is_kept}
 use Rattle.cluster_defs.specs.Histories.{History, facts, Legal, kept}
 use Rattle.cluster_defs.proofs.Options.{none_from, same_id, or_else-None}
 

@@ -1,16 +1,16 @@
 -- What the thin history lets go is purged, and no copy of what stays was made of it.
-use Rattle.std.proofs.Common.{◌≡◌, ℕ, List, [], ◌∷◌, Bool, true, false, cond, not, ◌&&◌, ◌||◌, refl, sym, ap, ◌∙◌, subst, Option, Some, None, bytes_eq, ⊎_elim}
+use Rattle.std.proofs.Common.{◌≡◌, List, [], ◌∷◌, Bool, true, false, cond, not, ◌&&◌, ◌||◌, refl, sym, ◌∙◌, subst, Option, Some, None, bytes_eq}
 use Rattle.std.specs.Prelude.{find, option_map}
 use Rattle.std.specs.List.{list_all}
 use Rattle.std.proofs.lemmas.Bool.{and_parts, and_from, false_from_ne_true, both_ways}
 use Rattle.cluster_types.specs.declared.entry.Entry.{Entry}
 use Rattle.cluster_defs.specs.Words.{Id, is_listed}
 use Rattle.cluster_defs.specs.Facts.{Facts, event_in}
-use Rattle.cluster_defs.specs.Purges.{Copy, copied_by, copied_from}
+use Rattle.cluster_defs.specs.Purges.{Copy, copied_from}
 use Rattle.cluster_defs.specs.Histories.{History, facts}
 use Rattle.cluster_defs.specs.Thin.{narrowed, copies_of, gone_from}
 use Rattle.cluster_defs.proofs.Options.{same_id, id_self, find_passes}
-use Rattle.cluster_laws.proofs.Copies.{Copied, AllCopied, all_copied}
+use Rattle.cluster_laws.proofs.Copies.{AllCopied, all_copied}
 use Rattle.cluster_laws.proofs.Numbers.{AllNew, copies_new, numbered}
 use Rattle.cluster_laws.proofs.Closed.{listed_stays}
 use Rattle.cluster_laws.proofs.ThinStep.{Shut, AllShut, copies_in}

@@ -1,15 +1,14 @@
 -- All that was ever sent, over all crashes, belongs to one legal history.
-use Rattle.std.proofs.Common.{◌≡◌, ℕ, zero, suc, ◌≤◌, List, [], ◌∷◌, ◌++◌, length, map, append_assoc, length-append, true, false, cond, Bool, refl, sym, ap, ◌∙◌, subst, arith, Option, Some, None, ◌⊎◌, inl, inr, ⊎_elim}
+use Rattle.std.proofs.Common.{◌≡◌, ℕ, zero, suc, ◌≤◌, List, [], ◌∷◌, ◌++◌, length, map, append_assoc, length-append, true, false, cond, Bool, refl, sym, ap, ◌∙◌, subst, arith, Some, ◌⊎◌, inl, inr, ⊎_elim}
 use Rattle.std.specs.Prelude.{slice_get, filter, ◌==◌}
 use Rattle.std.proofs.lemmas.Bool.{cases_lt}
-use Rattle.cluster_types.specs.declared.out.Out.{Out}
 use Rattle.cluster_types.specs.declared.entry.Input.TheVariants.{Open, Up, Down, In, Beat, Time}
 use Rattle.cluster_types.specs.declared.entry.Entry.{Entry}
 use Rattle.cluster_types.specs.declared.entry.Entry.TheVariants.{Input, Hand, Settle, Lose}
 use Rattle.cluster_defs.specs.Scheduling.{is_kept}
 use Rattle.cluster_defs.specs.Histories.{History, facts, Legal, kept}
 use Rattle.cluster_defs.specs.Outs.{outs, outs_on, conn_of}
-use Rattle.cluster_defs.specs.Lives.{World, Sending, IsFront, IsWholeFront, kept_end, sendings, sendings_to, Sends, Move, May, moved_by, world, Life, Belongs}
+use Rattle.cluster_defs.specs.Lives.{World, Sending, IsFront, kept_end, sendings, sendings_to, Sends, Move, May, moved_by, world, Life, Belongs}
 use Rattle.cluster_defs.specs.Lives.Move.{Grow, Flush, Send, Crash}
 use Rattle.cluster_defs.proofs.Options.{some_inj}
 use Rattle.cluster_laws.proofs.Kept.{kept_legal, kept_own}

@@ -1,7 +1,7 @@
 -- The ids of resubmissions are new: each known id that begins as theirs do has a number that was given.
-use Rattle.std.proofs.Common.{◌≡◌, ℕ, suc, ◌+◌, ◌<◌, ◌≤◌, ◌^◌, List, [], ◌∷◌, ◌++◌, length, map, take, append-nil, length-append, Bool, true, false, cond, not, ◌&&◌, ◌||◌, refl, sym, ap, ◌∙◌, subst, arith, Option, Some, None, bytes_eq, ⊎_elim}
+use Rattle.std.proofs.Common.{◌≡◌, ℕ, suc, ◌+◌, ◌<◌, ◌≤◌, ◌^◌, List, [], ◌∷◌, ◌++◌, length, map, append-nil, length-append, true, false, cond, ◌&&◌, ◌||◌, refl, sym, ap, ◌∙◌, subst, arith, Option, Some, None, bytes_eq, ⊎_elim}
 use Rattle.std.specs.Prelude.{nat_le, nat_lt, codes, decimal}
-use Rattle.std.specs.Option.{is_none, option_and_then}
+use Rattle.std.specs.Option.{is_none}
 use Rattle.std.proofs.Math.Seq.{take-append_seam}
 use Rattle.std.proofs.lemmas.Bool.{or_cases, leb-false, ltb-false, false_from_ne_true, both_ways}
 use Rattle.std.proofs.lemmas.Fmt.{decimal_injective}
@@ -14,7 +14,6 @@ use Rattle.cluster_types.specs.declared.entry.Input.TheVariants.{Open, Up, Down,
 use Rattle.cluster_types.specs.declared.entry.Entry.{Entry}
 use Rattle.cluster_types.specs.declared.entry.Entry.TheVariants.{Input, Hand, Settle, Lose}
 use Rattle.message_defs.specs.Texts.{resubmit_id}
-use Rattle.cluster_defs.specs.declared.acceptance.Acceptance.{Acceptance}
 use Rattle.cluster_defs.specs.declared.acceptance.Acceptance.TheVariants.{Reserved, Purged, Again, NoSuchEngine, Full, Accepted}
 use Rattle.cluster_defs.specs.Words.{Id, is_listed, begins_with}
 use Rattle.cluster_defs.specs.Engines.{engine_named}
@@ -24,7 +23,7 @@ use Rattle.cluster_defs.specs.Purges.{Copy, copies_from, copied_by, copied_ids}
 use Rattle.cluster_defs.specs.Steps.{next}
 use Rattle.cluster_defs.specs.Histories.{History, facts}
 use Rattle.cluster_defs.proofs.Options.{then_some, if_some, same_id, id_self}
-use Rattle.cluster_laws.proofs.Copies.{MadeOf, copies_of}
+use Rattle.cluster_laws.proofs.Copies.{copies_of}
 
 -- WHAT IS ACCEPTED
 

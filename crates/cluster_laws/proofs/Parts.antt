@@ -1,10 +1,8 @@
 -- The parts of the tests by which a hand-out is due, and what it means that nothing is due.
-use Rattle.std.proofs.Common.{◌≡◌, ℕ, ◌≤◌, List, [], ◌∷◌, Bool, true, false, cond, not, ◌&&◌, ◌||◌, refl, sym, subst, Option, Some, None, ⊎_elim}
-use Rattle.std.specs.Prelude.{find, nat_lt}
+use Rattle.std.proofs.Common.{◌≡◌, ℕ, ◌≤◌, List, [], ◌∷◌, Bool, true, false, cond, not, ◌&&◌, refl, sym, subst, Option, Some, None, ⊎_elim}
+use Rattle.std.specs.Prelude.{find}
 use Rattle.std.specs.Option.{is_some, option_and_then}
 use Rattle.std.proofs.lemmas.Bool.{and_parts, not-true, leb-true, both_ways, or_cases}
-use Rattle.cluster_types.specs.declared.entry.Entry.{Entry}
-use Rattle.cluster_types.specs.declared.entry.Entry.TheVariants.{Hand}
 use Rattle.cluster_defs.specs.Words.{Id, or_else, is_listed}
 use Rattle.cluster_defs.specs.Tasks.{is_never}
 use Rattle.cluster_defs.specs.Dependencies.{met, on_engine}

@@ -1,31 +1,23 @@
 -- What goes with a purge is read by nothing that comes later: facts that differ in bodies and replies that are let go.
-use Rattle.std.proofs.Common.{◌≡◌, ℕ, List, [], ◌∷◌, ◌++◌, Bool, true, false, cond, not, ◌&&◌, ◌||◌, refl, sym, ap, ◌∙◌, subst, Option, Some, None, Result, Ok, Err, bytes_eq}
-use Rattle.std.specs.Prelude.{option_map, find}
-use Rattle.std.specs.Option.{is_some, option_and_then}
+use Rattle.std.proofs.Common.{◌≡◌, ℕ, List, [], Bool, true, false, cond, ◌&&◌, refl, sym, ap, ◌∙◌, subst, Option, Some, None, Result, Ok, Err, bytes_eq}
+use Rattle.std.specs.Option.{option_and_then}
 use Rattle.cluster_types.specs.declared.config.Channel.{Channel}
 use Rattle.cluster_types.specs.declared.message.Message.{Message}
-use Rattle.cluster_types.specs.declared.event.Submission.{Submission}
 use Rattle.cluster_types.specs.declared.event.Event.{Event}
 use Rattle.cluster_types.specs.declared.event.Event.TheVariants.{Submit, Direct, Reply, Join, Leave, Pong, Purge, Resubmit, Ask}
 use Rattle.cluster_types.specs.declared.event.Reason.{Reason}
-use Rattle.cluster_types.specs.declared.entry.Input.TheVariants.{Open, Up, Down, In, Beat, Time}
-use Rattle.cluster_types.specs.declared.entry.Entry.{Entry}
-use Rattle.cluster_types.specs.declared.entry.Entry.TheVariants.{Input, Hand, Settle, Lose}
 use Rattle.message_defs.specs.Event.{event_of}
 use Rattle.cluster_defs.specs.declared.acceptance.Acceptance.{Acceptance}
-use Rattle.cluster_defs.specs.declared.acceptance.Acceptance.TheVariants.{Reserved, Purged, Again, NoSuchEngine, Full, Accepted}
-use Rattle.cluster_defs.specs.Words.{Id, or_else, is_listed, begins_with}
+use Rattle.cluster_defs.specs.declared.acceptance.Acceptance.TheVariants.{Reserved, Purged, Again}
+use Rattle.cluster_defs.specs.Words.{Id, is_listed, begins_with}
 use Rattle.cluster_defs.specs.Connections.{channel_on}
-use Rattle.cluster_defs.specs.Engines.{joined}
-use Rattle.cluster_defs.specs.Tasks.{counts, after_reply, after_end}
-use Rattle.cluster_defs.specs.Requests.{Request, Body, body_of, parts_of}
-use Rattle.cluster_defs.specs.Facts.{Facts, meaning, event_on, event_in, is_direct_id}
-use Rattle.cluster_defs.specs.Acceptance.{Demand, demanded, reserved_front, is_repeat, acceptance_new, acceptance_open, acceptance, is_accepted, accepted_as, accepted, accepted_id, request_from, body_from}
-use Rattle.cluster_defs.specs.Purges.{Copy, purged_by, drops, copied_by, copied_ids, copied_from, request_copied, body_copied}
-use Rattle.cluster_defs.specs.Steps.{step, next, changes, engines_in, with_joined, reply_from}
-use Rattle.cluster_defs.specs.Histories.{History, facts}
-use Rattle.cluster_defs.specs.Thin.{no_content, short_reply, with_content, thin_request, thin_reply, thin_entry, thin_by, copies_of, with_bodies}
-use Rattle.cluster_defs.proofs.Options.{same_id, find_passes}
+use Rattle.cluster_defs.specs.Tasks.{counts}
+use Rattle.cluster_defs.specs.Requests.{Body, body_of}
+use Rattle.cluster_defs.specs.Facts.{Facts, meaning, event_on}
+use Rattle.cluster_defs.specs.Acceptance.{Demand, demanded, reserved_front, is_repeat, acceptance_new, acceptance, is_accepted, accepted_as, accepted, body_from}
+use Rattle.cluster_defs.specs.Steps.{changes, reply_from}
+use Rattle.cluster_defs.specs.Thin.{no_content, short_reply, with_content, thin_request, thin_reply, with_bodies}
+use Rattle.cluster_defs.proofs.Options.{same_id}
 use Rattle.cluster_laws.proofs.ThinEvent.{with_body, is_demand, demand_event, reply_event_same}
 
 abbrev pub Bodies : Type 0

@@ -1,5 +1,5 @@
 -- What a message means doesn't change with the contents that a purge lets go: of a request any content, of a reply all but its status.
-use Rattle.std.proofs.Common.{◌≡◌, ℕ, List, Bool, true, false, cond, refl, sym, ap, ◌∙◌, subst, Option, Some, None, Result, Ok, Err}
+use Rattle.std.proofs.Common.{◌≡◌, ℕ, List, Bool, true, false, cond, refl, ap, subst, Option, Some, None, Result, Ok, Err}
 use Rattle.std.specs.Str.{is_utf8, chars}
 use Rattle.std.specs.Prelude.{length, ◌==◌}
 use Rattle.serde_json.proofs.OnLiterals.{serde_json_on_literals}
@@ -7,7 +7,7 @@ use Rattle.cluster_types.specs.declared.config.Channel.{Channel}
 use Rattle.cluster_types.specs.declared.config.Channel.TheVariants.{Hub, Task, Mux, Engine}
 use Rattle.cluster_types.specs.declared.message.Message.{Message}
 use Rattle.cluster_types.specs.declared.event.Event.{Event}
-use Rattle.cluster_types.specs.declared.event.Event.TheVariants.{Submit, Direct, Reply, Join as JoinEvent, Leave, Pong as PongEvent, Purge as PurgeEvent, Resubmit as ResubmitEvent, Ask}
+use Rattle.cluster_types.specs.declared.event.Event.TheVariants.{Submit, Direct, Reply, Leave}
 use Rattle.cluster_types.specs.declared.event.Reason.{Reason}
 use Rattle.cluster_types.specs.declared.event.Reason.TheVariants.{BadHeader, BadType, NoTarget, BadReply}
 use Rattle.message_defs.specs.declared.header.Header.{Header as HeaderType}
@@ -16,7 +16,7 @@ use Rattle.message_defs.specs.declared.content.ReplyMeta.{ReplyMeta}
 use Rattle.message_defs.specs.declared.content.HubContent.{HubContent}
 use Rattle.message_defs.specs.declared.content.HubContent.TheVariants.{Connection as ConnectionContent, History as HistoryContent, Shutdown as ShutdownContent, Queue as QueueContent, Result as ResultContent, Purge as PurgeContent, Resubmit as ResubmitContent, Join, Pong}
 use Rattle.message_defs.specs.declared.request.Request.{Request}
-use Rattle.message_defs.specs.declared.request.Request.TheVariants.{Connection, Queue, Results, History, Shutdown, Purge, Resubmit, Registration, Beat}
+use Rattle.message_defs.specs.declared.request.Request.TheVariants.{Registration, Beat}
 use Rattle.message_defs.specs.Json.{Reading, after}
 use Rattle.message_defs.specs.Header.{read_header}
 use Rattle.message_defs.specs.Submit.{read_submit}

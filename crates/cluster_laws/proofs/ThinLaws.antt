@@ -1,9 +1,7 @@
 -- The laws of the thin history.
-use Rattle.std.proofs.Common.{◌≡◌, ℕ, List, [], ◌∷◌, ◌++◌, Bool, refl, ◌↔◌}
+use Rattle.std.proofs.Common.{◌≡◌, ℕ, List, [], ◌∷◌, ◌++◌, refl, ◌↔◌}
 use Rattle.cluster_types.specs.declared.config.Scheme.{Scheme}
 use Rattle.cluster_types.specs.declared.entry.Entry.{Entry}
-use Rattle.cluster_defs.specs.Words.{Id}
-use Rattle.cluster_defs.specs.Facts.{Facts}
 use Rattle.cluster_defs.specs.Scheduling.{due}
 use Rattle.cluster_defs.specs.Histories.{History, facts, Legal, kept}
 use Rattle.cluster_defs.specs.Outs.{outs}

@@ -1,9 +1,9 @@
 -- What further entries send is the same after both histories: nothing that is let go is asked for.
-use Rattle.std.proofs.Common.{◌≡◌, ℕ, ◌+◌, suc, List, [], ◌∷◌, ◌++◌, Bool, true, false, cond, not, ◌&&◌, ◌||◌, refl, sym, ap, ◌∙◌, subst, Option, Some, None}
+use Rattle.std.proofs.Common.{◌≡◌, ℕ, suc, List, [], ◌∷◌, ◌++◌, Bool, true, false, cond, not, ◌||◌, refl, sym, ap, ◌∙◌, Option, Some, None}
 use Rattle.std.specs.Prelude.{filter, filter_map, option_map, codes}
 use Rattle.std.specs.List.{list_all}
 use Rattle.std.specs.Option.{option_and_then}
-use Rattle.std.proofs.lemmas.Bool.{and_parts, and_from, not-true, or_parts, false_from_ne_true, both_ways}
+use Rattle.std.proofs.lemmas.Bool.{and_parts, and_from, not-true, false_from_ne_true, both_ways}
 use Rattle.cluster_types.specs.declared.config.Channel.{Channel}
 use Rattle.cluster_types.specs.declared.config.Scheme.{Scheme}
 use Rattle.cluster_types.specs.declared.message.Message.{Message}
@@ -25,14 +25,13 @@ use Rattle.cluster_defs.specs.Words.{Id, is_empty, is_listed, begins_with, once}
 use Rattle.cluster_defs.specs.Connections.{connection_on}
 use Rattle.cluster_defs.specs.Engines.{conn_in}
 use Rattle.cluster_defs.specs.Tasks.{Settled}
-use Rattle.cluster_defs.specs.Requests.{Request, Body}
 use Rattle.cluster_defs.specs.Facts.{Facts, event_on, event_in, is_settled}
-use Rattle.cluster_defs.specs.Acceptance.{Demand, reserved_front, is_same, is_repeat, acceptance_new, acceptance_open, acceptance}
+use Rattle.cluster_defs.specs.Acceptance.{Demand, reserved_front, is_same, is_repeat, acceptance_new, acceptance}
 use Rattle.cluster_defs.specs.Purges.{gone_or_unknown}
 use Rattle.cluster_defs.specs.Steps.{step}
 use Rattle.cluster_defs.specs.Histories.{History, facts, Legal, place}
-use Rattle.cluster_defs.specs.Outcomes.{handed_with, hand_out, number_of, made_outcome, outcome, outcome_by}
-use Rattle.cluster_defs.specs.Queries.{demand_answer, answer_query, answer, answer_event, answer_type, limited, refusal, left_by, left_as, results_of, result_with, result_answer, message_type}
+use Rattle.cluster_defs.specs.Outcomes.{handed_with, outcome, outcome_by}
+use Rattle.cluster_defs.specs.Queries.{demand_answer, answer_query, answer_event, answer_type, limited, refusal, left_by, left_as, results_of, result_with, result_answer, message_type}
 use Rattle.cluster_defs.specs.Outs.{pass_to, owner_conn, repeat_out, repeated, answer_out, message_outs, outs_as, outs}
 use Rattle.cluster_defs.specs.Thin.{with_bodies}
 use Rattle.cluster_defs.proofs.Says.{due_says}
@@ -102,7 +101,7 @@ demanded_same f b r conn m d same =
     let there = with_bodies f b r in
     let again : is_repeat there d m ≡ is_repeat f d m = ap (is_same d m (f.request_of d.submission.id)) same.body in
     let is : acceptance there d m ≡ acceptance f d m =
-        ap (λ x. cond (begins_with reserved_front d.submission.id) Reserved (cond (f.purged d.submission.id) Purged (cond (is_listed d.submission.id f.known) (Again x) (acceptance_new f d m)))) again in
+    ap (λ x. cond (begins_with reserved_front d.submission.id) Reserved (cond (f.purged d.submission.id) Purged (cond (is_listed d.submission.id f.known) (Again x) (acceptance_new f d m)))) again in
     record { answers = is; repeats = repeat_same f b r conn d.submission.id (acceptance there d m) same.reply ∙ ap (repeat_out f conn d.submission.id) is }
 
 demanded_alike : (f : Facts) (b : Bodies) (r : Replies) (conn : ℕ) (m : Message) (d : Demand) → Agrees f b r → Demanded f b r conn m d

@@ -1,5 +1,5 @@
 -- A thin entry does to the thin facts what the entry does to the facts, but for what is let go.
-use Rattle.std.proofs.Common.{◌≡◌, ℕ, List, [], ◌∷◌, ◌++◌, Bool, true, false, cond, ◌||◌, refl, sym, ap, ◌∙◌, subst, Option, Some, None}
+use Rattle.std.proofs.Common.{◌≡◌, ℕ, List, [], ◌∷◌, ◌++◌, Bool, false, cond, ◌||◌, refl, sym, ap, ◌∙◌, subst, Option, Some, None}
 use Rattle.std.specs.Option.{option_and_then}
 use Rattle.cluster_types.specs.declared.message.Message.{Message}
 use Rattle.cluster_types.specs.declared.event.Event.{Event}
@@ -9,11 +9,10 @@ use Rattle.cluster_types.specs.declared.entry.Entry.TheVariants.{Input, Hand, Se
 use Rattle.cluster_defs.specs.Words.{Id, or_else}
 use Rattle.cluster_defs.specs.Engines.{joined, left}
 use Rattle.cluster_defs.specs.Tasks.{after_reply, after_end}
-use Rattle.cluster_defs.specs.Requests.{Body}
 use Rattle.cluster_defs.specs.Facts.{Facts, event_on, event_in, is_direct_id}
 use Rattle.cluster_defs.specs.Acceptance.{accepted, accepted_id, request_from, body_from}
-use Rattle.cluster_defs.specs.Purges.{Copy, purged_by, drops, copied_by, copied_ids, copied_from, request_copied, body_copied}
-use Rattle.cluster_defs.specs.Steps.{step, next, changes, engines_in, with_joined, reply_from, body_after, reply_after}
+use Rattle.cluster_defs.specs.Purges.{Copy, purged_by, drops, copied_by, copied_ids, copied_from, request_copied}
+use Rattle.cluster_defs.specs.Steps.{step, next, engines_in, with_joined, reply_from, body_after, reply_after}
 use Rattle.cluster_defs.specs.Histories.{History, facts}
 use Rattle.cluster_defs.specs.Thin.{thin_request, thin_reply, thin_entry, thin_by, with_bodies}
 use Rattle.cluster_laws.proofs.ThinEvent.{with_body}

@@ -1,5 +1,5 @@
 -- The hand-outs of an id that were not declined are at most one more than its retries.
-use Rattle.std.proofs.Common.{◌≡◌, ℕ, ◌+◌, ◌≤◌, suc, List, [], ◌∷◌, Bool, true, false, cond, not, ◌&&◌, refl, sym, ap, ◌∙◌, subst, arith, Option, Some, None, bytes_eq, ⊎_elim}
+use Rattle.std.proofs.Common.{◌≡◌, ℕ, ◌+◌, ◌≤◌, suc, List, [], ◌∷◌, Bool, true, false, cond, not, ◌&&◌, refl, ap, subst, arith, Option, Some, None, bytes_eq, ⊎_elim}
 use Rattle.std.specs.Prelude.{find, option_map}
 use Rattle.std.specs.Option.{is_some, option_and_then}
 use Rattle.std.proofs.lemmas.Bool.{and_parts, not-true}
@@ -21,8 +21,8 @@ use Rattle.cluster_defs.specs.Requests.{Request}
 use Rattle.cluster_defs.specs.Facts.{Facts, event_on, is_direct_id}
 use Rattle.cluster_defs.specs.Acceptance.{accepted, request_from}
 use Rattle.cluster_defs.specs.Purges.{copied_by, request_copied}
-use Rattle.cluster_defs.specs.Steps.{next, request_after, task_after}
-use Rattle.cluster_defs.specs.Scheduling.{settle_as, settle_due, is_final, verdict, verdict_at, may_run_as, direct_engine}
+use Rattle.cluster_defs.specs.Steps.{next}
+use Rattle.cluster_defs.specs.Scheduling.{settle_as, is_final, verdict, verdict_at, may_run_as, direct_engine}
 use Rattle.cluster_defs.specs.Histories.{History, facts, Legal}
 use Rattle.cluster_defs.specs.Safety.{one_if, hands, declines_in, is_declined, declines, allowance, Tries}
 use Rattle.cluster_defs.proofs.Options.{same_id, find_passes}
