@@ -1,6 +1,8 @@
 -- What holds of every legal history: the statements, each ready to be the contract of a law.
-use Rattle.std.specs.Prelude.{◌≡◌, ◌<◌, ◌↔◌, ℕ, nat_lt, true, false, ◌==◌, List, ◌∷◌, ◌++◌, Some, None}
-use Rattle.std.specs.List.{list_any}
+use Rattle.std.specs.Prelude.{◌≡◌, ◌<◌, ◌↔◌, ℕ, nat_lt, true, false, not, ◌&&◌, ◌==◌, List, [], ◌∷◌, ◌++◌, Some, None, is_some, bytes_eq}
+use Rattle.std.specs.List.{list_any, list_all}
+use Rattle.cluster_types.specs.declared.message.Message.{Message}
+use Rattle.cluster_types.specs.declared.out.Out.TheVariants.{Pass}
 use Rattle.cluster_types.specs.declared.verdict.Verdict.{Verdict}
 use Rattle.cluster_types.specs.declared.verdict.Cause.{Cause}
 use Rattle.cluster_types.specs.declared.verdict.Cause.TheVariants.{ImpossibleDependency}
@@ -8,11 +10,13 @@ use Rattle.cluster_types.specs.declared.entry.Entry.{Entry}
 use Rattle.cluster_types.specs.declared.entry.Entry.TheVariants.{Input, Hand, Settle}
 use Rattle.cluster_types.specs.declared.entry.Input.TheVariants.{Open}
 use Rattle.cluster_types.specs.declared.config.Scheme.{Scheme}
-use Rattle.cluster_defs.specs.Words.{Id}
+use Rattle.cluster_defs.specs.declared.engine.Engine.{Engine}
+use Rattle.cluster_defs.specs.Words.{Id, is_listed}
+use Rattle.cluster_defs.specs.Engines.{conn_in}
 use Rattle.cluster_defs.specs.Facts.{is_settled}
 use Rattle.cluster_defs.specs.Scheduling.{due, may_run, open_work, is_live}
 use Rattle.cluster_defs.specs.Histories.{History, facts, Legal, kept, decide_all}
-use Rattle.cluster_defs.specs.Outcomes.{outcome}
+use Rattle.cluster_defs.specs.Outcomes.{hand_out, outcome}
 use Rattle.cluster_defs.specs.Outs.{outs}
 use Rattle.cluster_defs.specs.Uses.{last_use, Ascends, newest_word, newest_moment}
 use Rattle.cluster_defs.specs.Thin.{thin}
@@ -122,3 +126,38 @@ ThinSendsSame =
     (history : History) (entries : List Entry) (moment : ℕ) (scheme : Scheme) (hwm misses : ℕ) → Legal history →
     Legal (entries ++ Input (Open moment scheme hwm misses) ∷ history) →
     outs (entries ++ Input (Open moment scheme hwm misses) ∷ thin history) ≡ outs (entries ++ Input (Open moment scheme hwm misses) ∷ history)
+
+-- WHAT IS THERE WHEN IT IS NEEDED
+
+-- no id is known twice
+abbrev pub EachOnce : List Id → Type 0
+EachOnce [] = Unit {0}
+EachOnce (id ∷ ids) = (is_listed id ids ≡ false) × EachOnce ids
+
+abbrev pub KnownOnce : Type 0
+KnownOnce = (history : History) → EachOnce (facts history).known
+
+-- what was known when something was sent is known still
+abbrev pub KnownStays : Type 0
+KnownStays =
+    (old history : History) (id : Id) → IsFront (kept old) (kept history) → is_listed id (facts old).known ≡ true → is_listed id (facts history).known ≡ true
+
+-- the live engines ascend by number, and no two have one connection or one uuid
+abbrev pub EnginesAscend : List Engine → Type 0
+EnginesAscend [] = Unit {0}
+EnginesAscend (e ∷ engines) =
+    (list_all (λ d. nat_lt e.number d.number && not (d.conn == e.conn) && not (bytes_eq d.uuid e.uuid)) engines ≡ true) × EnginesAscend engines
+
+abbrev pub LiveAscend : Type 0
+LiveAscend = (history : History) → EnginesAscend (facts history).engines.live
+
+-- a Hand sends the request to the connection of its engine
+abbrev pub HandsSend : Type 0
+HandsSend =
+    (history : History) (id : Id) (n : ℕ) → Legal (Hand id n ∷ history) →
+    (conn : ℕ) × (message : Message) × (conn_in n (facts history).engines.live ≡ Some conn) × (hand_out (facts history) id ≡ Some message)
+    × (outs (Hand id n ∷ history) ≡ Pass conn message ∷ [])
+
+-- what is settled has an outcome
+abbrev pub SettledAnswered : Type 0
+SettledAnswered = (history : History) (id : Id) → Legal history → is_settled (facts history) id ≡ true → is_some (outcome (facts history) id) ≡ true

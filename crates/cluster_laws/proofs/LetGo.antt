@@ -70,7 +70,7 @@ unchanged gone (e ∷ older) id off =
 copy_gone : (gone : Id → Bool) (copies : List Copy) (c : Copy) (p : Copy → Bool) → find p copies ≡ Some c → list_all (λ d. not (bytes_eq d.old c.old) || gone d.new) copies ≡ true → gone c.new ≡ true
 copy_gone gone [] c p is h = cc
 copy_gone gone (d ∷ copies) c p is h =
-    let both = and_parts _ _ h in
+    let both = and_parts (not (bytes_eq d.old c.old) || gone d.new) (list_all (λ x. not (bytes_eq x.old c.old) || gone x.new) copies) h in
     (elim (p d) as (λ b. cond b (Some d) (find p copies) ≡ Some c → gone c.new ≡ true) [
       | true ↦ λ k. let same : d ≡ c = cc in own c (subst (λ (x : Copy). (not (bytes_eq x.old c.old) || gone x.new) ≡ true) same both.0)
       | false ↦ λ k. copy_gone gone copies c p k both.1

@@ -1,8 +1,10 @@
+pub mod Apart
 pub mod ByUse
 pub mod Closed
 pub mod Copies
 pub mod Direct
 pub mod Gone
+pub mod Held
 pub mod Impossible
 pub mod Kept
 pub mod Later

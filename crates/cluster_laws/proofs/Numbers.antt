@@ -65,7 +65,7 @@ accepted_says f m o d h =
     subst (AcceptedSays f) same (demand_says f at.0 m is.0)
 
 -- what makes a request, makes no copies
-no_copies : (f : Facts) (m : Message) (o : Option Event) (d : Demand) → accepted f m o ≡ Some d → copied_by f o ≡ None
+pub no_copies : (f : Facts) (m : Message) (o : Option Event) (d : Demand) → accepted f m o ≡ Some d → copied_by f o ≡ None
 no_copies f m (Some (Resubmit ids)) d h = cc
 no_copies f m None d h = refl
 no_copies f m (Some (Submit s)) d h = refl
@@ -111,7 +111,7 @@ one_more f d says before =
     own id h begins = ⊎_elim (λ same. both_ways _ says.open_id (subst (λ i. begins_with reserved_front i ≡ true) (sym (same_id d.submission.id id same)) begins)) (λ e. cc) (or_cases _ _ h)
 
 -- copies with the next numbers
-number_given : (number : ℕ) (ids : List Id) (id : Id) → is_listed id (map (λ c. c.new) (copies_from number ids)) ≡ true → (k : ℕ) × (number ≤ k) × (k < number + length ids) × (id ≡ resubmit_id k)
+pub number_given : (number : ℕ) (ids : List Id) (id : Id) → is_listed id (map (λ c. c.new) (copies_from number ids)) ≡ true → (k : ℕ) × (number ≤ k) × (k < number + length ids) × (id ≡ resubmit_id k)
 number_given number [] id h = cc
 number_given number (old ∷ ids) id h =
     ⊎_elim (λ same. (number, omega arith, omega arith, sym (same_id (resubmit_id number) id same)))
@@ -170,7 +170,7 @@ begins_own : (number : ℕ) → begins_with reserved_front (resubmit_id number) 
 unfolding reserved_front resubmit_id
 begins_own number = subst (λ x. bytes_eq x (codes "resubmit:") ≡ true) (sym (take-append_seam (codes "resubmit:") (decimal number))) (id_self (codes "resubmit:"))
 
-same_number : (m n : ℕ) → m < 2 ^ 64 → n < 2 ^ 64 → resubmit_id m ≡ resubmit_id n → m ≡ n
+pub same_number : (m n : ℕ) → m < 2 ^ 64 → n < 2 ^ 64 → resubmit_id m ≡ resubmit_id n → m ≡ n
 unfolding resubmit_id
 same_number m n a b h = decimal_injective m n a b (append_cancel_left (codes "resubmit:") (decimal m) (decimal n) h)
 

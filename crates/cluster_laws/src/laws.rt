@@ -1,6 +1,6 @@
 //! Laws of histories, over the definitions alone.
 
-ghost use Rattle.cluster_defs.specs.Laws.{KeptIsLegal, KeptIsOwn, KeptReadsSame, KeptOrder, UseAscends, UseHasLive, DrawsByWord, SettlesAtMoment, IsSafe, ImpossibleStays, LifeIsLegal, SentBelongs, AnsweredAlike, ThinIsLegal, ThinIsKept, ThinDue, ThinGoesOn, ThinSendsSame, DueFalls, DecidesMore, DecidesNone};
+ghost use Rattle.cluster_defs.specs.Laws.{KeptIsLegal, KeptIsOwn, KeptReadsSame, KeptOrder, UseAscends, UseHasLive, DrawsByWord, SettlesAtMoment, IsSafe, ImpossibleStays, LifeIsLegal, SentBelongs, AnsweredAlike, ThinIsLegal, ThinIsKept, ThinDue, ThinGoesOn, ThinSendsSame, DueFalls, DecidesMore, DecidesNone, KnownOnce, KnownStays, LiveAscend, HandsSend, SettledAnswered};
 
 /// The kept entries of a legal history make a legal history that is its own kept one, and read the same; the places of
 /// last use differ, but not their order.
@@ -55,4 +55,18 @@ pub fn decisions_end()
     ensures falls { DueFalls }
     ensures more { DecidesMore }
     ensures none { DecidesNone }
+{}
+
+/// No id is known twice, and what was known when something was sent is known still; the live engines ascend by number,
+/// and no two have one connection or one uuid.
+pub fn names_are_apart()
+    ensures known { KnownOnce }
+    ensures stays { KnownStays }
+    ensures engines { LiveAscend }
+{}
+
+/// A hand-out sends the request to the connection of its engine, and what is settled has an outcome.
+pub fn nothing_is_missing()
+    ensures sends { HandsSend }
+    ensures answered { SettledAnswered }
 {}
