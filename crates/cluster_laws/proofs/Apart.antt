@@ -1,8 +1,8 @@
 -- No id is known twice; the live engines ascend by number, and no two have one connection or one uuid.
-use Rattle.std.proofs.Common.{◌≡◌, ℕ, suc, ◌+◌, ◌<◌, ◌≤◌, ◌^◌, List, [], ◌∷◌, ◌++◌, length, map, append-nil, Bool, true, false, cond, not, ◌&&◌, ◌||◌, refl, sym, ap, ◌∙◌, subst, arith, Option, Some, None, bytes_eq, ⊎_elim}
+use Rattle.std.proofs.Common.{◌≡◌, ℕ, ◌+◌, ◌≤◌, List, [], ◌∷◌, ◌++◌, length, map, append-nil, Bool, true, false, cond, not, ◌&&◌, ◌||◌, refl, sym, ap, ◌∙◌, subst, arith, Option, Some, None, bytes_eq}
 use Rattle.std.specs.Prelude.{nat_lt, find, filter, option_map, ◌==◌}
 use Rattle.std.specs.List.{list_all}
-use Rattle.std.proofs.lemmas.Bool.{and_parts, and_from, or_cases, not-true, false_from_ne_true, both_ways, lt-ltb, ltb-true, ltb-false, eqb-true, eq-eqb}
+use Rattle.std.proofs.lemmas.Bool.{and_parts, and_from, not-true, false_from_ne_true, both_ways, lt-ltb, ltb-true, ltb-false, eqb-true, eq-eqb}
 use Rattle.std.proofs.lemmas.List.Folds.{list_any-append}
 use Rattle.cluster_types.specs.declared.message.Message.{Message}
 use Rattle.cluster_types.specs.declared.event.Event.{Event}
@@ -12,23 +12,21 @@ use Rattle.cluster_types.specs.declared.entry.Entry.{Entry}
 use Rattle.cluster_types.specs.declared.entry.Entry.TheVariants.{Input, Hand, Settle, Lose}
 use Rattle.message_defs.specs.Texts.{resubmit_id}
 use Rattle.cluster_defs.specs.declared.engine.Engine.{Engine}
-use Rattle.cluster_defs.specs.declared.engine.Joining.{Joining}
-use Rattle.cluster_defs.specs.declared.engine.Joining.TheVariants.{Repeat, AlreadyJoined, UuidInUse, UsedUp, Accepted}
+use Rattle.cluster_defs.specs.declared.engine.Joining.TheVariants.{Repeat, AlreadyJoined}
 use Rattle.cluster_defs.specs.Words.{Id, is_listed}
 use Rattle.cluster_defs.specs.Engines.{Engines, engine_on, engine_named, joining_again, joining_new, joining_at, joining, is_joined, joined, left, echoed, with_engine, without_left, with_mark, marked, raises}
 use Rattle.cluster_defs.specs.Facts.{Facts, event_on}
 use Rattle.cluster_defs.specs.Acceptance.{Demand, accepted, accepted_id, most_ids}
 use Rattle.cluster_defs.specs.Purges.{Copy, copies_from, copied_by, copied_ids}
 use Rattle.cluster_defs.specs.Steps.{next}
-use Rattle.cluster_defs.specs.Histories.{History, facts, kept, Legal}
+use Rattle.cluster_defs.specs.Histories.{History, facts, kept}
 use Rattle.cluster_defs.specs.Lives.{IsFront}
 use Rattle.cluster_defs.specs.Laws.{EachOnce, EnginesAscend}
 use Rattle.cluster_defs.proofs.Options.{same_id, id_self, if_some}
 use Rattle.cluster_laws.proofs.Kept.{kept_facts}
 use Rattle.cluster_laws.proofs.Closed.{listed_stays}
 use Rattle.cluster_laws.proofs.Copies.{copies_of}
-use Rattle.cluster_laws.proofs.Numbers.{AcceptedSays, accepted_says, Numbered, numbered, no_copies, AllNew, copies_new, number_given, same_number}
-use Rattle.cluster_laws.proofs.Lists.{all-weaker}
+use Rattle.cluster_laws.proofs.Numbers.{accepted_says, Numbered, numbered, no_copies, AllNew, copies_new, number_given, same_number}
 
 -- KNOWN IDS
 
@@ -69,13 +67,15 @@ once_append (x ∷ xs) ys a b h =
 
 copies_once : (number : ℕ) (ids : List Id) → number + length ids ≤ most_ids + 1 → EachOnce (map (λ (c : Copy). c.new) (copies_from number ids))
 copies_once number [] within = tt
-copies_once number (old ∷ ids) within =
-    (false_from_ne_true _ (λ on.
-    let at = number_given (number + 1) ids (resubmit_id number) on in
-    let low = at.1 in
-    let high = at.2 in
-    let same : number ≡ at.0 = same_number number at.0 (omega arith) (omega arith) at.3 in
-    absurd (omega arith)), copies_once (number + 1) ids (omega arith))
+copies_once number (old ∷ ids) within = (
+  false_from_ne_true _ (λ on.
+      let at = number_given (number + 1) ids (resubmit_id number) on in
+      let low = at.1 in
+      let high = at.2 in
+      let same : number ≡ at.0 = same_number number at.0 (omega arith) (omega arith) at.3 in
+      absurd (omega arith)),
+  copies_once (number + 1) ids (omega arith),
+)
 
 new_disjoint : (known : List Id) (copies : List Copy) → AllNew known copies → Disjoint known (map (λ (c : Copy). c.new) copies)
 unfolding Disjoint

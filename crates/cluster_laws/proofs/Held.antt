@@ -1,15 +1,15 @@
 -- What is known has a body, what ended by a reply has one, and so a Hand sends its request, and what is settled has an outcome.
-use Rattle.std.proofs.Common.{◌≡◌, ℕ, List, [], ◌∷◌, ◌++◌, Bool, true, false, cond, not, ◌&&◌, ◌||◌, refl, sym, ap, ◌∙◌, subst, Option, Some, None, bytes_eq, ⊎_elim}
+use Rattle.std.proofs.Common.{◌≡◌, ℕ, List, [], ◌∷◌, ◌++◌, Bool, true, false, cond, ◌&&◌, ◌||◌, refl, sym, ap, ◌∙◌, subst, Option, Some, None, bytes_eq, ⊎_elim}
 use Rattle.std.specs.Prelude.{find, option_map, ◌==◌}
 use Rattle.std.specs.Option.{is_some, option_and_then}
-use Rattle.std.proofs.lemmas.Bool.{and_parts, or_cases, or_left, both_ways, false_from_ne_true}
+use Rattle.std.proofs.lemmas.Bool.{or_cases, or_left, both_ways}
 use Rattle.std.proofs.lemmas.List.Folds.{list_any-append}
 use Rattle.cluster_types.specs.declared.message.Message.{Message}
 use Rattle.cluster_types.specs.declared.verdict.Verdict.{Verdict}
 use Rattle.cluster_types.specs.declared.verdict.Cause.{Cause}
 use Rattle.cluster_types.specs.declared.verdict.Cause.TheVariants.{Reply as ByReply, EngineError, ImpossibleDependency, InvalidDependency, TaskTimeout}
 use Rattle.cluster_types.specs.declared.event.Event.{Event}
-use Rattle.cluster_types.specs.declared.event.Event.TheVariants.{Reply, Leave}
+use Rattle.cluster_types.specs.declared.event.Event.TheVariants.{Reply}
 use Rattle.cluster_types.specs.declared.out.Out.TheVariants.{Pass}
 use Rattle.cluster_types.specs.declared.entry.Input.TheVariants.{Open, Up, Down, In, Beat, Time}
 use Rattle.cluster_types.specs.declared.entry.Entry.{Entry}
@@ -19,20 +19,19 @@ use Rattle.cluster_defs.specs.declared.attempt.Attempt.TheVariants.{Never, Runni
 use Rattle.cluster_defs.specs.declared.engine.Engine.{Engine}
 use Rattle.cluster_defs.specs.Words.{Id, or_else, is_listed}
 use Rattle.cluster_defs.specs.Engines.{engine_on, left, conn_in, lists_number}
-use Rattle.cluster_defs.specs.Tasks.{Task, Settled, Ending, ending, settled_as, lost, took, replied, after_reply, after_end, counts, handed, runs_at}
+use Rattle.cluster_defs.specs.Tasks.{Task, Settled, ending, settled_as, lost, took, replied, after_reply, after_end, counts, handed, runs_at}
 use Rattle.cluster_defs.specs.Requests.{Request, Body, body_of, parts_of, is_direct}
 use Rattle.cluster_defs.specs.Facts.{Facts, event_on, is_settled, is_direct_id}
 use Rattle.cluster_defs.specs.Acceptance.{Demand, accepted, accepted_id, body_from}
 use Rattle.cluster_defs.specs.Purges.{Copy, copied_by, copied_ids, copied_from, body_copied}
 use Rattle.cluster_defs.specs.Steps.{next, reply_from}
-use Rattle.cluster_defs.specs.Scheduling.{verdict_at, failing, failing_as, failing_id, rests, is_dead, is_timed_out, is_live, may_run_as, direct_engine}
+use Rattle.cluster_defs.specs.Scheduling.{verdict_at, failing, failing_as, rests, is_dead, is_timed_out}
 use Rattle.cluster_defs.specs.Histories.{History, facts, Legal}
-use Rattle.cluster_defs.specs.Outcomes.{number_of, made_outcome, outcome, outcome_by, hand_out, handed_message}
+use Rattle.cluster_defs.specs.Outcomes.{outcome, outcome_by, hand_out, handed_message}
 use Rattle.cluster_defs.specs.Outs.{pass_to, outs}
 use Rattle.cluster_defs.proofs.Options.{if_some, same_id, id_self}
 use Rattle.cluster_defs.proofs.Says.{due_says}
 use Rattle.cluster_laws.proofs.Copies.{old_copied, listed_copied}
-use Rattle.cluster_laws.proofs.Parts.{may_parts, waits}
 use Rattle.cluster_laws.proofs.Safe.{hand_says, hand_live}
 use Rattle.cluster_laws.proofs.Closed.{closed, Requested, requested}
 
