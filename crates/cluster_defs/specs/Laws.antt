@@ -2,6 +2,7 @@
 use Rattle.std.specs.Prelude.{◌≡◌, ◌<◌, ◌↔◌, ℕ, nat_lt, true, false, not, ◌&&◌, ◌==◌, List, [], ◌∷◌, ◌++◌, Some, None, is_some, bytes_eq}
 use Rattle.std.specs.List.{list_any, list_all}
 use Rattle.cluster_types.specs.declared.message.Message.{Message}
+use Rattle.cluster_types.specs.Records.{AreRecords}
 use Rattle.cluster_types.specs.declared.out.Out.TheVariants.{Pass}
 use Rattle.cluster_types.specs.declared.verdict.Verdict.{Verdict}
 use Rattle.cluster_types.specs.declared.verdict.Cause.{Cause}
@@ -13,11 +14,13 @@ use Rattle.cluster_types.specs.declared.config.Scheme.{Scheme}
 use Rattle.cluster_defs.specs.declared.engine.Engine.{Engine}
 use Rattle.cluster_defs.specs.Words.{Id, is_listed}
 use Rattle.cluster_defs.specs.Engines.{conn_in}
+use Rattle.cluster_defs.specs.Tasks.{Settled, engine_of}
 use Rattle.cluster_defs.specs.Facts.{is_settled}
 use Rattle.cluster_defs.specs.Scheduling.{due, may_run, open_work, is_live}
 use Rattle.cluster_defs.specs.Histories.{History, facts, Legal, kept, decide_all}
 use Rattle.cluster_defs.specs.Outcomes.{hand_out, outcome}
 use Rattle.cluster_defs.specs.Outs.{outs}
+use Rattle.cluster_defs.specs.TaskRecords.{records_of}
 use Rattle.cluster_defs.specs.Uses.{last_use, Ascends, newest_word, newest_moment}
 use Rattle.cluster_defs.specs.Thin.{thin}
 use Rattle.cluster_defs.specs.Safety.{Safe}
@@ -161,3 +164,12 @@ HandsSend =
 -- what is settled has an outcome
 abbrev pub SettledAnswered : Type 0
 SettledAnswered = (history : History) (id : Id) → Legal history → is_settled (facts history) id ≡ true → is_some (outcome (facts history) id) ≡ true
+
+-- the records of all tasks are what a table of records keeps to
+abbrev pub RecordsHold : Type 0
+RecordsHold = (history : History) → Legal history → AreRecords (records_of (facts history))
+
+-- what is settled was settled on the engine of its last attempt, and has had no attempt since
+abbrev pub SettledEngine : Type 0
+SettledEngine =
+    (history : History) (id : Id) (s : Settled) → Legal history → (facts history).settled id ≡ Some s → s.engine ≡ engine_of ((facts history).task id).last

@@ -15,6 +15,7 @@ pub mod Runs
 pub mod Safety
 pub mod Scheduling
 pub mod Steps
+pub mod TaskRecords
 pub mod Tasks
 pub mod Thin
 pub mod Uses

@@ -15,6 +15,7 @@ pub mod Numbers
 pub mod Order
 pub mod Outcome
 pub mod Parts
+pub mod RecordsHold
 pub mod Safe
 pub mod Sound
 pub mod Thin

@@ -67,7 +67,7 @@ get_append [] ys k x h = inr (k, h)
 get_append (z ∷ xs) ys zero x h = inl h
 get_append (z ∷ xs) ys (suc k) x h = get_append xs ys k x h
 
-get_map : {X Y : Type 0} (g : X → Y) (xs : List X) (k : ℕ) (y : Y) → slice_get (map g xs) k ≡ Some y → (x : X) × (slice_get xs k ≡ Some x) × (g x ≡ y)
+pub get_map : {X Y : Type 0} (g : X → Y) (xs : List X) (k : ℕ) (y : Y) → slice_get (map g xs) k ≡ Some y → (x : X) × (slice_get xs k ≡ Some x) × (g x ≡ y)
 get_map g [] k y h = cc
 get_map g (x ∷ xs) zero y h = (x, refl, some_inj h)
 get_map g (x ∷ xs) (suc k) y h = get_map g xs k y h

@@ -87,7 +87,7 @@ request_sound f (Input (In conn moment word m)) sound id r h =
     in_below f sound conn moment m id (f.request_of id) refl (accepted f m event) (request_from f conn moment m id (accepted f m event)) refl (copied_by f event) r h
 
 -- an attempt stays at its engine until the next hand-out
-lost_engine : (a : Attempt) (t : Task) → t.last ≡ a → engine_of (lost a t).last ≡ engine_of t.last
+pub lost_engine : (a : Attempt) (t : Task) → t.last ≡ a → engine_of (lost a t).last ≡ engine_of t.last
 lost_engine (Running n) t e = sym (ap engine_of e)
 lost_engine Never t e = refl
 lost_engine (EndedOk n) t e = refl
@@ -112,11 +112,11 @@ choice_engine : (b : Bool) (new old : Task) → engine_of new.last ≡ engine_of
 choice_engine true new old e = e
 choice_engine false new old e = refl
 
-end_engine : (o : Option ℕ) (t : Task) → engine_of (after_end o t).last ≡ engine_of t.last
+pub end_engine : (o : Option ℕ) (t : Task) → engine_of (after_end o t).last ≡ engine_of t.last
 end_engine None t = refl
 end_engine (Some n) t = choice_engine (runs_at n t.last) _ t (lost_engine t.last t refl)
 
-reply_engine : (live : List Engine) (conn : ℕ) (id : Id) (direct : Bool) (event : Option Event) (t : Task) → engine_of (after_reply live conn id direct event t).last ≡ engine_of t.last
+pub reply_engine : (live : List Engine) (conn : ℕ) (id : Id) (direct : Bool) (event : Option Event) (t : Task) → engine_of (after_reply live conn id direct event t).last ≡ engine_of t.last
 reply_engine live conn id direct None t = refl
 reply_engine live conn id direct (Some (Reply name header ok declined)) t =
     choice_engine (bytes_eq name id && counts live conn header t) _ t (took_engine header (ending direct ok declined) t.last t refl)
