@@ -13,4 +13,5 @@ mod RowsOfPicks
 mod RowsOfRequests
 mod RowsOfTasks
 pub mod Says
+mod RowsOfThin
 mod Told
