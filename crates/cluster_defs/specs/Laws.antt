@@ -1,7 +1,9 @@
 -- What holds of every legal history: the statements, each ready to be the contract of a law.
-use Rattle.std.specs.Prelude.{◌≡◌, ◌<◌, ◌↔◌, ℕ, nat_lt, true, false, not, ◌&&◌, ◌==◌, List, [], ◌∷◌, ◌++◌, Some, None, is_some, bytes_eq}
+use Rattle.std.specs.Prelude.{◌≡◌, ◌<◌, ◌↔◌, ℕ, nat_lt, true, false, not, ◌&&◌, ◌==◌, List, [], ◌∷◌, ◌++◌, Some, None, is_some, map, bytes_eq}
 use Rattle.std.specs.List.{list_any, list_all}
+use Rattle.cluster_types.specs.declared.config.Channel.{Channel}
 use Rattle.cluster_types.specs.declared.message.Message.{Message}
+use Rattle.cluster_types.specs.declared.event.Query.{Query}
 use Rattle.cluster_types.specs.Records.{AreRecords}
 use Rattle.cluster_types.specs.declared.out.Out.TheVariants.{Pass}
 use Rattle.cluster_types.specs.declared.verdict.Verdict.{Verdict}
@@ -20,7 +22,9 @@ use Rattle.cluster_defs.specs.Scheduling.{due, may_run, open_work, is_live}
 use Rattle.cluster_defs.specs.Histories.{History, facts, Legal, kept, decide_all}
 use Rattle.cluster_defs.specs.Outcomes.{hand_out, outcome}
 use Rattle.cluster_defs.specs.Outs.{outs}
+use Rattle.cluster_defs.specs.Queries.{answer}
 use Rattle.cluster_defs.specs.TaskRecords.{records_of}
+use Rattle.cluster_defs.specs.RecordAnswers.{answer_in}
 use Rattle.cluster_defs.specs.Uses.{last_use, Ascends, newest_word, newest_moment}
 use Rattle.cluster_defs.specs.Thin.{thin}
 use Rattle.cluster_defs.specs.Safety.{Safe}
@@ -173,3 +177,10 @@ RecordsHold = (history : History) → Legal history → AreRecords (records_of (
 abbrev pub SettledEngine : Type 0
 SettledEngine =
     (history : History) (id : Id) (s : Settled) → Legal history → (facts history).settled id ≡ Some s → s.engine ≡ engine_of ((facts history).task id).last
+
+-- a question's answer can be told off the records and the live engines
+abbrev pub RecordsAnswer : Type 0
+RecordsAnswer =
+    (history : History) (channel : Channel) (query : Query) (msg_type : List ℕ) → Legal history →
+    answer_in (records_of (facts history)) (map (λ e. (e.number, e.uuid)) (facts history).engines.live) channel query msg_type
+    ≡ answer (facts history) channel query msg_type

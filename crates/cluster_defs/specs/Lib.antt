@@ -10,6 +10,7 @@ pub mod Outcomes
 pub mod Outs
 pub mod Purges
 pub mod Queries
+pub mod RecordAnswers
 pub mod Requests
 pub mod Runs
 pub mod Safety

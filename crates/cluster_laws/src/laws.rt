@@ -1,6 +1,6 @@
 //! Laws of histories, over the definitions alone.
 
-ghost use Rattle.cluster_defs.specs.Laws.{KeptIsLegal, KeptIsOwn, KeptReadsSame, KeptOrder, UseAscends, UseHasLive, DrawsByWord, SettlesAtMoment, IsSafe, ImpossibleStays, LifeIsLegal, SentBelongs, AnsweredAlike, ThinIsLegal, ThinIsKept, ThinDue, ThinGoesOn, ThinSendsSame, DueFalls, DecidesMore, DecidesNone, KnownOnce, KnownStays, LiveAscend, HandsSend, SettledAnswered, RecordsHold, SettledEngine};
+ghost use Rattle.cluster_defs.specs.Laws.{KeptIsLegal, KeptIsOwn, KeptReadsSame, KeptOrder, UseAscends, UseHasLive, DrawsByWord, SettlesAtMoment, IsSafe, ImpossibleStays, LifeIsLegal, SentBelongs, AnsweredAlike, ThinIsLegal, ThinIsKept, ThinDue, ThinGoesOn, ThinSendsSame, DueFalls, DecidesMore, DecidesNone, KnownOnce, KnownStays, LiveAscend, HandsSend, SettledAnswered, RecordsHold, SettledEngine, RecordsAnswer};
 
 /// The kept entries of a legal history make a legal history that is its own kept one, and read the same; the places of
 /// last use differ, but not their order.
@@ -71,8 +71,10 @@ pub fn nothing_is_missing()
     ensures answered { SettledAnswered }
 {}
 
-/// The records of all tasks are what a table of records keeps to, and what is settled has had no attempt since.
+/// The records of all tasks are what a table of records keeps to; what is settled has had no attempt since; and each
+/// question is answered the same off the records and the live engines.
 pub fn records_are_sound()
     ensures records { RecordsHold }
     ensures engine { SettledEngine }
+    ensures answer { RecordsAnswer }
 {}
