@@ -1,9 +1,14 @@
--- Worked rows on picks, and on the least moment, computed. Nothing rests on them.
+-- Worked rows on picks, words, dates, numbers and limits, computed. Nothing rests on them.
 use Rattle.std.proofs.Common.{◌≡◌, ℕ, List, [], ◌∷◌, Some, refl}
-use Rattle.std.specs.Prelude.{codes}
+use Rattle.std.specs.Prelude.{codes, replicate}
 use Rattle.cluster_types.specs.declared.config.Scheme.TheVariants.{Lru, LeastLoad, PlainRandom, TwoBin}
+use Rattle.cluster_types.specs.declared.config.Channel.TheVariants.{Hub, Task}
 use Rattle.edges.specs.Date.{date_of, day_text, time_text, digits, civil_date, from_year, from_month}
+use Rattle.cluster_defs.specs.declared.answer.Answer.{Answer}
+use Rattle.cluster_defs.specs.declared.engine.Joining.TheVariants.{UsedUp, Accepted}
 use Rattle.cluster_defs.specs.Words.{once}
+use Rattle.cluster_defs.specs.Engines.{joining}
+use Rattle.cluster_defs.specs.Queries.{refusal, limited}
 use Rattle.cluster_defs.specs.Connections.{highest}
 use Rattle.cluster_defs.specs.Scheduling.{pick}
 use Rattle.cluster_defs.specs.Steps.{next_word}
@@ -38,3 +43,23 @@ each_once = refl
 
 pub highest_of : highest (3 ∷ 9 ∷ 4 ∷ []) ≡ Some 9
 highest_of = refl
+
+-- no engine is live, and the last number was given
+pub numbers_used_up : joining (record { live = []; next = 4294967295 }) 1 (codes "e0") ≡ UsedUp
+numbers_used_up = refl
+
+pub number_left : joining (record { live = []; next = 4294967294 }) 1 (codes "e0") ≡ Accepted
+number_left = refl
+
+abbrev with_buffers : ℕ → Answer
+with_buffers n = record { content = codes "{}"; buffers = replicate n [] }
+
+-- 58 buffers are within the limit
+pub buffers_within : limited Hub (with_buffers 58) ≡ with_buffers 58
+buffers_within = refl
+
+pub buffers_past : limited Hub (with_buffers 59) ≡ refusal (codes "ReplyTooLong") [] []
+buffers_past = refl
+
+pub buffers_elsewhere : limited Task (with_buffers 59) ≡ with_buffers 59
+buffers_elsewhere = refl

@@ -1,5 +1,5 @@
 -- Worked rows on repeats, purges, direct requests, resubmissions and questions, computed. Nothing rests on them.
-use Rattle.std.proofs.Common.{List, [], ◌∷◌, Some, None, true, false, refl}
+use Rattle.std.proofs.Common.{List, [], ◌∷◌, Option, Some, None, Bool, true, false, refl}
 use Rattle.std.specs.Prelude.{codes}
 use Rattle.std.specs.Fmt.{digits}
 use Rattle.std.specs.Str.{is_utf8, chars}
@@ -9,15 +9,15 @@ use Rattle.hex.specs.Hex.{encode_with}
 use Rattle.edges.specs.Date.{date_of, day_text, time_text, digits as date_digits, civil_date, from_year, from_month}
 use Rattle.cluster_types.specs.Verdicts.{engine_lost_text}
 use Rattle.cluster_types.specs.declared.config.Channel.TheVariants.{Hub, Task, Mux, Engine}
-use Rattle.cluster_types.specs.declared.config.Scheme.TheVariants.{LeastLoad}
+use Rattle.cluster_types.specs.declared.config.Scheme.TheVariants.{Lru, LeastLoad, PlainRandom, TwoBin}
 use Rattle.cluster_types.specs.declared.verdict.Verdict.TheVariants.{Completed, Failed}
-use Rattle.cluster_types.specs.declared.verdict.Cause.TheVariants.{Reply as ByReply, EngineError}
+use Rattle.cluster_types.specs.declared.verdict.Cause.TheVariants.{Reply as ByReply, EngineError, ImpossibleDependency, InvalidDependency, TaskTimeout}
 use Rattle.cluster_types.specs.declared.message.Message.{Message}
-use Rattle.cluster_types.specs.declared.event.Event.TheVariants.{Submit, Direct, Reply, Join, Leave, Purge, Resubmit, Ask}
-use Rattle.cluster_types.specs.declared.event.Query.TheVariants.{Queue, Result, History, Bad}
+use Rattle.cluster_types.specs.declared.event.Event.TheVariants.{Submit, Direct, Reply, Join, Leave, Pong, Purge, Resubmit, Ask}
+use Rattle.cluster_types.specs.declared.event.Query.TheVariants.{Connection, Queue, Result, History, Shutdown, Unknown, Bad}
 use Rattle.cluster_types.specs.declared.out.Out.TheVariants.{Pass, Made}
-use Rattle.cluster_types.specs.declared.entry.Input.TheVariants.{Open, Up, In}
-use Rattle.cluster_types.specs.declared.entry.Entry.TheVariants.{Input, Hand, Settle}
+use Rattle.cluster_types.specs.declared.entry.Input.TheVariants.{Open, Up, Down, In, Beat, Time}
+use Rattle.cluster_types.specs.declared.entry.Entry.TheVariants.{Input, Hand, Settle, Lose}
 use Rattle.message_defs.specs.Event.{event_of, is_request, is_reply, is_leave}
 use Rattle.message_defs.specs.Points.{whole_timeouts, ends_in_name}
 use Rattle.message_defs.specs.Submit.{read_submit}
@@ -28,7 +28,7 @@ use Rattle.message_defs.specs.Texts.{answer_id, beat_id, beat_request, outcome_i
 use Rattle.cluster_defs.specs.Acceptance.{no_dependency, reserved_front}
 use Rattle.cluster_defs.specs.Steps.{next_word}
 use Rattle.cluster_defs.specs.Histories.{Legal}
-use Rattle.cluster_defs.proofs.Told.{Line, line, decision, message, submission, IsTold, goes_on, told_legal}
+use Rattle.cluster_defs.proofs.Told.{Line, line, decision, message, dep, submission, IsTold, goes_on, told_legal}
 
 abbrev repeat_and_known_id_m0 : Message
 repeat_and_known_id_m0 = message [] (codes "{\"msg_id\":\"join-e0\",\"msg_type\":\"registration_request\"}") (codes "{}") (codes "{}") (codes "{\"uuid\":\"e0\"}") []
@@ -384,3 +384,148 @@ resubmit_refused_in_order_is_told = record { goes = refl; reads = refl; rests = 
 
 pub resubmit_refused_in_order_legal : Legal (goes_on [] resubmit_refused_in_order)
 resubmit_refused_in_order_legal = told_legal resubmit_refused_in_order resubmit_refused_in_order_is_told
+
+abbrev resubmit_to_target_m0 : Message
+resubmit_to_target_m0 = message [] (codes "{\"msg_id\":\"join-e0\",\"msg_type\":\"registration_request\"}") (codes "{}") (codes "{}") (codes "{\"uuid\":\"e0\"}") []
+
+abbrev resubmit_to_target_m1 : Message
+resubmit_to_target_m1 = message [] (codes "{\"msg_id\":\"a\",\"msg_type\":\"execute_request\"}") (codes "{}") (codes "{\"targets\":[\"e0\"]}") (codes "{\"code\":\"6*7\"}") []
+
+abbrev resubmit_to_target_m2 : Message
+resubmit_to_target_m2 = message [] (codes "{\"msg_id\":\"r1\",\"msg_type\":\"execute_reply\"}") (codes "{\"msg_id\":\"a\"}") (codes "{}") (codes "{\"status\":\"ok\"}") []
+
+abbrev resubmit_to_target_m3 : Message
+resubmit_to_target_m3 = message [] (codes "{\"msg_id\":\"join-e1\",\"msg_type\":\"registration_request\"}") (codes "{}") (codes "{}") (codes "{\"uuid\":\"e1\"}") []
+
+abbrev resubmit_to_target_m4 : Message
+resubmit_to_target_m4 = message [] (codes "{\"msg_id\":\"again\",\"msg_type\":\"registration_request\"}") (codes "{}") (codes "{}") (codes "{\"uuid\":\"e0\"}") []
+
+abbrev resubmit_to_target_m5 : Message
+resubmit_to_target_m5 = message [] (codes "{\"msg_id\":\"ask\",\"msg_type\":\"resubmit_request\"}") (codes "{}") (codes "{}") (codes "{\"msg_ids\":[\"a\"]}") []
+
+abbrev resubmit_to_target_m6 : Message
+resubmit_to_target_m6 = message [] (codes "{\"msg_id\":\"resubmit:2\",\"session\":\"\",\"username\":\"\",\"date\":\"1970-01-01T00:00:00.000Z\",\"msg_type\":\"execute_request\",\"version\":\"5.3\"}") (codes "{}") (codes "{\"targets\":[\"e0\"]}") (codes "{\"code\":\"6*7\"}") []
+
+-- a resubmitted task goes to the engine that has its target's uuid now
+abbrev pub resubmit_to_target : List Line
+resubmit_to_target =
+    line (Input (Open 0 LeastLoad 1 10)) None true []
+    ∷ line (Input (Up 1 Engine 0 0 (codes "e"))) None true []
+    ∷ line (Input (In 1 0 0 resubmit_to_target_m0)) (Some (Join (codes "e0"))) true (Made 1 0 (codes "hub-1-2") (codes "registration_reply") (codes "{\"msg_id\":\"join-e0\",\"msg_type\":\"registration_request\"}") (codes "{\"status\":\"ok\",\"id\":0}") [] ∷ [])
+    ∷ line (Input (Up 2 Task 0 0 (codes "c"))) None true []
+    ∷ line (Input (In 2 0 0 resubmit_to_target_m1)) (Some (Submit (submission (codes "a") (codes "execute_request") [] [] no_dependency no_dependency ((codes "e0") ∷ []) 0 0))) true []
+    ∷ decision (Hand (codes "a") 0) (Pass 1 resubmit_to_target_m1 ∷ [])
+    ∷ line (Input (In 1 0 0 resubmit_to_target_m2)) (Some (Reply (codes "a") (codes "r1") true false)) true []
+    ∷ decision (Settle (codes "a") Completed ByReply) (Pass 2 resubmit_to_target_m2 ∷ [])
+    ∷ line (Input (Down 1 0 0)) None true []
+    ∷ line (Input (Up 3 Engine 0 0 (codes "f"))) None true []
+    ∷ line (Input (In 3 0 0 resubmit_to_target_m3)) (Some (Join (codes "e1"))) true (Made 3 0 (codes "hub-1-10") (codes "registration_reply") (codes "{\"msg_id\":\"join-e1\",\"msg_type\":\"registration_request\"}") (codes "{\"status\":\"ok\",\"id\":1}") [] ∷ [])
+    ∷ line (Input (Up 5 Engine 0 0 (codes "e"))) None true []
+    ∷ line (Input (In 5 0 0 resubmit_to_target_m4)) (Some (Join (codes "e0"))) true (Made 5 0 (codes "hub-1-12") (codes "registration_reply") (codes "{\"msg_id\":\"again\",\"msg_type\":\"registration_request\"}") (codes "{\"status\":\"ok\",\"id\":2}") [] ∷ [])
+    ∷ line (Input (Up 6 Hub 0 0 (codes "h"))) None true []
+    ∷ line (Input (In 6 0 0 resubmit_to_target_m5)) (Some (Resubmit ((codes "a") ∷ []))) true (Made 6 0 (codes "hub-1-14") (codes "resubmit_reply") (codes "{\"msg_id\":\"ask\",\"msg_type\":\"resubmit_request\"}") (codes "{\"status\":\"ok\",\"resubmitted\":{\"a\":\"resubmit:2\"}}") [] ∷ [])
+    ∷ decision (Hand (codes "resubmit:2") 2) (Pass 5 resubmit_to_target_m6 ∷ [])
+    ∷ []
+
+pub resubmit_to_target_is_told : IsTold resubmit_to_target
+unfolding digits escape_byte reserved_front next_word answer_id beat_id beat_request outcome_id resubmit_id header_text reply_type submit_refused empty_object ok_content join_content beat_content error_content outcome_content resubmit_content connection_content history_content queue_member queue_content settled_member result_content engine_lost_text date_of day_text time_text date_digits civil_date from_year from_month encode_with serde_json_on_literals is_utf8 chars event_of read_header is_request is_reply is_leave read_submit whole_timeouts ends_in_name request_of read_content read_task read_declined read_status
+resubmit_to_target_is_told = record { goes = refl; reads = refl; rests = refl }
+
+pub resubmit_to_target_legal : Legal (goes_on [] resubmit_to_target)
+resubmit_to_target_legal = told_legal resubmit_to_target resubmit_to_target_is_told
+
+abbrev resubmit_direct_m0 : Message
+resubmit_direct_m0 = message [] (codes "{\"msg_id\":\"join-e0\",\"msg_type\":\"registration_request\"}") (codes "{}") (codes "{}") (codes "{\"uuid\":\"e0\"}") []
+
+abbrev resubmit_direct_m1 : Message
+resubmit_direct_m1 = message (codes "e0") (codes "{\"msg_id\":\"d\",\"msg_type\":\"execute_request\"}") (codes "{}") (codes "{}") (codes "{\"code\":\"6*7\"}") []
+
+abbrev resubmit_direct_m2 : Message
+resubmit_direct_m2 = message [] (codes "{\"msg_id\":\"d\",\"msg_type\":\"execute_request\"}") (codes "{}") (codes "{}") (codes "{\"code\":\"6*7\"}") []
+
+abbrev resubmit_direct_m3 : Message
+resubmit_direct_m3 = message [] (codes "{\"msg_id\":\"out-1\",\"session\":\"controller\",\"username\":\"controller\",\"date\":\"1970-01-01T00:00:00.000Z\",\"msg_type\":\"execute_reply\",\"version\":\"5.3\"}") (codes "{\"msg_id\":\"d\",\"msg_type\":\"execute_request\"}") (codes "{}") (codes "{\"status\":\"error\",\"ename\":\"EngineError\",\"evalue\":\"engine 0 was lost while it ran this task\",\"traceback\":[]}") []
+
+abbrev resubmit_direct_m4 : Message
+resubmit_direct_m4 = message [] (codes "{\"msg_id\":\"join-e7\",\"msg_type\":\"registration_request\"}") (codes "{}") (codes "{}") (codes "{\"uuid\":\"e7\"}") []
+
+abbrev resubmit_direct_m5 : Message
+resubmit_direct_m5 = message [] (codes "{\"msg_id\":\"ask\",\"msg_type\":\"resubmit_request\"}") (codes "{}") (codes "{}") (codes "{\"msg_ids\":[\"d\"]}") []
+
+abbrev resubmit_direct_m6 : Message
+resubmit_direct_m6 = message [] (codes "{\"msg_id\":\"resubmit:2\",\"session\":\"\",\"username\":\"\",\"date\":\"1970-01-01T00:00:00.000Z\",\"msg_type\":\"execute_request\",\"version\":\"5.3\"}") (codes "{}") (codes "{}") (codes "{\"code\":\"6*7\"}") []
+
+-- a resubmitted direct request may run anywhere
+abbrev pub resubmit_direct : List Line
+resubmit_direct =
+    line (Input (Open 0 LeastLoad 1 10)) None true []
+    ∷ line (Input (Up 1 Engine 0 0 (codes "e"))) None true []
+    ∷ line (Input (In 1 0 0 resubmit_direct_m0)) (Some (Join (codes "e0"))) true (Made 1 0 (codes "hub-1-2") (codes "registration_reply") (codes "{\"msg_id\":\"join-e0\",\"msg_type\":\"registration_request\"}") (codes "{\"status\":\"ok\",\"id\":0}") [] ∷ [])
+    ∷ line (Input (Up 2 Task 0 0 (codes "c"))) None true []
+    ∷ line (Input (Up 4 Mux 0 0 (codes "m"))) None true []
+    ∷ line (Input (Up 5 Hub 0 0 (codes "h"))) None true []
+    ∷ line (Input (In 4 0 0 resubmit_direct_m1)) (Some (Direct (submission (codes "d") (codes "execute_request") [] [] no_dependency no_dependency [] 0 0))) true []
+    ∷ decision (Hand (codes "d") 0) (Pass 1 resubmit_direct_m2 ∷ [])
+    ∷ line (Input (Down 1 0 0)) None true []
+    ∷ decision (Settle (codes "d") Failed EngineError) (Pass 4 resubmit_direct_m3 ∷ [])
+    ∷ line (Input (Up 6 Engine 0 0 (codes "f"))) None true []
+    ∷ line (Input (In 6 0 0 resubmit_direct_m4)) (Some (Join (codes "e7"))) true (Made 6 0 (codes "hub-1-11") (codes "registration_reply") (codes "{\"msg_id\":\"join-e7\",\"msg_type\":\"registration_request\"}") (codes "{\"status\":\"ok\",\"id\":1}") [] ∷ [])
+    ∷ line (Input (In 5 0 0 resubmit_direct_m5)) (Some (Resubmit ((codes "d") ∷ []))) true (Made 5 0 (codes "hub-1-12") (codes "resubmit_reply") (codes "{\"msg_id\":\"ask\",\"msg_type\":\"resubmit_request\"}") (codes "{\"status\":\"ok\",\"resubmitted\":{\"d\":\"resubmit:2\"}}") [] ∷ [])
+    ∷ decision (Hand (codes "resubmit:2") 1) (Pass 6 resubmit_direct_m6 ∷ [])
+    ∷ []
+
+pub resubmit_direct_is_told : IsTold resubmit_direct
+unfolding digits escape_byte reserved_front next_word answer_id beat_id beat_request outcome_id resubmit_id header_text reply_type submit_refused empty_object ok_content join_content beat_content error_content outcome_content resubmit_content connection_content history_content queue_member queue_content settled_member result_content engine_lost_text date_of day_text time_text date_digits civil_date from_year from_month encode_with serde_json_on_literals is_utf8 chars event_of read_header is_request is_reply is_leave read_submit whole_timeouts ends_in_name request_of read_content read_task read_declined read_status
+resubmit_direct_is_told = record { goes = refl; reads = refl; rests = refl }
+
+pub resubmit_direct_legal : Legal (goes_on [] resubmit_direct)
+resubmit_direct_legal = told_legal resubmit_direct resubmit_direct_is_told
+
+abbrev queue_after_purge_m0 : Message
+queue_after_purge_m0 = message [] (codes "{\"msg_id\":\"join-e0\",\"msg_type\":\"registration_request\"}") (codes "{}") (codes "{}") (codes "{\"uuid\":\"e0\"}") []
+
+abbrev queue_after_purge_m1 : Message
+queue_after_purge_m1 = message [] (codes "{\"msg_id\":\"a\",\"msg_type\":\"execute_request\"}") (codes "{}") (codes "{}") (codes "{\"code\":\"6*7\"}") []
+
+abbrev queue_after_purge_m2 : Message
+queue_after_purge_m2 = message [] (codes "{\"msg_id\":\"r1\",\"msg_type\":\"execute_reply\"}") (codes "{\"msg_id\":\"a\"}") (codes "{}") (codes "{\"status\":\"ok\",\"result\":\"42\"}") []
+
+abbrev queue_after_purge_m3 : Message
+queue_after_purge_m3 = message [] (codes "{\"msg_id\":\"b\",\"msg_type\":\"execute_request\"}") (codes "{}") (codes "{}") (codes "{\"code\":\"6*7\"}") []
+
+abbrev queue_after_purge_m4 : Message
+queue_after_purge_m4 = message [] (codes "{\"msg_id\":\"r2\",\"msg_type\":\"execute_reply\"}") (codes "{\"msg_id\":\"b\"}") (codes "{}") (codes "{\"status\":\"ok\"}") []
+
+abbrev queue_after_purge_m5 : Message
+queue_after_purge_m5 = message [] (codes "{\"msg_id\":\"ask\",\"msg_type\":\"purge_request\"}") (codes "{}") (codes "{}") (codes "{\"msg_ids\":[\"a\"]}") []
+
+abbrev queue_after_purge_m6 : Message
+queue_after_purge_m6 = message [] (codes "{\"msg_id\":\"ask\",\"msg_type\":\"queue_request\"}") (codes "{}") (codes "{}") (codes "{\"verbose\":true}") []
+
+-- what is purged isn't listed as completed
+abbrev pub queue_after_purge : List Line
+queue_after_purge =
+    line (Input (Open 0 LeastLoad 1 10)) None true []
+    ∷ line (Input (Up 1 Engine 0 0 (codes "e"))) None true []
+    ∷ line (Input (In 1 0 0 queue_after_purge_m0)) (Some (Join (codes "e0"))) true (Made 1 0 (codes "hub-1-2") (codes "registration_reply") (codes "{\"msg_id\":\"join-e0\",\"msg_type\":\"registration_request\"}") (codes "{\"status\":\"ok\",\"id\":0}") [] ∷ [])
+    ∷ line (Input (Up 2 Task 0 0 (codes "c"))) None true []
+    ∷ line (Input (In 2 0 0 queue_after_purge_m1)) (Some (Submit (submission (codes "a") (codes "execute_request") [] [] no_dependency no_dependency [] 0 0))) true []
+    ∷ decision (Hand (codes "a") 0) (Pass 1 queue_after_purge_m1 ∷ [])
+    ∷ line (Input (In 1 0 0 queue_after_purge_m2)) (Some (Reply (codes "a") (codes "r1") true false)) true []
+    ∷ decision (Settle (codes "a") Completed ByReply) (Pass 2 queue_after_purge_m2 ∷ [])
+    ∷ line (Input (In 2 0 0 queue_after_purge_m3)) (Some (Submit (submission (codes "b") (codes "execute_request") [] [] no_dependency no_dependency [] 0 0))) true []
+    ∷ decision (Hand (codes "b") 0) (Pass 1 queue_after_purge_m3 ∷ [])
+    ∷ line (Input (In 1 0 0 queue_after_purge_m4)) (Some (Reply (codes "b") (codes "r2") true false)) true []
+    ∷ decision (Settle (codes "b") Completed ByReply) (Pass 2 queue_after_purge_m4 ∷ [])
+    ∷ line (Input (Up 4 Hub 0 0 (codes "h"))) None true []
+    ∷ line (Input (In 4 0 0 queue_after_purge_m5)) (Some (Purge false ((codes "a") ∷ []))) true (Made 4 0 (codes "hub-1-13") (codes "purge_reply") (codes "{\"msg_id\":\"ask\",\"msg_type\":\"purge_request\"}") (codes "{\"status\":\"ok\"}") [] ∷ [])
+    ∷ line (Input (In 4 0 0 queue_after_purge_m6)) (Some (Ask (Queue [] true))) false (Made 4 0 (codes "hub-1-14") (codes "queue_reply") (codes "{\"msg_id\":\"ask\",\"msg_type\":\"queue_request\"}") (codes "{\"status\":\"ok\",\"unassigned\":[],\"0\":{\"queue\":[],\"completed\":[\"b\"],\"tasks\":[]}}") [] ∷ [])
+    ∷ []
+
+pub queue_after_purge_is_told : IsTold queue_after_purge
+unfolding digits escape_byte reserved_front next_word answer_id beat_id beat_request outcome_id resubmit_id header_text reply_type submit_refused empty_object ok_content join_content beat_content error_content outcome_content resubmit_content connection_content history_content queue_member queue_content settled_member result_content engine_lost_text date_of day_text time_text date_digits civil_date from_year from_month encode_with serde_json_on_literals is_utf8 chars event_of read_header is_request is_reply is_leave read_submit whole_timeouts ends_in_name request_of read_content read_task read_declined read_status
+queue_after_purge_is_told = record { goes = refl; reads = refl; rests = refl }
+
+pub queue_after_purge_legal : Legal (goes_on [] queue_after_purge)
+queue_after_purge_legal = told_legal queue_after_purge queue_after_purge_is_told
+

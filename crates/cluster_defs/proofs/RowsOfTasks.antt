@@ -1,5 +1,5 @@
 -- Worked rows on attempts, beats and timeouts, computed: each history is legal, is at rest, and sends what is said. Nothing rests on them.
-use Rattle.std.proofs.Common.{List, [], ◌∷◌, Some, None, true, false, refl}
+use Rattle.std.proofs.Common.{List, [], ◌∷◌, Option, Some, None, Bool, true, false, refl}
 use Rattle.std.specs.Prelude.{codes}
 use Rattle.std.specs.Fmt.{digits}
 use Rattle.std.specs.Str.{is_utf8, chars}
@@ -8,12 +8,13 @@ use Rattle.serde_json.proofs.OnLiterals.{serde_json_on_literals}
 use Rattle.hex.specs.Hex.{encode_with}
 use Rattle.edges.specs.Date.{date_of, day_text, time_text, digits as date_digits, civil_date, from_year, from_month}
 use Rattle.cluster_types.specs.Verdicts.{engine_lost_text}
-use Rattle.cluster_types.specs.declared.config.Channel.TheVariants.{Task, Engine}
-use Rattle.cluster_types.specs.declared.config.Scheme.TheVariants.{LeastLoad}
+use Rattle.cluster_types.specs.declared.config.Channel.TheVariants.{Hub, Task, Mux, Engine}
+use Rattle.cluster_types.specs.declared.config.Scheme.TheVariants.{Lru, LeastLoad, PlainRandom, TwoBin}
 use Rattle.cluster_types.specs.declared.verdict.Verdict.TheVariants.{Completed, Failed}
-use Rattle.cluster_types.specs.declared.verdict.Cause.TheVariants.{Reply as ByReply, EngineError, TaskTimeout}
+use Rattle.cluster_types.specs.declared.verdict.Cause.TheVariants.{Reply as ByReply, EngineError, ImpossibleDependency, InvalidDependency, TaskTimeout}
 use Rattle.cluster_types.specs.declared.message.Message.{Message}
-use Rattle.cluster_types.specs.declared.event.Event.TheVariants.{Submit, Reply, Join, Pong}
+use Rattle.cluster_types.specs.declared.event.Event.TheVariants.{Submit, Direct, Reply, Join, Leave, Pong, Purge, Resubmit, Ask}
+use Rattle.cluster_types.specs.declared.event.Query.TheVariants.{Connection, Queue, Result, History, Shutdown, Unknown, Bad}
 use Rattle.cluster_types.specs.declared.out.Out.TheVariants.{Pass, Made}
 use Rattle.cluster_types.specs.declared.entry.Input.TheVariants.{Open, Up, Down, In, Beat, Time}
 use Rattle.cluster_types.specs.declared.entry.Entry.TheVariants.{Input, Hand, Settle, Lose}
@@ -27,7 +28,7 @@ use Rattle.message_defs.specs.Texts.{answer_id, beat_id, beat_request, outcome_i
 use Rattle.cluster_defs.specs.Acceptance.{no_dependency, reserved_front}
 use Rattle.cluster_defs.specs.Steps.{next_word}
 use Rattle.cluster_defs.specs.Histories.{Legal}
-use Rattle.cluster_defs.proofs.Told.{Line, line, decision, message, submission, IsTold, goes_on, told_legal}
+use Rattle.cluster_defs.proofs.Told.{Line, line, decision, message, dep, submission, IsTold, goes_on, told_legal}
 
 abbrev one_task_m0 : Message
 one_task_m0 = message [] (codes "{\"msg_id\":\"join-e0\",\"msg_type\":\"registration_request\"}") (codes "{}") (codes "{}") (codes "{\"uuid\":\"e0\"}") []
@@ -309,3 +310,43 @@ task_timeout_is_told = record { goes = refl; reads = refl; rests = refl }
 
 pub task_timeout_legal : Legal (goes_on [] task_timeout)
 task_timeout_legal = told_legal task_timeout task_timeout_is_told
+
+abbrev header_of_another_engine_m0 : Message
+header_of_another_engine_m0 = message [] (codes "{\"msg_id\":\"join-e0\",\"msg_type\":\"registration_request\"}") (codes "{}") (codes "{}") (codes "{\"uuid\":\"e0\"}") []
+
+abbrev header_of_another_engine_m1 : Message
+header_of_another_engine_m1 = message [] (codes "{\"msg_id\":\"join-e1\",\"msg_type\":\"registration_request\"}") (codes "{}") (codes "{}") (codes "{\"uuid\":\"e1\"}") []
+
+abbrev header_of_another_engine_m2 : Message
+header_of_another_engine_m2 = message [] (codes "{\"msg_id\":\"a\",\"msg_type\":\"execute_request\"}") (codes "{}") (codes "{\"retries\":1}") (codes "{\"code\":\"6*7\"}") []
+
+abbrev header_of_another_engine_m3 : Message
+header_of_another_engine_m3 = message [] (codes "{\"msg_id\":\"r1\",\"msg_type\":\"execute_reply\"}") (codes "{\"msg_id\":\"a\"}") (codes "{}") (codes "{\"status\":\"error\"}") []
+
+abbrev header_of_another_engine_m4 : Message
+header_of_another_engine_m4 = message [] (codes "{\"msg_id\":\"r1\",\"msg_type\":\"execute_reply\"}") (codes "{\"msg_id\":\"a\"}") (codes "{}") (codes "{\"status\":\"ok\"}") []
+
+-- a reply with the header id of another engine's earlier reply is valid
+abbrev pub header_of_another_engine : List Line
+header_of_another_engine =
+    line (Input (Open 0 LeastLoad 1 10)) None true []
+    ∷ line (Input (Up 1 Engine 0 0 (codes "e"))) None true []
+    ∷ line (Input (In 1 0 0 header_of_another_engine_m0)) (Some (Join (codes "e0"))) true (Made 1 0 (codes "hub-1-2") (codes "registration_reply") (codes "{\"msg_id\":\"join-e0\",\"msg_type\":\"registration_request\"}") (codes "{\"status\":\"ok\",\"id\":0}") [] ∷ [])
+    ∷ line (Input (Up 2 Task 0 0 (codes "c"))) None true []
+    ∷ line (Input (Up 3 Engine 0 0 (codes "e1"))) None true []
+    ∷ line (Input (In 3 0 0 header_of_another_engine_m1)) (Some (Join (codes "e1"))) true (Made 3 0 (codes "hub-1-5") (codes "registration_reply") (codes "{\"msg_id\":\"join-e1\",\"msg_type\":\"registration_request\"}") (codes "{\"status\":\"ok\",\"id\":1}") [] ∷ [])
+    ∷ line (Input (In 2 0 0 header_of_another_engine_m2)) (Some (Submit (submission (codes "a") (codes "execute_request") [] [] no_dependency no_dependency [] 0 1))) true []
+    ∷ decision (Hand (codes "a") 0) (Pass 1 header_of_another_engine_m2 ∷ [])
+    ∷ line (Input (In 1 0 0 header_of_another_engine_m3)) (Some (Reply (codes "a") (codes "r1") false false)) true []
+    ∷ decision (Hand (codes "a") 1) (Pass 3 header_of_another_engine_m2 ∷ [])
+    ∷ line (Input (In 3 0 0 header_of_another_engine_m4)) (Some (Reply (codes "a") (codes "r1") true false)) true []
+    ∷ decision (Settle (codes "a") Completed ByReply) (Pass 2 header_of_another_engine_m4 ∷ [])
+    ∷ []
+
+pub header_of_another_engine_is_told : IsTold header_of_another_engine
+unfolding digits escape_byte reserved_front next_word answer_id beat_id beat_request outcome_id resubmit_id header_text reply_type submit_refused empty_object ok_content join_content beat_content error_content outcome_content resubmit_content connection_content history_content queue_member queue_content settled_member result_content engine_lost_text date_of day_text time_text date_digits civil_date from_year from_month encode_with serde_json_on_literals is_utf8 chars event_of read_header is_request is_reply is_leave read_submit whole_timeouts ends_in_name request_of read_content read_task read_declined read_status
+header_of_another_engine_is_told = record { goes = refl; reads = refl; rests = refl }
+
+pub header_of_another_engine_legal : Legal (goes_on [] header_of_another_engine)
+header_of_another_engine_legal = told_legal header_of_another_engine header_of_another_engine_is_told
+
