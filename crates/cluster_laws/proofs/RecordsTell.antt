@@ -1,9 +1,9 @@
 -- Questions are answered the same off the records of all tasks and the live engines.
-use Rattle.std.proofs.Common.{◌≡◌, ℕ, List, [], ◌∷◌, map, Bool, true, false, cond, not, ◌&&◌, ◌||◌, refl, sym, ap, ◌∙◌, subst, Option, Some, None, bytes_eq}
-use Rattle.std.specs.Prelude.{filter, find, filter_map, flat_map, option_map, ◌==◌, codes, decimal}
+use Rattle.std.proofs.Common.{◌≡◌, ℕ, List, [], ◌∷◌, map, Bool, true, false, cond, not, ◌&&◌, ◌||◌, refl, sym, ap, ◌∙◌, Option, Some, None, bytes_eq}
+use Rattle.std.specs.Prelude.{filter, find, filter_map, flat_map, option_map, ◌==◌, codes}
 use Rattle.std.specs.List.{list_any, list_all}
 use Rattle.std.specs.Option.{is_some, option_and_then}
-use Rattle.std.proofs.lemmas.Bool.{and_parts, and_from, not-true}
+use Rattle.std.proofs.lemmas.Bool.{and_parts}
 use Rattle.cluster_types.specs.Verdicts.{verdict_name, cause_name}
 use Rattle.cluster_types.specs.declared.config.Channel.{Channel}
 use Rattle.cluster_types.specs.declared.verdict.Verdict.{Verdict}
@@ -12,8 +12,7 @@ use Rattle.cluster_types.specs.declared.event.Query.{Query}
 use Rattle.cluster_types.specs.declared.event.Query.TheVariants.{Connection, Queue, Result as ResultQuery, History as HistoryQuery, Shutdown, Unknown, Bad}
 use Rattle.cluster_types.specs.declared.message.Message.{Message}
 use Rattle.cluster_types.specs.declared.record.Record.{Record}
-use Rattle.message_defs.specs.Texts.{queue_content, result_content, history_content, EngineQueue, Settled as SettledText}
-use Rattle.cluster_defs.specs.declared.answer.Answer.{Answer}
+use Rattle.message_defs.specs.Texts.{queue_content, result_content, history_content, Settled as SettledText}
 use Rattle.cluster_defs.specs.declared.attempt.Attempt.{Attempt}
 use Rattle.cluster_defs.specs.declared.attempt.Attempt.TheVariants.{Never, Running, EndedOk, EndedBadly, Lost, Declined}
 use Rattle.cluster_defs.specs.declared.engine.Engine.{Engine}
@@ -21,14 +20,14 @@ use Rattle.cluster_defs.specs.Words.{Id, is_empty, is_listed, is_number, once}
 use Rattle.cluster_defs.specs.Engines.{lists_number}
 use Rattle.cluster_defs.specs.Tasks.{Settled, engine_of, runs, runs_at}
 use Rattle.cluster_defs.specs.Facts.{Facts, is_settled, is_direct_id}
-use Rattle.cluster_defs.specs.Purges.{inflight, gone_or_unknown}
+use Rattle.cluster_defs.specs.Purges.{gone_or_unknown}
 use Rattle.cluster_defs.specs.Scheduling.{is_live, rests}
 use Rattle.cluster_defs.specs.Histories.{History, facts, Legal}
 use Rattle.cluster_defs.specs.Outcomes.{outcome}
 use Rattle.cluster_defs.specs.Queries.{plain, refusal, finished_on, engine_queue, unassigned, shown, queue_of, queue_answer, left_as, left_by, results_of, result_with, result_answer, answer_query, answer, limited}
 use Rattle.cluster_defs.specs.TaskRecords.{record_of, records_of}
 use Rattle.cluster_defs.specs.RecordAnswers.{ids_where, record_in, waits_in, runs_in, finished_in, queue_in, asked_engines, lives_in, queues_in, gone_as, settled_in, left_in, all_left, results_in, result_in, query_in, answer_in}
-use Rattle.cluster_defs.proofs.Options.{same_id, find_passes}
+use Rattle.cluster_defs.proofs.Options.{same_id}
 use Rattle.cluster_laws.proofs.Copies.{none_pass}
 use Rattle.cluster_laws.proofs.RecordsHold.{settled_engine}
 
