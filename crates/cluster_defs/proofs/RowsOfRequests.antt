@@ -1,5 +1,5 @@
 -- Worked rows on repeats, purges, direct requests, resubmissions and questions, computed. Nothing rests on them.
-use Rattle.std.proofs.Common.{List, [], ◌∷◌, Some, None, true, false, refl}
+use Rattle.std.proofs.Common.{List, [], ◌∷◌, Option, Some, None, Bool, true, false, refl}
 use Rattle.std.specs.Prelude.{codes}
 use Rattle.std.specs.Fmt.{digits}
 use Rattle.std.specs.Str.{is_utf8, chars}
@@ -9,15 +9,15 @@ use Rattle.hex.specs.Hex.{encode_with}
 use Rattle.edges.specs.Date.{date_of, day_text, time_text, digits as date_digits, civil_date, from_year, from_month}
 use Rattle.cluster_types.specs.Verdicts.{engine_lost_text}
 use Rattle.cluster_types.specs.declared.config.Channel.TheVariants.{Hub, Task, Mux, Engine}
-use Rattle.cluster_types.specs.declared.config.Scheme.TheVariants.{LeastLoad}
+use Rattle.cluster_types.specs.declared.config.Scheme.TheVariants.{Lru, LeastLoad, PlainRandom, TwoBin}
 use Rattle.cluster_types.specs.declared.verdict.Verdict.TheVariants.{Completed, Failed}
-use Rattle.cluster_types.specs.declared.verdict.Cause.TheVariants.{Reply as ByReply, EngineError}
+use Rattle.cluster_types.specs.declared.verdict.Cause.TheVariants.{Reply as ByReply, EngineError, ImpossibleDependency, InvalidDependency, TaskTimeout}
 use Rattle.cluster_types.specs.declared.message.Message.{Message}
-use Rattle.cluster_types.specs.declared.event.Event.TheVariants.{Submit, Direct, Reply, Join, Leave, Purge, Resubmit, Ask}
-use Rattle.cluster_types.specs.declared.event.Query.TheVariants.{Queue, Result, History, Bad}
+use Rattle.cluster_types.specs.declared.event.Event.TheVariants.{Submit, Direct, Reply, Join, Leave, Pong, Purge, Resubmit, Ask}
+use Rattle.cluster_types.specs.declared.event.Query.TheVariants.{Connection, Queue, Result, History, Shutdown, Unknown, Bad}
 use Rattle.cluster_types.specs.declared.out.Out.TheVariants.{Pass, Made}
-use Rattle.cluster_types.specs.declared.entry.Input.TheVariants.{Open, Up, Down, In}
-use Rattle.cluster_types.specs.declared.entry.Entry.TheVariants.{Input, Hand, Settle}
+use Rattle.cluster_types.specs.declared.entry.Input.TheVariants.{Open, Up, Down, In, Beat, Time}
+use Rattle.cluster_types.specs.declared.entry.Entry.TheVariants.{Input, Hand, Settle, Lose}
 use Rattle.message_defs.specs.Event.{event_of, is_request, is_reply, is_leave}
 use Rattle.message_defs.specs.Points.{whole_timeouts, ends_in_name}
 use Rattle.message_defs.specs.Submit.{read_submit}
@@ -28,7 +28,7 @@ use Rattle.message_defs.specs.Texts.{answer_id, beat_id, beat_request, outcome_i
 use Rattle.cluster_defs.specs.Acceptance.{no_dependency, reserved_front}
 use Rattle.cluster_defs.specs.Steps.{next_word}
 use Rattle.cluster_defs.specs.Histories.{Legal}
-use Rattle.cluster_defs.proofs.Told.{Line, line, decision, message, submission, IsTold, goes_on, told_legal}
+use Rattle.cluster_defs.proofs.Told.{Line, line, decision, message, dep, submission, IsTold, goes_on, told_legal}
 
 abbrev repeat_and_known_id_m0 : Message
 repeat_and_known_id_m0 = message [] (codes "{\"msg_id\":\"join-e0\",\"msg_type\":\"registration_request\"}") (codes "{}") (codes "{}") (codes "{\"uuid\":\"e0\"}") []
@@ -528,3 +528,32 @@ queue_after_purge_is_told = record { goes = refl; reads = refl; rests = refl }
 
 pub queue_after_purge_legal : Legal (goes_on [] queue_after_purge)
 queue_after_purge_legal = told_legal queue_after_purge queue_after_purge_is_told
+
+abbrev purge_unknown_first_m0 : Message
+purge_unknown_first_m0 = message [] (codes "{\"msg_id\":\"join-e0\",\"msg_type\":\"registration_request\"}") (codes "{}") (codes "{}") (codes "{\"uuid\":\"e0\"}") []
+
+abbrev purge_unknown_first_m1 : Message
+purge_unknown_first_m1 = message [] (codes "{\"msg_id\":\"a\",\"msg_type\":\"execute_request\"}") (codes "{}") (codes "{}") (codes "{\"code\":\"6*7\"}") []
+
+abbrev purge_unknown_first_m2 : Message
+purge_unknown_first_m2 = message [] (codes "{\"msg_id\":\"ask\",\"msg_type\":\"purge_request\"}") (codes "{}") (codes "{}") (codes "{\"msg_ids\":[\"a\",\"z\"]}") []
+
+-- of an unknown and a running id the unknown one is named
+abbrev pub purge_unknown_first : List Line
+purge_unknown_first =
+    line (Input (Open 0 LeastLoad 1 10)) None true []
+    ∷ line (Input (Up 1 Engine 0 0 (codes "e"))) None true []
+    ∷ line (Input (In 1 0 0 purge_unknown_first_m0)) (Some (Join (codes "e0"))) true (Made 1 0 (codes "hub-1-2") (codes "registration_reply") (codes "{\"msg_id\":\"join-e0\",\"msg_type\":\"registration_request\"}") (codes "{\"status\":\"ok\",\"id\":0}") [] ∷ [])
+    ∷ line (Input (Up 2 Task 0 0 (codes "c"))) None true []
+    ∷ line (Input (In 2 0 0 purge_unknown_first_m1)) (Some (Submit (submission (codes "a") (codes "execute_request") [] [] no_dependency no_dependency [] 0 0))) true []
+    ∷ decision (Hand (codes "a") 0) (Pass 1 purge_unknown_first_m1 ∷ [])
+    ∷ line (Input (Up 4 Hub 0 0 (codes "h"))) None true []
+    ∷ line (Input (In 4 0 0 purge_unknown_first_m2)) (Some (Purge false ((codes "a") ∷ (codes "z") ∷ []))) false (Made 4 0 (codes "hub-1-7") (codes "purge_reply") (codes "{\"msg_id\":\"ask\",\"msg_type\":\"purge_request\"}") (codes "{\"status\":\"error\",\"ename\":\"UnknownIds\",\"evalue\":\"\",\"traceback\":[],\"ids\":[\"z\"]}") [] ∷ [])
+    ∷ []
+
+pub purge_unknown_first_is_told : IsTold purge_unknown_first
+unfolding digits escape_byte reserved_front next_word answer_id beat_id beat_request outcome_id resubmit_id header_text reply_type submit_refused empty_object ok_content join_content beat_content error_content outcome_content resubmit_content connection_content history_content queue_member queue_content settled_member result_content engine_lost_text date_of day_text time_text date_digits civil_date from_year from_month encode_with serde_json_on_literals is_utf8 chars event_of read_header is_request is_reply is_leave read_submit whole_timeouts ends_in_name request_of read_content read_task read_declined read_status
+purge_unknown_first_is_told = record { goes = refl; reads = refl; rests = refl }
+
+pub purge_unknown_first_legal : Legal (goes_on [] purge_unknown_first)
+purge_unknown_first_legal = told_legal purge_unknown_first purge_unknown_first_is_told

@@ -1,5 +1,5 @@
 -- Worked rows on attempts, beats and timeouts, computed: each history is legal, is at rest, and sends what is said. Nothing rests on them.
-use Rattle.std.proofs.Common.{List, [], ◌∷◌, Some, None, true, false, refl}
+use Rattle.std.proofs.Common.{List, [], ◌∷◌, Option, Some, None, Bool, true, false, refl}
 use Rattle.std.specs.Prelude.{codes}
 use Rattle.std.specs.Fmt.{digits}
 use Rattle.std.specs.Str.{is_utf8, chars}
@@ -8,12 +8,13 @@ use Rattle.serde_json.proofs.OnLiterals.{serde_json_on_literals}
 use Rattle.hex.specs.Hex.{encode_with}
 use Rattle.edges.specs.Date.{date_of, day_text, time_text, digits as date_digits, civil_date, from_year, from_month}
 use Rattle.cluster_types.specs.Verdicts.{engine_lost_text}
-use Rattle.cluster_types.specs.declared.config.Channel.TheVariants.{Task, Engine}
-use Rattle.cluster_types.specs.declared.config.Scheme.TheVariants.{LeastLoad}
+use Rattle.cluster_types.specs.declared.config.Channel.TheVariants.{Hub, Task, Mux, Engine}
+use Rattle.cluster_types.specs.declared.config.Scheme.TheVariants.{Lru, LeastLoad, PlainRandom, TwoBin}
 use Rattle.cluster_types.specs.declared.verdict.Verdict.TheVariants.{Completed, Failed}
-use Rattle.cluster_types.specs.declared.verdict.Cause.TheVariants.{Reply as ByReply, EngineError, TaskTimeout}
+use Rattle.cluster_types.specs.declared.verdict.Cause.TheVariants.{Reply as ByReply, EngineError, ImpossibleDependency, InvalidDependency, TaskTimeout}
 use Rattle.cluster_types.specs.declared.message.Message.{Message}
-use Rattle.cluster_types.specs.declared.event.Event.TheVariants.{Submit, Reply, Join, Pong}
+use Rattle.cluster_types.specs.declared.event.Event.TheVariants.{Submit, Direct, Reply, Join, Leave, Pong, Purge, Resubmit, Ask}
+use Rattle.cluster_types.specs.declared.event.Query.TheVariants.{Connection, Queue, Result, History, Shutdown, Unknown, Bad}
 use Rattle.cluster_types.specs.declared.out.Out.TheVariants.{Pass, Made}
 use Rattle.cluster_types.specs.declared.entry.Input.TheVariants.{Open, Up, Down, In, Beat, Time}
 use Rattle.cluster_types.specs.declared.entry.Entry.TheVariants.{Input, Hand, Settle, Lose}
@@ -27,7 +28,7 @@ use Rattle.message_defs.specs.Texts.{answer_id, beat_id, beat_request, outcome_i
 use Rattle.cluster_defs.specs.Acceptance.{no_dependency, reserved_front}
 use Rattle.cluster_defs.specs.Steps.{next_word}
 use Rattle.cluster_defs.specs.Histories.{Legal}
-use Rattle.cluster_defs.proofs.Told.{Line, line, decision, message, submission, IsTold, goes_on, told_legal}
+use Rattle.cluster_defs.proofs.Told.{Line, line, decision, message, dep, submission, IsTold, goes_on, told_legal}
 
 abbrev one_task_m0 : Message
 one_task_m0 = message [] (codes "{\"msg_id\":\"join-e0\",\"msg_type\":\"registration_request\"}") (codes "{}") (codes "{}") (codes "{\"uuid\":\"e0\"}") []
@@ -348,3 +349,34 @@ header_of_another_engine_is_told = record { goes = refl; reads = refl; rests = r
 
 pub header_of_another_engine_legal : Legal (goes_on [] header_of_another_engine)
 header_of_another_engine_legal = told_legal header_of_another_engine header_of_another_engine_is_told
+
+abbrev dead_before_timeout_m0 : Message
+dead_before_timeout_m0 = message [] (codes "{\"msg_id\":\"x\",\"msg_type\":\"execute_request\"}") (codes "{}") (codes "{\"timeout\":5}") (codes "{\"code\":\"6*7\"}") []
+
+abbrev dead_before_timeout_m1 : Message
+dead_before_timeout_m1 = message [] (codes "{\"msg_id\":\"t\",\"msg_type\":\"execute_request\"}") (codes "{}") (codes "{\"timeout\":5,\"after\":[\"x\"]}") (codes "{\"code\":\"6*7\"}") []
+
+abbrev dead_before_timeout_m2 : Message
+dead_before_timeout_m2 = message [] (codes "{\"msg_id\":\"out-1\",\"session\":\"controller\",\"username\":\"controller\",\"date\":\"1970-01-01T00:00:06.000Z\",\"msg_type\":\"execute_reply\",\"version\":\"5.3\"}") (codes "{\"msg_id\":\"x\",\"msg_type\":\"execute_request\"}") (codes "{}") (codes "{\"status\":\"error\",\"ename\":\"TaskTimeout\",\"evalue\":\"the task waited past its timeout\",\"traceback\":[]}") []
+
+abbrev dead_before_timeout_m3 : Message
+dead_before_timeout_m3 = message [] (codes "{\"msg_id\":\"out-2\",\"session\":\"controller\",\"username\":\"controller\",\"date\":\"1970-01-01T00:00:06.000Z\",\"msg_type\":\"execute_reply\",\"version\":\"5.3\"}") (codes "{\"msg_id\":\"t\",\"msg_type\":\"execute_request\"}") (codes "{}") (codes "{\"status\":\"error\",\"ename\":\"ImpossibleDependency\",\"evalue\":\"the dependencies of this task cannot be met\",\"traceback\":[]}") []
+
+-- two tasks time out, and the second waits for the first: it is impossible
+abbrev pub dead_before_timeout : List Line
+dead_before_timeout =
+    line (Input (Open 0 LeastLoad 1 10)) None true []
+    ∷ line (Input (Up 2 Task 0 0 (codes "c"))) None true []
+    ∷ line (Input (In 2 1000 0 dead_before_timeout_m0)) (Some (Submit (submission (codes "x") (codes "execute_request") [] [] no_dependency no_dependency [] 5 0))) true []
+    ∷ line (Input (In 2 1000 0 dead_before_timeout_m1)) (Some (Submit (submission (codes "t") (codes "execute_request") [] [] (dep ((codes "x") ∷ []) true true false) no_dependency [] 5 0))) true []
+    ∷ line (Input (Time 6000 0)) None true []
+    ∷ decision (Settle (codes "x") Failed TaskTimeout) (Pass 2 dead_before_timeout_m2 ∷ [])
+    ∷ decision (Settle (codes "t") Failed ImpossibleDependency) (Pass 2 dead_before_timeout_m3 ∷ [])
+    ∷ []
+
+pub dead_before_timeout_is_told : IsTold dead_before_timeout
+unfolding digits escape_byte reserved_front next_word answer_id beat_id beat_request outcome_id resubmit_id header_text reply_type submit_refused empty_object ok_content join_content beat_content error_content outcome_content resubmit_content connection_content history_content queue_member queue_content settled_member result_content engine_lost_text date_of day_text time_text date_digits civil_date from_year from_month encode_with serde_json_on_literals is_utf8 chars event_of read_header is_request is_reply is_leave read_submit whole_timeouts ends_in_name request_of read_content read_task read_declined read_status
+dead_before_timeout_is_told = record { goes = refl; reads = refl; rests = refl }
+
+pub dead_before_timeout_legal : Legal (goes_on [] dead_before_timeout)
+dead_before_timeout_legal = told_legal dead_before_timeout dead_before_timeout_is_told
