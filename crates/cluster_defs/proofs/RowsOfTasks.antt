@@ -380,3 +380,29 @@ dead_before_timeout_is_told = record { goes = refl; reads = refl; rests = refl }
 
 pub dead_before_timeout_legal : Legal (goes_on [] dead_before_timeout)
 dead_before_timeout_legal = told_legal dead_before_timeout dead_before_timeout_is_told
+
+abbrev beats_anew_m0 : Message
+beats_anew_m0 = message [] (codes "{\"msg_id\":\"join-e0\",\"msg_type\":\"registration_request\"}") (codes "{}") (codes "{}") (codes "{\"uuid\":\"e0\"}") []
+
+-- beats are numbered from 1 in each opening
+abbrev pub beats_anew : List Line
+beats_anew =
+    line (Input (Open 0 LeastLoad 1 10)) None true []
+    ∷ line (Input (Up 1 Engine 0 0 (codes "e"))) None true []
+    ∷ line (Input (In 1 0 0 beats_anew_m0)) (Some (Join (codes "e0"))) true (Made 1 0 (codes "hub-1-2") (codes "registration_reply") (codes "{\"msg_id\":\"join-e0\",\"msg_type\":\"registration_request\"}") (codes "{\"status\":\"ok\",\"id\":0}") [] ∷ [])
+    ∷ line (Input (Up 2 Task 0 0 (codes "c"))) None true []
+    ∷ line (Input (Beat 0 0)) None true (Made 1 0 (codes "hub-1-4-0") (codes "beat_request") (codes "{}") (codes "{\"beat\":1}") [] ∷ [])
+    ∷ line (Input (Beat 0 0)) None true (Made 1 0 (codes "hub-1-5-0") (codes "beat_request") (codes "{}") (codes "{\"beat\":2}") [] ∷ [])
+    ∷ line (Input (Open 0 LeastLoad 1 10)) None true []
+    ∷ line (Input (Up 1 Engine 0 0 (codes "e"))) None true []
+    ∷ line (Input (In 1 0 0 beats_anew_m0)) (Some (Join (codes "e0"))) true (Made 1 0 (codes "hub-2-2") (codes "registration_reply") (codes "{\"msg_id\":\"join-e0\",\"msg_type\":\"registration_request\"}") (codes "{\"status\":\"ok\",\"id\":1}") [] ∷ [])
+    ∷ line (Input (Up 2 Task 0 0 (codes "c"))) None true []
+    ∷ line (Input (Beat 0 0)) None true (Made 1 0 (codes "hub-2-4-1") (codes "beat_request") (codes "{}") (codes "{\"beat\":1}") [] ∷ [])
+    ∷ []
+
+pub beats_anew_is_told : IsTold beats_anew
+unfolding digits escape_byte reserved_front next_word answer_id beat_id beat_request outcome_id resubmit_id header_text reply_type submit_refused empty_object ok_content join_content beat_content error_content outcome_content resubmit_content connection_content history_content queue_member queue_content settled_member result_content engine_lost_text date_of day_text time_text date_digits civil_date from_year from_month encode_with serde_json_on_literals is_utf8 chars event_of read_header is_request is_reply is_leave read_submit whole_timeouts ends_in_name request_of read_content read_task read_declined read_status
+beats_anew_is_told = record { goes = refl; reads = refl; rests = refl }
+
+pub beats_anew_legal : Legal (goes_on [] beats_anew)
+beats_anew_legal = told_legal beats_anew beats_anew_is_told
