@@ -1,0 +1,8 @@
+//! What a cluster is: definitions over histories, the small types that they speak of, and the laws that hold of them.
+#![tactic(auto)]
+
+pub mod acceptance;
+pub mod answer;
+pub mod attempt;
+pub mod connection;
+pub mod engine;

@@ -1,0 +1,4 @@
+//! What holds of every legal history of a cluster: each law is the contract of a function that does nothing.
+#![tactic(auto)]
+
+pub mod laws;
