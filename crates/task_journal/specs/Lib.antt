@@ -1,0 +1,4 @@
+pub mod Journal
+pub mod Reads
+pub mod Window
+pub mod Batch
