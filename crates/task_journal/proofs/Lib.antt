@@ -4,3 +4,6 @@ pub mod Loops
 pub mod Gates
 pub mod On
 pub mod Batches
+pub mod Moments
+pub mod Crash
+pub mod Making

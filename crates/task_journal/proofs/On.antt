@@ -30,7 +30,7 @@ bind_ok (Err d) f y e = absurd cc
 ok_is : {A : Type 0} (x y : A) → ◌≡◌ {A = Result A OpenFault} (Ok x) (Ok y) → x ≡ y
 ok_is x y e = cc
 
-last_behind : (xs ys : List ℕ) (x : ℕ) → last_of ys ≡ Some x → last_of (xs ++ ys) ≡ Some x
+pub last_behind : (xs ys : List ℕ) (x : ℕ) → last_of ys ≡ Some x → last_of (xs ++ ys) ≡ Some x
 last_behind [] ys x e = e
 last_behind (y ∷ []) [] x e = absurd cc
 last_behind (y ∷ []) (z ∷ zs) x e = e

@@ -2,3 +2,4 @@ pub mod Journal
 pub mod Reads
 pub mod Window
 pub mod Batch
+pub mod Settled

@@ -5,6 +5,8 @@ pub mod batch;
 pub mod fault;
 pub mod found;
 pub mod gate;
+pub mod journal;
+pub mod opening;
 mod disk_calls;
 pub mod reading;
 mod window;

@@ -1,6 +1,6 @@
 //! Reading a journal.
 
-ghost use Rattle.std.specs.Prelude.{◌≡◌, ◌≤◌, ◌<◌, length, drop, Some, IfOk, IsErrOf};
+ghost use Rattle.std.specs.Prelude.{◌≡◌, ◌≤◌, ◌<◌, ◌^◌, length, drop, Some, IfOk, OnOk, IsErrOf};
 ghost use Rattle.disk_model.specs.Crashes.{Rose};
 ghost use Rattle.task_journal.specs.Reads.{OnlyReads};
 ghost use Rattle.task_journal.specs.Journal.{Gives, Fails, with_front, records_at, found_from, difference, head, journal, holding, last_of};
@@ -137,6 +137,7 @@ fn check_head<D: Disk>(disk: &mut D) -> Result<(), OpenFault>
 pub(crate) fn read_found<D: Disk>(alloc: Global, disk: &mut D) -> Result<(Found, u64), OpenFault>
     ensures value { D.tells → Gives (λ x. x.0) result (journal (D.content disk.old)) }
     ensures gate { IfOk result (λ x. last_of x.0.places ≡ Some x.1) }
+    ensures fits { D.tells → OnOk result (length (D.content disk.old) < 2 ^ 64) }
     ensures reads { OnlyReads D.content D.image D.moment D.image_since D.faults disk.old disk.new }
     ensures cause { IsErrOf result OpenFault.DiskFault → Rose (D.faults disk.old) (D.faults disk.new) }
 {
