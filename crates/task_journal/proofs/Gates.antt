@@ -88,6 +88,7 @@ module _ (size gate : ℕ) (disk : List ℕ) (is : size ≡ length disk) (lt : g
     where
       nine : (g : ℕ) → g + 1 + 9 ≡ g + 10
       nine g = omega arith
+
       more : (g n : ℕ) → g + 1 + (9 + n) ≡ g + 10 + n
       more g n = omega arith
 

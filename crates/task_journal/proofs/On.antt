@@ -100,11 +100,14 @@ on_open total x len count octets found again gate e =
   where
     pair : {a b : List Entry} {c d : List ℕ} → a ≡ b → c ≡ d → holding a c ≡ holding b d
     pair e f = rw (e, f) refl
+
     front_alike : (n : ℕ) (a b d : List ℕ) → n ≤ length a → take n (a ++ b) ≡ take n (a ++ d)
     front_alike n a b d le = take-append-le n a b le ∙ sym (take-append-le n a d le)
+
     gate_alike : (y : ℕ) (a b d : List ℕ) → 9 ≤ length a → (xs : List ℕ) → xs ≡ a ++ b → gate_in (y ∷ (a ++ d)) ≡ gate_in (y ∷ xs)
     gate_alike y a b d le xs parts =
         sym (gate_front (y ∷ (a ++ d))) ∙ ap (λ (z : List ℕ). gate_in (y ∷ z)) (front_alike 9 a d b le) ∙ gate_front (y ∷ (a ++ b)) ∙ ap (λ (z : List ℕ). gate_in (y ∷ z)) (sym parts)
+
     body_alike : (a b d : List ℕ) (n : ℕ) → 9 + n ≤ length a → (xs : List ℕ) → xs ≡ a ++ b → take n (drop 9 xs) ≡ take n (drop 9 (a ++ d))
     body_alike a b d n le xs parts =
         ap (λ (z : List ℕ). take n (drop 9 z)) parts ∙ ap (take n) (drop-append-le 9 a b (omega (arith, le))) ∙ front_alike n (drop 9 a) b d (omega (arith, length-drop 9 a, le)) ∙ ap (take n) (sym (drop-append-le 9 a d (omega (arith, le))))

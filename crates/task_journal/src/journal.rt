@@ -43,10 +43,11 @@ fn append_at<D: Disk>(disk: &mut D, gate: u64, octets: &[u8]) -> Result<(), Fail
     ensures later { D.faults disk.old ≤ D.faults disk.new }
     ensures cause { IsErr result → Rose (D.faults disk.old) (D.faults disk.new) }
 {
-    disk.write_at(gate.saturating_add(1), octets)?;
-    disk.sync()?;
+    let behind = gate.saturating_add(1);
+    disk.write_at(behind, octets)?;
+    disk.sync()?; // the batch is on the disk
     disk.write_at(gate, &[0xa7])?;
-    disk.sync()?;
+    disk.sync()?; // and so is the gate
     Ok(())
 }
 

@@ -2,11 +2,13 @@
 #![tactic(auto)]
 
 pub mod batch;
+mod disk_calls;
 pub mod fault;
 pub mod found;
 pub mod gate;
 pub mod journal;
 pub mod opening;
-mod disk_calls;
 pub mod reading;
+#[cfg(test)]
+mod tests;
 mod window;

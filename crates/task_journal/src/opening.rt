@@ -31,7 +31,8 @@ fn make<D: Disk>(disk: &mut D) -> Result<(), Failed>
     ensures later { D.faults disk.old ≤ D.faults disk.new }
     ensures cause { IsErr result → Rose (D.faults disk.old) (D.faults disk.new) }
 {
-    let head = b"IPCJRNL1\x00\x00\x00\x01\x00\x00\x00\x00\x00\x00\x00\x00\x00\x00\x00\x00\x00\x00\x00\x00\x00\x00\x00\x00";
+    let head =
+        b"IPCJRNL1\x00\x00\x00\x01\x00\x00\x00\x00\x00\x00\x00\x00\x00\x00\x00\x00\x00\x00\x00\x00\x00\x00\x00\x00";
     disk.write_at(0, head)?;
     disk.sync()?;
     disk.write_at(32, &[0])?;
@@ -62,10 +63,7 @@ impl<D: Disk> Journal<D> {
     /// Opens the journal of a disk, and makes its head where the disk has fewer than 33 octets. It gives the entries in
     /// order, and the offsets of their records with that of the first closed gate behind them, or 0 where the head was
     /// made. A refusal hands the disk back: it is untouched where it holds no journal or a damaged one.
-    pub fn open(
-        alloc: Global,
-        disk: D,
-    ) -> Result<(Journal<D>, Entries, Places), Refused<D>>
+    pub fn open(alloc: Global, disk: D) -> Result<(Journal<D>, Entries, Places), Refused<D>>
         ensures found { D.tells → IfOk result (λ x. journal (D.content disk) ≡ Ok (holding x.1 x.2)) }
         // From now on the disk stands for these entries, and so does all that a crash leaves.
         ensures stands { D.tells → IfOk result (λ x. StandsFor (D.content x.0.disk) x.1) }

@@ -75,11 +75,7 @@ fn next_batch<D: Disk>(
 }
 
 /// What a journal of so many octets holds, and the place of its first closed gate.
-fn read_batches<D: Disk>(
-    alloc: Global,
-    disk: &mut D,
-    size: u64,
-) -> Result<(Found, u64), OpenFault>
+fn read_batches<D: Disk>(alloc: Global, disk: &mut D, size: u64) -> Result<(Found, u64), OpenFault>
     requires { D.tells → size ≡ length (D.content disk.old) }
     ensures value { D.tells → Gives (λ x. x.0) result (found_from size 31 (D.content disk.old)) }
     ensures gate { IfOk result (λ x. last_of x.0.places ≡ Some x.1) }
@@ -126,7 +122,8 @@ fn check_head<D: Disk>(disk: &mut D) -> Result<(), OpenFault>
 {
     let mut octets = [0; 31];
     read_into(disk, 0, &mut octets)?;
-    let head = b"IPCJRNL1\x00\x00\x00\x01\x00\x00\x00\x00\x00\x00\x00\x00\x00\x00\x00\x00\x00\x00\x00\x00\x00\x00\x00";
+    let head =
+        b"IPCJRNL1\x00\x00\x00\x01\x00\x00\x00\x00\x00\x00\x00\x00\x00\x00\x00\x00\x00\x00\x00\x00\x00\x00\x00";
     match difference_of(head, &octets) {
         Some(place) => Err(OpenFault::NotAJournal(place)),
         None => Ok(()),

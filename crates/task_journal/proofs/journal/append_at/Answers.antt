@@ -8,7 +8,7 @@ use Rattle.task_journal.proofs.Crash.{opened, gate_inside, first_image, gate_ima
 use Rattle.task_journal.proofs.journal.append_at.Goals as goal
 
 pub write_at-requires : goal.write_at-requires
-write_at-requires g c = λ told. let ready = c.requires told in omega (arith, gate_inside (g.D.Disk.content c.args.disk.now) c.args.gate ready.settled, ready.settled.room, c.saturating_add.ensures)
+write_at-requires g c = λ told. let ready = c.requires told in omega (arith, gate_inside (g.D.Disk.content c.args.disk.now) c.args.gate ready.settled, ready.settled.room, c.saturating_add-behind.ensures)
 
 pub write_at-requires-2 : goal.write_at-requires-2
 write_at-requires-2 g c = λ told.
@@ -16,7 +16,7 @@ write_at-requires-2 g c = λ told.
     let disk = g.D.Disk.content c.args.disk.now in
     let size = ap length (c.sync.ensures.same ∙ c.in_ok-write_at.ensures.written told) in
     let front = gate_inside disk c.args.gate ready.settled in
-    omega (arith, size, front, ready.settled.room, c.saturating_add.ensures, length-append (take c.saturating_add.result disk ++ c.args.octets.now) (drop (c.saturating_add.result + length c.args.octets.now) disk), length-append (take c.saturating_add.result disk) c.args.octets.now, length-take c.saturating_add.result disk)
+    omega (arith, size, front, ready.settled.room, c.saturating_add-behind.ensures, length-append (take c.saturating_add-behind.result disk ++ c.args.octets.now) (drop (c.saturating_add-behind.result + length c.args.octets.now) disk), length-append (take c.saturating_add-behind.result disk) c.args.octets.now, length-take c.saturating_add-behind.result disk)
 
 -- the first write leaves the entries as they were
 pub returns-in_err-write_at-clause-any_moment : goal.returns-in_err-write_at-clause-any_moment
@@ -24,10 +24,10 @@ returns-in_err-write_at-clause-any_moment g c = λ told list es is_batch stands.
     let ready = c.requires told in
     let disk = g.D.Disk.content c.args.disk.now in
     let o = opened disk c.args.gate list ready.settled stands in
-    let at : c.saturating_add.result ≡ c.args.gate + 1 = omega (arith, ready.settled.room, c.saturating_add.ensures) in
+    let at : c.saturating_add-behind.result ≡ c.args.gate + 1 = omega (arith, ready.settled.room, c.saturating_add-behind.ensures) in
     let P = Outcome list es in
     let begun = starts g.D.Disk.moment g.D.Disk.image g.D.Disk.image_since c.args.disk.now P (g.met.D.Disk.only_now c.args.disk.now) (λ f now. inl (subst (λ (z : List ℕ). StandsFor z list) (sym (ready.durable f now)) stands)) in
-    let first = first_image disk c.args.gate list o c.saturating_add.result (length c.args.octets.now) (g.D.Disk.image c.args.disk.now) (g.D.Disk.image c.write_at.new.self) at ready.durable c.write_at.ensures.images in
+    let first = first_image disk c.args.gate list o c.saturating_add-behind.result (length c.args.octets.now) (g.D.Disk.image c.args.disk.now) (g.D.Disk.image c.write_at.new.self) at ready.durable c.write_at.ensures.images in
     let behind = goes g.D.Disk.moment g.D.Disk.image g.D.Disk.image_since c.args.disk.now c.args.disk.now c.write_at.new.self P begun c.write_at.ensures.time (λ f now. inl (first f now)) in
     behind.leaves
 
@@ -36,10 +36,10 @@ returns-in_err-sync-clause-any_moment g c = λ told list es is_batch stands.
     let ready = c.requires told in
     let disk = g.D.Disk.content c.args.disk.now in
     let o = opened disk c.args.gate list ready.settled stands in
-    let at : c.saturating_add.result ≡ c.args.gate + 1 = omega (arith, ready.settled.room, c.saturating_add.ensures) in
+    let at : c.saturating_add-behind.result ≡ c.args.gate + 1 = omega (arith, ready.settled.room, c.saturating_add-behind.ensures) in
     let P = Outcome list es in
     let begun = starts g.D.Disk.moment g.D.Disk.image g.D.Disk.image_since c.args.disk.now P (g.met.D.Disk.only_now c.args.disk.now) (λ f now. inl (subst (λ (z : List ℕ). StandsFor z list) (sym (ready.durable f now)) stands)) in
-    let first = first_image disk c.args.gate list o c.saturating_add.result (length c.args.octets.now) (g.D.Disk.image c.args.disk.now) (g.D.Disk.image c.write_at.new.self) at ready.durable c.write_at.ensures.images in
+    let first = first_image disk c.args.gate list o c.saturating_add-behind.result (length c.args.octets.now) (g.D.Disk.image c.args.disk.now) (g.D.Disk.image c.write_at.new.self) at ready.durable c.write_at.ensures.images in
     let behind = goes g.D.Disk.moment g.D.Disk.image g.D.Disk.image_since c.args.disk.now c.args.disk.now c.write_at.new.self P begun c.write_at.ensures.time (λ f now. inl (first f now)) in
     let kept = stays g.D.Disk.moment g.D.Disk.image g.D.Disk.image_since c.args.disk.now c.write_at.new.self c.sync.new.self P behind c.sync.ensures.time c.sync.ensures.images in
     kept.leaves
@@ -50,10 +50,10 @@ returns-in_err-write_at-2-clause-any_moment g c = λ told list es is_batch stand
     let ready = c.requires told in
     let disk = g.D.Disk.content c.args.disk.now in
     let o = opened disk c.args.gate list ready.settled stands in
-    let at : c.saturating_add.result ≡ c.args.gate + 1 = omega (arith, ready.settled.room, c.saturating_add.ensures) in
+    let at : c.saturating_add-behind.result ≡ c.args.gate + 1 = omega (arith, ready.settled.room, c.saturating_add-behind.ensures) in
     let P = Outcome list es in
     let begun = starts g.D.Disk.moment g.D.Disk.image g.D.Disk.image_since c.args.disk.now P (g.met.D.Disk.only_now c.args.disk.now) (λ f now. inl (subst (λ (z : List ℕ). StandsFor z list) (sym (ready.durable f now)) stands)) in
-    let first = first_image disk c.args.gate list o c.saturating_add.result (length c.args.octets.now) (g.D.Disk.image c.args.disk.now) (g.D.Disk.image c.write_at.new.self) at ready.durable c.write_at.ensures.images in
+    let first = first_image disk c.args.gate list o c.saturating_add-behind.result (length c.args.octets.now) (g.D.Disk.image c.args.disk.now) (g.D.Disk.image c.write_at.new.self) at ready.durable c.write_at.ensures.images in
     let behind = goes g.D.Disk.moment g.D.Disk.image g.D.Disk.image_since c.args.disk.now c.args.disk.now c.write_at.new.self P begun c.write_at.ensures.time (λ f now. inl (first f now)) in
     let kept = stays g.D.Disk.moment g.D.Disk.image g.D.Disk.image_since c.args.disk.now c.write_at.new.self c.sync.new.self P behind c.sync.ensures.time c.sync.ensures.images in
     let rest = drop (c.args.gate + 1 + length c.args.octets.now) disk in
@@ -67,10 +67,10 @@ returns-in_err-sync-2-clause-any_moment g c = λ told list es is_batch stands.
     let ready = c.requires told in
     let disk = g.D.Disk.content c.args.disk.now in
     let o = opened disk c.args.gate list ready.settled stands in
-    let at : c.saturating_add.result ≡ c.args.gate + 1 = omega (arith, ready.settled.room, c.saturating_add.ensures) in
+    let at : c.saturating_add-behind.result ≡ c.args.gate + 1 = omega (arith, ready.settled.room, c.saturating_add-behind.ensures) in
     let P = Outcome list es in
     let begun = starts g.D.Disk.moment g.D.Disk.image g.D.Disk.image_since c.args.disk.now P (g.met.D.Disk.only_now c.args.disk.now) (λ f now. inl (subst (λ (z : List ℕ). StandsFor z list) (sym (ready.durable f now)) stands)) in
-    let first = first_image disk c.args.gate list o c.saturating_add.result (length c.args.octets.now) (g.D.Disk.image c.args.disk.now) (g.D.Disk.image c.write_at.new.self) at ready.durable c.write_at.ensures.images in
+    let first = first_image disk c.args.gate list o c.saturating_add-behind.result (length c.args.octets.now) (g.D.Disk.image c.args.disk.now) (g.D.Disk.image c.write_at.new.self) at ready.durable c.write_at.ensures.images in
     let behind = goes g.D.Disk.moment g.D.Disk.image g.D.Disk.image_since c.args.disk.now c.args.disk.now c.write_at.new.self P begun c.write_at.ensures.time (λ f now. inl (first f now)) in
     let kept = stays g.D.Disk.moment g.D.Disk.image g.D.Disk.image_since c.args.disk.now c.write_at.new.self c.sync.new.self P behind c.sync.ensures.time c.sync.ensures.images in
     let rest = drop (c.args.gate + 1 + length c.args.octets.now) disk in
@@ -85,10 +85,10 @@ returns-clause-any_moment g c = λ told list es is_batch stands.
     let ready = c.requires told in
     let disk = g.D.Disk.content c.args.disk.now in
     let o = opened disk c.args.gate list ready.settled stands in
-    let at : c.saturating_add.result ≡ c.args.gate + 1 = omega (arith, ready.settled.room, c.saturating_add.ensures) in
+    let at : c.saturating_add-behind.result ≡ c.args.gate + 1 = omega (arith, ready.settled.room, c.saturating_add-behind.ensures) in
     let P = Outcome list es in
     let begun = starts g.D.Disk.moment g.D.Disk.image g.D.Disk.image_since c.args.disk.now P (g.met.D.Disk.only_now c.args.disk.now) (λ f now. inl (subst (λ (z : List ℕ). StandsFor z list) (sym (ready.durable f now)) stands)) in
-    let first = first_image disk c.args.gate list o c.saturating_add.result (length c.args.octets.now) (g.D.Disk.image c.args.disk.now) (g.D.Disk.image c.write_at.new.self) at ready.durable c.write_at.ensures.images in
+    let first = first_image disk c.args.gate list o c.saturating_add-behind.result (length c.args.octets.now) (g.D.Disk.image c.args.disk.now) (g.D.Disk.image c.write_at.new.self) at ready.durable c.write_at.ensures.images in
     let behind = goes g.D.Disk.moment g.D.Disk.image g.D.Disk.image_since c.args.disk.now c.args.disk.now c.write_at.new.self P begun c.write_at.ensures.time (λ f now. inl (first f now)) in
     let kept = stays g.D.Disk.moment g.D.Disk.image g.D.Disk.image_since c.args.disk.now c.write_at.new.self c.sync.new.self P behind c.sync.ensures.time c.sync.ensures.images in
     let rest = drop (c.args.gate + 1 + length c.args.octets.now) disk in
@@ -104,7 +104,7 @@ returns-clause-stands g c = λ told list es is_batch stands.
     let ready = c.requires told in
     let disk = g.D.Disk.content c.args.disk.now in
     let o = opened disk c.args.gate list ready.settled stands in
-    let at : c.saturating_add.result ≡ c.args.gate + 1 = omega (arith, ready.settled.room, c.saturating_add.ensures) in
+    let at : c.saturating_add-behind.result ≡ c.args.gate + 1 = omega (arith, ready.settled.room, c.saturating_add-behind.ensures) in
     let rest = drop (c.args.gate + 1 + length c.args.octets.now) disk in
     let staged : g.D.Disk.content c.write_at.new.self ≡ o.front ++ o.shut ∷ (c.args.octets.now ++ rest) = first_done disk c.args.gate list o c.args.octets.now (g.D.Disk.content c.write_at.new.self) (subst (λ (n : ℕ). Written disk n c.args.octets.now (g.D.Disk.content c.write_at.new.self)) at (c.in_ok-write_at.ensures.written told)) in
     let done : g.D.Disk.content c.write_at-2.new.self ≡ o.front ++ 167 ∷ (c.args.octets.now ++ rest) = gate_done disk c.args.gate list o c.args.octets.now rest (g.D.Disk.content c.sync.new.self) (g.D.Disk.content c.write_at-2.new.self) (c.sync.ensures.same ∙ staged) (c.in_ok-write_at-2.ensures.written told) in
@@ -115,7 +115,7 @@ returns-clause-ready g c = λ told list es is_batch stands.
     let ready = c.requires told in
     let disk = g.D.Disk.content c.args.disk.now in
     let o = opened disk c.args.gate list ready.settled stands in
-    let at : c.saturating_add.result ≡ c.args.gate + 1 = omega (arith, ready.settled.room, c.saturating_add.ensures) in
+    let at : c.saturating_add-behind.result ≡ c.args.gate + 1 = omega (arith, ready.settled.room, c.saturating_add-behind.ensures) in
     let rest = drop (c.args.gate + 1 + length c.args.octets.now) disk in
     let staged : g.D.Disk.content c.write_at.new.self ≡ o.front ++ o.shut ∷ (c.args.octets.now ++ rest) = first_done disk c.args.gate list o c.args.octets.now (g.D.Disk.content c.write_at.new.self) (subst (λ (n : ℕ). Written disk n c.args.octets.now (g.D.Disk.content c.write_at.new.self)) at (c.in_ok-write_at.ensures.written told)) in
     let done : g.D.Disk.content c.write_at-2.new.self ≡ o.front ++ 167 ∷ (c.args.octets.now ++ rest) = gate_done disk c.args.gate list o c.args.octets.now rest (g.D.Disk.content c.sync.new.self) (g.D.Disk.content c.write_at-2.new.self) (c.sync.ensures.same ∙ staged) (c.in_ok-write_at-2.ensures.written told) in
