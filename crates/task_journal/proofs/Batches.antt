@@ -1,12 +1,8 @@
 -- Batches: their octets, and what is read of them behind an open gate.
-use Rattle.std.proofs.Common.{◌≡◌, ℕ, zero, suc, ◌+◌, ◌-◌, ◌<◌, ◌≤◌, ◌^◌, Bool, true, false, List, [], ◌∷◌, ◌++◌, length, take, drop, Result, Ok, Err, All, refl, sym, ap, subst, ◌∙◌, append_assoc, arith, length-append, length-drop, get_or}
-use Rattle.std.specs.Prelude.{◌==◌, nat_lt, if◌then◌else◌}
-use Rattle.std.specs.Int.{w32, from_be_bytes}
-use Rattle.std.proofs.lemmas.Bool.{le-ltb}
+use Rattle.std.proofs.Common.{◌≡◌, ℕ, suc, ◌+◌, ◌-◌, ◌<◌, ◌≤◌, List, [], ◌∷◌, ◌++◌, length, take, drop, Ok, All, refl, sym, ap, ◌∙◌, append_assoc, arith, length-append, get_or}
 use Rattle.std.proofs.lemmas.Grind.{flat_map-append}
 use Rattle.std.proofs.lemmas.List.Folds.{length-flat_map-take}
-use Rattle.std.proofs.lemmas.List.{take_at, drop_at, drop-append-le, take-append-le, append-nil, take_more}
-use Rattle.std.proofs.lemmas.Nat.{from_be_bytes-to_be_bytes_4}
+use Rattle.std.proofs.lemmas.List.{drop_at, append-nil, take_more}
 use Rattle.cluster_types.specs.declared.entry.Input.TheVariants as inputs
 use Rattle.cluster_types.specs.declared.entry.Entry.{Entry}
 use Rattle.cluster_types.specs.declared.entry.Entry.TheVariants.{Input, Hand, Settle, Lose}
@@ -16,13 +12,8 @@ use Rattle.record_codec.specs.Records.{spellings}
 use Rattle.record_codec.specs.Reading.{entry_at}
 use Rattle.record_codec.proofs.Again.{entry_again}
 use Rattle.record_codec.proofs.Lengths.{length-be32}
-use Rattle.task_journal.specs.declared.fault.OpenFault.{OpenFault}
-use Rattle.task_journal.specs.declared.found.Found.{Found}
-use Rattle.task_journal.specs.declared.gate.Gate.{Gate}
-use Rattle.task_journal.specs.declared.gate.Gate.TheVariants.{Missing, Closed, Short, Open}
-use Rattle.task_journal.specs.Batch.{batch_octets, IsBatch, entries_in, entry_before}
-use Rattle.task_journal.specs.Journal.{◌>>=◌, nothing, holding, behind, with_front, one, record_of, record_at, records_at, gate_in, from_gate, found_from, last_of}
-use Rattle.task_journal.proofs.Gates.{found_skip}
+use Rattle.task_journal.specs.Batch.{batch_octets, IsBatch, entries_in}
+use Rattle.task_journal.specs.Journal.{holding, record_at, records_at}
 
 all_tail : (e : Entry) (es : List Entry) → All HasRecord (e ∷ es) → All HasRecord es
 all_tail e es each k d lt = each (suc k) d (omega arith)

@@ -1,5 +1,5 @@
 -- Calls of a disk that change nothing, one after another.
-use Rattle.std.proofs.Common.{◌≡◌, ◌⊎◌, inl, inr, ⊎_elim, refl, ℕ, ◌+◌, ◌-◌, ◌^◌, ◌≤◌, min, List, sym, ◌∙◌, arith}
+use Rattle.std.proofs.Common.{◌≡◌, inl, inr, ⊎_elim, refl, ℕ, ◌≤◌, List, ◌∙◌, arith}
 use Rattle.disk_model.specs.Crashes.{NoMore, Elapses, Rose}
 use Rattle.task_journal.specs.Reads.{OnlyReads}
 

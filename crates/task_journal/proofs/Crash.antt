@@ -1,6 +1,6 @@
 -- What a crash leaves of a journal while a batch is appended.
-use Rattle.std.proofs.Common.{◌≡◌, ◌⊎◌, inl, inr, ℕ, zero, suc, ◌+◌, ◌-◌, ◌<◌, ◌≤◌, ◌^◌, max, Bool, true, false, List, [], ◌∷◌, ◌++◌, length, get_or, take, drop, Result, Ok, Err, Option, Some, None, refl, sym, ap, subst, ◌∙◌, append_assoc, arith, length-append, length-drop, take-append-drop}
-use Rattle.std.specs.Prelude.{◌==◌, nat_lt, if◌then◌else◌}
+use Rattle.std.proofs.Common.{◌≡◌, inl, inr, ℕ, ◌+◌, ◌-◌, ◌<◌, ◌≤◌, ◌^◌, Bool, true, false, List, [], ◌∷◌, ◌++◌, length, get_or, take, drop, Result, Ok, Err, Option, Some, None, refl, sym, ap, subst, ◌∙◌, append_assoc, arith, length-append, take-append-drop}
+use Rattle.std.specs.Prelude.{◌==◌, nat_lt}
 use Rattle.std.specs.Int.{w32, from_be_bytes}
 use Rattle.std.proofs.lemmas.Bool.{le-ltb, eqb-true, cases_lt}
 use Rattle.std.proofs.lemmas.List.{take_at, drop_at, drop_more, drop-drop, take-append-le, append-nil}
@@ -12,14 +12,13 @@ use Rattle.record_codec.proofs.Lengths.{length-be32}
 use Rattle.disk_model.specs.Crashes.{Torn, Written, Follows, Only}
 use Rattle.task_journal.specs.declared.fault.OpenFault.{OpenFault}
 use Rattle.task_journal.specs.declared.found.Found.{Found}
-use Rattle.task_journal.specs.declared.gate.Gate.{Gate}
 use Rattle.task_journal.specs.declared.gate.Gate.TheVariants.{Open}
 use Rattle.task_journal.specs.Batch.{batch_octets, IsBatch}
-use Rattle.task_journal.specs.Journal.{◌>>=◌, holding, records_at, gate_in, from_gate, found_from, head, difference, headed, journal, StandsFor, last_of, place_in}
+use Rattle.task_journal.specs.Journal.{holding, records_at, gate_in, found_from, head, difference, headed, journal, StandsFor, last_of, place_in}
 use Rattle.task_journal.specs.Settled.{IsSettled, Outcome}
 use Rattle.task_journal.proofs.Loops.{difference_take, last_push}
 use Rattle.task_journal.proofs.Gates.{found_skip}
-use Rattle.task_journal.proofs.On.{On, on_found, journal_short, journal_headed}
+use Rattle.task_journal.proofs.On.{on_found, journal_short, journal_headed}
 use Rattle.task_journal.proofs.Batches.{records_again, count_fits, behind_nine, length-batch}
 
 -- ---- gates

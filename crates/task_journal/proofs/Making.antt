@@ -1,13 +1,12 @@
 -- What a crash leaves while an empty journal is made.
-use Rattle.std.proofs.Common.{◌≡◌, ◌⊎◌, inl, inr, ℕ, zero, suc, ◌+◌, ◌-◌, ◌<◌, ◌≤◌, ◌^◌, max, List, [], ◌∷◌, ◌++◌, length, get_or, take, drop, Result, Ok, Err, Option, Some, None, refl, sym, ap, subst, ◌∙◌, append_assoc, arith, length-append, length-drop, take-append-drop}
-use Rattle.std.specs.Prelude.{◌==◌}
+use Rattle.std.proofs.Common.{◌≡◌, inl, inr, ℕ, ◌+◌, ◌<◌, List, [], ◌∷◌, ◌++◌, length, get_or, take, drop, Result, Ok, Err, refl, sym, ap, subst, ◌∙◌, arith, take-append-drop}
 use Rattle.std.proofs.lemmas.Bool.{cases_lt}
-use Rattle.std.proofs.lemmas.List.{take_at, drop_at, drop_all, drop_more, append-nil}
+use Rattle.std.proofs.lemmas.List.{drop_all, drop_more, append-nil}
 use Rattle.cluster_types.specs.declared.entry.Entry.{Entry}
 use Rattle.disk_model.specs.Crashes.{Torn, Written, Follows, Only}
 use Rattle.task_journal.specs.declared.fault.OpenFault.{OpenFault}
 use Rattle.task_journal.specs.declared.found.Found.{Found}
-use Rattle.task_journal.specs.Journal.{holding, found_from, head, difference, journal, StandsFor, IsSame, entries_of, place_in}
+use Rattle.task_journal.specs.Journal.{holding, found_from, head, journal, StandsFor, IsSame, entries_of, place_in}
 use Rattle.task_journal.specs.Settled.{IsSettled}
 use Rattle.task_journal.proofs.On.{journal_short, journal_headed}
 

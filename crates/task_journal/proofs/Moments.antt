@@ -1,5 +1,5 @@
 -- How a run of calls goes on: what a crash may leave at each moment of it.
-use Rattle.std.proofs.Common.{inl, inr, ⊎_elim, ◌≤◌, ℕ, List, arith}
+use Rattle.std.proofs.Common.{inl, inr, ⊎_elim, ℕ, List, arith}
 use Rattle.disk_model.specs.Crashes.{NoMore, Elapses, LeavesOnly}
 use Rattle.task_journal.specs.Reads.{OnlyReads}
 

@@ -1,27 +1,19 @@
 -- How reading goes on: what stands before a closed gate is read alike, whatever stands there and behind it.
-use Rattle.std.proofs.Common.{◌≡◌, ℕ, zero, suc, ◌+◌, ◌-◌, ◌<◌, ◌≤◌, ◌^◌, Bool, true, false, cond, List, [], ◌∷◌, ◌++◌, length, take, drop, Result, Ok, Err, Option, Some, None, All, refl, sym, ap, subst, ◌∙◌, append_assoc, arith, length-append, length-drop}
+use Rattle.std.proofs.Common.{◌≡◌, ℕ, zero, suc, ◌+◌, ◌-◌, ◌<◌, ◌≤◌, Bool, true, false, List, [], ◌∷◌, ◌++◌, length, take, drop, Result, Ok, Err, Some, None, refl, sym, ap, subst, ◌∙◌, append_assoc, arith, length-drop}
 use Rattle.std.specs.Prelude.{◌==◌, nat_lt, if◌then◌else◌}
 use Rattle.std.specs.Int.{w32, from_be_bytes}
-use Rattle.std.proofs.lemmas.Bool.{le-ltb, lt-ltb, ltb-false}
-use Rattle.std.proofs.lemmas.List.{take-append-le, drop-append-le, take_at, drop_at, append-nil}
-use Rattle.std.proofs.lemmas.Nat.{from_be_bytes-to_be_bytes_4}
+use Rattle.std.proofs.lemmas.Bool.{le-ltb, lt-ltb}
+use Rattle.std.proofs.lemmas.List.{take-append-le, drop-append-le}
 use Rattle.cluster_types.specs.declared.entry.Entry.{Entry}
-use Rattle.octet_fields.specs.Spelling.{be32}
-use Rattle.record_codec.specs.Spelling.{spelling, HasRecord}
-use Rattle.record_codec.specs.Records.{spellings}
 use Rattle.record_codec.specs.Reading.{entry_at}
-use Rattle.record_codec.proofs.Again.{entry_again}
-use Rattle.record_codec.proofs.Lengths.{length-be32}
 use Rattle.task_journal.specs.declared.fault.OpenFault.{OpenFault}
 use Rattle.task_journal.specs.declared.fault.OpenFault.TheVariants.{NotAJournal, Damaged, DiskFault, OutOfMemory}
 use Rattle.task_journal.specs.declared.found.Found.{Found}
 use Rattle.task_journal.specs.declared.gate.Gate.{Gate}
 use Rattle.task_journal.specs.declared.gate.Gate.TheVariants.{Missing, Closed, Short, Open}
-use Rattle.task_journal.specs.Batch.{batch_octets, IsBatch}
-use Rattle.task_journal.specs.Journal.{◌>>=◌, nothing, holding, behind, with_front, one, record_of, record_at, records_at, gate_in, from_gate, found_from, head, difference, headed, journal, last_of, Fails}
+use Rattle.task_journal.specs.Journal.{◌>>=◌, nothing, holding, behind, with_front, one, record_of, record_at, records_at, gate_in, from_gate, found_from, head, difference, journal, last_of, Fails}
 use Rattle.task_journal.specs.Window.{HasHead}
-use Rattle.task_journal.proofs.Loops.{behind_behind, difference_take}
-use Rattle.task_journal.proofs.Gates.{found_skip, gate_front, open_long}
+use Rattle.task_journal.proofs.Gates.{gate_front}
 
 bind_ok : {A B : Type 0} (r : Result A OpenFault) (f : A → Result B OpenFault) (y : B) → (r >>= f) ≡ Ok y → (x : A) × (r ≡ Ok x) × (f x ≡ Ok y)
 bind_ok (Ok x) f y e = (x, refl, e)

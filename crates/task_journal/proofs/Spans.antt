@@ -1,15 +1,14 @@
 -- Octets of a disk between two places, and the record at their front.
-use Rattle.std.proofs.Common.{◌≡◌, ℕ, ◌+◌, ◌-◌, ◌<◌, ◌≤◌, min, List, [], ◌∷◌, ◌++◌, length, take, drop, Result, Ok, Err, refl, sym, ap, subst, ◌∙◌, append_assoc, arith, length-append, length-drop}
+use Rattle.std.proofs.Common.{◌≡◌, ℕ, ◌+◌, ◌-◌, ◌<◌, ◌≤◌, List, [], ◌++◌, length, take, drop, Result, Ok, Err, refl, sym, ap, ◌∙◌, arith, length-append, length-drop}
 use Rattle.std.proofs.lemmas.List.{length-take, drop-drop, drop_all, drop-append-le}
 use Rattle.std.proofs.Math.Seq.{take-add}
 use Rattle.cluster_types.specs.declared.entry.Entry.{Entry}
-use Rattle.octet_fields.specs.declared.stop.Stop.{Stop}
 use Rattle.octet_fields.specs.declared.stop.Stop.TheVariants.{Short, Bad}
 use Rattle.record_codec.specs.Reading.{entry_at}
 use Rattle.record_codec.proofs.Extends.{entries as entry_extends}
 use Rattle.task_journal.specs.declared.fault.OpenFault.{OpenFault}
 use Rattle.task_journal.specs.declared.fault.OpenFault.TheVariants.{Damaged, DiskFault, OutOfMemory}
-use Rattle.task_journal.specs.Journal.{record_of, record_at, Fails, IsOfDisk}
+use Rattle.task_journal.specs.Journal.{record_at, Fails, IsOfDisk}
 use Rattle.task_journal.specs.Window.{Ready, Shows, span}
 
 pub fails_any : {Y : Type 0} (e : OpenFault) (read : Result Y OpenFault) → IsOfDisk e → Fails e read

@@ -1,9 +1,9 @@
-use Rattle.std.proofs.Common.{◌≡◌, ◌≤◌, ◌+◌, ◌++◌, ◌∷◌, [], inl, length, drop, take, sym, ap, subst, ◌∙◌, arith, ℕ, List, length-append}
+use Rattle.std.proofs.Common.{◌≡◌, ◌+◌, ◌++◌, ◌∷◌, inl, length, drop, take, sym, ap, subst, ◌∙◌, arith, ℕ, List, length-append}
 use Rattle.std.proofs.lemmas.List.{length-take}
 use Rattle.disk_model.specs.Crashes.{Written, Only}
 use Rattle.task_journal.specs.Journal.{StandsFor}
-use Rattle.task_journal.specs.Settled.{IsReady, Outcome}
-use Rattle.task_journal.proofs.Moments.{Going, starts, goes, stays}
+use Rattle.task_journal.specs.Settled.{Outcome}
+use Rattle.task_journal.proofs.Moments.{starts, goes, stays}
 use Rattle.task_journal.proofs.Crash.{opened, gate_inside, first_image, gate_image, first_done, gate_done, stands_after, settled_after}
 use Rattle.task_journal.proofs.journal.append_at.Goals as goal
 

@@ -1,7 +1,6 @@
-use Rattle.std.proofs.Common.{◌≡◌, ◌<◌, ◌++◌, ◌∷◌, [], length, sym, ap, subst, ◌∙◌, ℕ, List}
+use Rattle.std.proofs.Common.{◌≡◌, ◌<◌, ◌++◌, ◌∷◌, [], length, sym, subst, ◌∙◌, ℕ, List}
 use Rattle.disk_model.specs.Crashes.{Written, Only}
 use Rattle.task_journal.specs.Journal.{StandsFor}
-use Rattle.task_journal.specs.Settled.{IsReady}
 use Rattle.task_journal.proofs.Moments.{starts, goes, stays}
 use Rattle.task_journal.proofs.Making.{made, short_stands, head_image, head_done, pad_image, pad_done, made_settled, made_empty}
 use Rattle.task_journal.proofs.opening.make.Goals as goal

@@ -1,4 +1,4 @@
-use Rattle.std.proofs.Common.{◌≡◌, ◌<◌, inl, inr, [], length, sym, ap, subst, ◌∙◌, arith, ℕ, List}
+use Rattle.std.proofs.Common.{◌<◌, inl, inr, [], length, sym, subst, ◌∙◌, arith, ℕ, List}
 use Rattle.task_journal.specs.Journal.{StandsFor}
 use Rattle.task_journal.specs.Settled.{IsSettled, Unharmed}
 use Rattle.task_journal.proofs.Moments.{starts, stays, reads, joined}

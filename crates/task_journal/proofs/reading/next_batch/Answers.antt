@@ -1,8 +1,7 @@
-use Rattle.std.proofs.Common.{◌≡◌, ◌+◌, ◌-◌, ◌<◌, ◌≤◌, min, length, take, drop, refl, sym, ap, subst, ◌∙◌, arith, ℕ, List, Ok, Err}
+use Rattle.std.proofs.Common.{◌≡◌, ◌+◌, min, drop, refl, sym, ap, ◌∙◌, arith, ℕ, List}
 use Rattle.std.proofs.lemmas.Result.{err_from_is_err_and}
-use Rattle.task_journal.specs.declared.found.Found.{Found}
 use Rattle.task_journal.specs.declared.gate.Gate.TheVariants.{Open}
-use Rattle.task_journal.specs.Window.{Shows, span}
+use Rattle.task_journal.specs.Window.{span}
 use Rattle.task_journal.specs.Journal.{with_front, records_at, gate_in, found_from}
 use Rattle.task_journal.proofs.Loops.{joined, fails_more}
 use Rattle.task_journal.proofs.Gates.{step_past, step_closed, step_short, step_open, open_fits, gate_read, drop_saturated}

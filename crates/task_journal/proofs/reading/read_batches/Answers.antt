@@ -1,5 +1,5 @@
-use Rattle.std.proofs.Common.{◌≡◌, sym, ap, ◌∙◌, drop, refl}
-use Rattle.task_journal.specs.Journal.{with_front, found_from, last_of}
+use Rattle.std.proofs.Common.{sym, ◌∙◌, drop}
+use Rattle.task_journal.specs.Journal.{found_from}
 use Rattle.task_journal.proofs.Calls.{none_reads}
 use Rattle.task_journal.proofs.Loops.{none_before, last_push}
 use Rattle.task_journal.proofs.Gates.{found_skip}

@@ -1,4 +1,4 @@
-use Rattle.std.proofs.Common.{◌≡◌, ◌≤◌, length, sym, ap, subst, ◌∙◌, arith, ℕ, List, Err}
+use Rattle.std.proofs.Common.{length, sym, subst, ◌∙◌, arith, ℕ, List, Err}
 use Rattle.std.proofs.lemmas.Result.{err_from_is_err_and}
 use Rattle.task_journal.specs.Journal.{journal, found_from}
 use Rattle.task_journal.specs.Window.{HasHead}

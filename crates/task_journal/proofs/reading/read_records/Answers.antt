@@ -1,7 +1,7 @@
-use Rattle.std.proofs.Common.{◌≡◌, ◌+◌, ◌-◌, ◌<◌, ◌≤◌, length, sym, ap, subst, ◌∙◌, arith, ℕ, List}
+use Rattle.std.proofs.Common.{◌≡◌, ◌<◌, length, sym, ◌∙◌, arith}
 use Rattle.std.proofs.lemmas.Result.{err_from_is_err_and}
-use Rattle.task_journal.specs.Window.{Shows, span}
-use Rattle.task_journal.specs.Journal.{with_front, record_at, records_at}
+use Rattle.task_journal.specs.Window.{span}
+use Rattle.task_journal.specs.Journal.{with_front, records_at}
 use Rattle.task_journal.proofs.Calls.{reads_joined}
 use Rattle.task_journal.proofs.Loops.{record_on, record_ends, records_none, records_more}
 use Rattle.task_journal.proofs.Spans.{place_is, length-span}

@@ -1,4 +1,4 @@
-use Rattle.std.proofs.Common.{◌++◌, ◌∷◌, [], length, arith, length-append}
+use Rattle.std.proofs.Common.{◌++◌, ◌∷◌, [], arith, length-append}
 use Rattle.cluster_types.specs.declared.config.Scheme.TheVariants.{LeastLoad}
 use Rattle.cluster_types.specs.declared.entry.Entry.{Entry}
 use Rattle.cluster_types.specs.declared.entry.Entry.TheVariants.{Input}

@@ -1,6 +1,5 @@
-use Rattle.std.proofs.Common.{◌≡◌, ◌-◌, ◌++◌, ℕ, List, length, drop, Ok, sym, ap, ◌∙◌, arith, length-append}
+use Rattle.std.proofs.Common.{◌≡◌, length, drop, ap, ◌∙◌, arith, length-append}
 use Rattle.std.proofs.lemmas.List.{drop_at}
-use Rattle.record_codec.specs.Reading.{entry_at}
 use Rattle.record_codec.proofs.Takes.{entry_takes}
 use Rattle.task_journal.proofs.window.front_record.Goals as goal
 

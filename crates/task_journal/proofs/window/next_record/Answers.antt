@@ -1,8 +1,5 @@
-use Rattle.std.proofs.Common.{◌≡◌, ◌+◌, ◌-◌, ◌<◌, ◌≤◌, ◌^◌, length, sym, ap, subst, ◌∙◌, arith, ℕ}
+use Rattle.std.proofs.Common.{◌+◌, ◌-◌, ◌<◌, ◌≤◌, length, ap, ◌∙◌, arith}
 use Rattle.std.proofs.lemmas.Result.{err_from_is_err_and}
-use Rattle.task_journal.specs.Window.{Shows, span}
-use Rattle.task_journal.specs.Reads.{OnlyReads}
-use Rattle.task_journal.specs.Journal.{record_at}
 use Rattle.task_journal.proofs.Calls.{reads_joined}
 use Rattle.task_journal.proofs.Spans.{fails_any, taken_shows, record_found, record_bad, record_short, more_shows}
 use Rattle.task_journal.proofs.window.next_record.Goals as goal

@@ -1,6 +1,6 @@
-use Rattle.std.proofs.Common.{◌≡◌, List, subst, sym, ap, ◌∙◌, arith, drop, length}
+use Rattle.std.proofs.Common.{List, subst, sym, arith}
 use Rattle.cluster_types.specs.declared.entry.Entry.{Entry}
-use Rattle.task_journal.specs.Batch.{IsBatch, entries_in}
+use Rattle.task_journal.specs.Batch.{IsBatch}
 use Rattle.task_journal.proofs.Batches.{count_fits, view_is}
 use Rattle.task_journal.proofs.batch.Batch.new.Goals as goal
 
