@@ -1,0 +1,9 @@
+pub mod Calls
+pub mod Spans
+pub mod Loops
+pub mod Gates
+pub mod On
+pub mod Batches
+pub mod Moments
+pub mod Crash
+pub mod Making

@@ -1,0 +1,12 @@
+use Rattle.std.proofs.Common.{◌≡◌, ◌-◌}
+use Rattle.task_journal.specs.Journal.{with_front, records_at}
+use Rattle.task_journal.specs.Reads.{OnlyReads}
+use Rattle.task_journal.specs.Window.{Shows, span}
+use Rattle.task_journal.proofs.reading.read_records.Given as goal
+
+abbrev pub invariant-loop : goal.invariant-loop
+invariant-loop g l = record {
+  shows : g.D.Disk.tells → Shows l.window l.end (g.D.Disk.content l.fn.disk);
+  found : g.D.Disk.tells → with_front l.found (records_at (l.count - l.counter) l.end (span l.window.place l.end (g.D.Disk.content l.fn.disk))) ≡ with_front l.fn.found (records_at l.count l.end (span l.fn.window.place l.end (g.D.Disk.content l.fn.disk)));
+  reads : OnlyReads g.D.Disk.content g.D.Disk.image g.D.Disk.moment g.D.Disk.image_since g.D.Disk.faults l.fn.disk l.disk;
+}

@@ -1,0 +1,5 @@
+pub mod Journal
+pub mod Reads
+pub mod Window
+pub mod Batch
+pub mod Settled

@@ -1,0 +1,38 @@
+-- A journal on a disk: where it goes on, and what a crash may leave of it.
+use Rattle.std.specs.Prelude.{◌≡◌, ◌⊎◌, ℕ, ◌+◌, ◌^◌, ◌<◌, ◌≤◌, List, ◌++◌, length, Bool, Some}
+use Rattle.cluster_types.specs.declared.entry.Entry.{Entry}
+use Rattle.disk_model.specs.Crashes.{Only}
+use Rattle.task_journal.specs.declared.fault.OpenFault.{OpenFault}
+use Rattle.task_journal.specs.declared.fault.OpenFault.TheVariants.{NotAJournal, Damaged, DiskFault, OutOfMemory}
+use Rattle.task_journal.specs.Journal.{StandsFor, IsSame, place_in, journal}
+
+-- the disk of a journal, and whether a call of it has failed
+pub record Held (D : Type 0) : Type 0 where
+  pub disk : D
+  pub failed : Bool
+
+-- the disk has a head, and this is its first closed gate
+pub record IsSettled (octets : List ℕ) (gate : ℕ) : Type 0 where
+  pub long : 33 ≤ length octets
+  pub place : place_in (journal octets) ≡ Some gate
+  pub room : gate + 1 < 2 ^ 64
+
+-- so it is, and a crash leaves nothing else
+pub record IsReady {D : Type 0} (content : D → List ℕ) (image : D → List ℕ → Type 0) (disk : D) (gate : ℕ) : Type 0 where
+  pub settled : IsSettled (content disk) gate
+  pub durable : Only (content disk) (image disk)
+
+-- the disk stands for these entries, or for these and a whole batch behind them
+abbrev pub Outcome : List Entry → List Entry → List ℕ → Type 0
+Outcome entries batch octets = StandsFor octets entries ⊎ StandsFor octets (entries ++ batch)
+
+-- the disk is as it may have been before, or stands for the same as it did when it was read
+abbrev pub Unharmed : (List ℕ → Type 0) → List ℕ → List ℕ → Type 0
+Unharmed image content octets = image octets ⊎ IsSame octets content
+
+-- a fact where the octets themselves are refused
+abbrev pub OnRefusal : OpenFault → Type 0 → Type 0
+OnRefusal (NotAJournal place) P = P
+OnRefusal (Damaged place) P = P
+OnRefusal DiskFault P = Unit {0}
+OnRefusal OutOfMemory P = Unit {0}

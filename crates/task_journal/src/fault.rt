@@ -1,0 +1,45 @@
+//! Why a journal isn't opened, and why no batch is appended.
+
+use disk_model::disk::Failed;
+use std::alloc::AllocError;
+
+/// Why a journal isn't read or opened.
+#[derive(Clone, Copy, Debug, PartialEq, Eq)]
+pub enum OpenFault {
+    /// The head differs from a journal's, first at this place.
+    NotAJournal(u64),
+    /// A gate, a batch or a record isn't whole, first at this place.
+    Damaged(u64),
+    DiskFault,
+    OutOfMemory,
+}
+
+impl From<AllocError> for OpenFault {
+    ghost use Rattle.std.specs.Prelude.{◌≡◌};
+    ghost use Rattle.task_journal.specs.declared.fault.OpenFault.{OpenFault};
+
+    ghost from_gives = { λ _ e. e ≡ OpenFault.OutOfMemory };
+
+    fn from(_: AllocError) -> Self {
+        OpenFault::OutOfMemory
+    }
+}
+
+impl From<Failed> for OpenFault {
+    ghost use Rattle.std.specs.Prelude.{◌≡◌};
+    ghost use Rattle.task_journal.specs.declared.fault.OpenFault.{OpenFault};
+
+    ghost from_gives = { λ _ e. e ≡ OpenFault.DiskFault };
+
+    fn from(_: Failed) -> Self {
+        OpenFault::DiskFault
+    }
+}
+
+/// Why a batch isn't appended.
+#[derive(Clone, Copy, Debug, PartialEq, Eq)]
+pub enum AppendFault {
+    DiskFault,
+    /// A call of the disk failed earlier: the journal is to be opened again.
+    Reopen,
+}

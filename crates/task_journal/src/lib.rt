@@ -1,0 +1,14 @@
+//! The journal of a cluster: its entries on a disk, in batches behind gates.
+#![tactic(auto)]
+
+pub mod batch;
+mod disk_calls;
+pub mod fault;
+pub mod found;
+pub mod gate;
+pub mod journal;
+pub mod opening;
+pub mod reading;
+#[cfg(test)]
+mod tests;
+mod window;

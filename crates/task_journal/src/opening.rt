@@ -1,0 +1,90 @@
+//! Opening a journal.
+
+ghost use Rattle.std.specs.Prelude.{◌≡◌, ◌≤◌, ◌<◌, ◌⊎◌, List, ℕ, [], length, false, Ok, Err, IfOk, IfErr, OnOk, IsErr, IsErrOf};
+ghost use Rattle.cluster_types.specs.declared.entry.Entry.{Entry as EntryType};
+ghost use Rattle.disk_model.specs.Crashes.{Rose, Only, NoMore, LeavesOnly};
+ghost use Rattle.task_journal.specs.Journal.{StandsFor, Gives, Fails, IsSame, holding, journal};
+ghost use Rattle.task_journal.specs.Settled.{IsReady, Unharmed, OnRefusal};
+
+use crate::fault::OpenFault;
+use crate::found::{Found, Places};
+use crate::journal::Journal;
+use crate::reading::read_found;
+use cluster_types::entry::Entries;
+use disk_model::disk::{Disk, Failed};
+use std::alloc::Global;
+
+/// A disk on which no journal was opened, and why.
+#[derive(Drop)]
+pub struct Refused<D: Disk> {
+    pub disk: D,
+    pub why: OpenFault,
+}
+
+/// Makes an empty journal: a head with a closed gate, and behind it a pad once the gate is on the disk.
+fn make<D: Disk>(disk: &mut D) -> Result<(), Failed>
+    requires short { D.tells → length (D.content disk.old) < 33 }
+    requires durable { D.tells → Only (D.content disk.old) (D.image disk.old) }
+    ensures ready { D.tells → OnOk result (IsReady D.content D.image disk.new 31) }
+    ensures empty { D.tells → OnOk result (StandsFor (D.content disk.new) []) }
+    ensures any_moment { D.tells → LeavesOnly D.moment D.image_since disk.old disk.new (λ c. StandsFor c []) }
+    ensures later { D.faults disk.old ≤ D.faults disk.new }
+    ensures cause { IsErr result → Rose (D.faults disk.old) (D.faults disk.new) }
+{
+    let head =
+        b"IPCJRNL1\x00\x00\x00\x01\x00\x00\x00\x00\x00\x00\x00\x00\x00\x00\x00\x00\x00\x00\x00\x00\x00\x00\x00\x00";
+    disk.write_at(0, head)?;
+    disk.sync()?;
+    disk.write_at(32, &[0])?;
+    disk.sync()?;
+    Ok(())
+}
+
+/// Reads a journal, and makes its head where it has none. What was read is what the disk held before.
+fn prepare<D: Disk>(alloc: Global, disk: &mut D) -> Result<(Found, u64), OpenFault>
+    ensures value { D.tells → Gives (λ x. x.0) result (journal (D.content disk.old)) }
+    ensures ready { D.tells → IfOk result (λ x. IsReady D.content D.image disk.new x.1) }
+    ensures same { D.tells → OnOk result (IsSame (D.content disk.new) (D.content disk.old)) }
+    ensures any_moment { D.tells → LeavesOnly D.moment D.image_since disk.old disk.new (Unharmed (D.image disk.old) (D.content disk.old)) }
+    ensures untouched { IfErr result (λ e. OnRefusal e (NoMore (D.image disk.old) (D.image disk.new))) }
+    ensures later { D.faults disk.old ≤ D.faults disk.new }
+    ensures cause { IsErrOf result OpenFault.DiskFault → Rose (D.faults disk.old) (D.faults disk.new) }
+{
+    disk.sync()?;
+    let (found, gate) = read_found(alloc, disk)?;
+    if gate == 0 {
+        make(disk)?;
+        return Ok((found, 31));
+    }
+    Ok((found, gate))
+}
+
+impl<D: Disk> Journal<D> {
+    /// Opens the journal of a disk, and makes its head where the disk has fewer than 33 octets. It gives the entries in
+    /// order, and the offsets of their records with that of the first closed gate behind them, or 0 where the head was
+    /// made. A refusal hands the disk back: it is untouched where it holds no journal or a damaged one.
+    pub fn open(alloc: Global, disk: D) -> Result<(Journal<D>, Entries, Places), Refused<D>>
+        ensures found { D.tells → IfOk result (λ x. journal (D.content disk) ≡ Ok (holding x.1 x.2)) }
+        // From now on the disk stands for these entries, and so does all that a crash leaves.
+        ensures stands { D.tells → IfOk result (λ x. StandsFor (D.content x.0.disk) x.1) }
+        ensures durable { D.tells → IfOk result (λ x. Only (D.content x.0.disk) (D.image x.0.disk)) }
+        ensures open { IfOk result (λ x. x.0.failed ≡ false) }
+        ensures refused { D.tells → IfErr result (λ r. Fails r.why (journal (D.content disk))) }
+        ensures untouched { IfErr result (λ r. OnRefusal r.why (NoMore (D.image disk) (D.image r.disk))) }
+        // A crash at any moment of the call leaves what it might have left before, or what stands for the same entries.
+        ensures any_moment { D.tells → IfOk result (λ x. LeavesOnly D.moment D.image_since disk x.0.disk (Unharmed (D.image disk) (D.content disk))) }
+        ensures any_moment_err { D.tells → IfErr result (λ r. LeavesOnly D.moment D.image_since disk r.disk (Unharmed (D.image disk) (D.content disk))) }
+        ensures later { IfOk result (λ x. D.faults disk ≤ D.faults x.0.disk) }
+        ensures later_err { IfErr result (λ r. D.faults disk ≤ D.faults r.disk) }
+        ensures cause { IfErr result (λ r. r.why ≡ OpenFault.DiskFault → Rose (D.faults disk) (D.faults r.disk)) }
+    {
+        let mut disk = disk;
+        match prepare(alloc, &mut disk) {
+            Ok((found, gate)) => {
+                let Found { entries, places } = found;
+                Ok((Journal::at(disk, gate), entries, places))
+            }
+            Err(why) => Err(Refused { disk, why }),
+        }
+    }
+}
