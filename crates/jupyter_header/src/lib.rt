@@ -12,4 +12,6 @@ mod object;
 mod points;
 pub mod reply;
 pub mod submit;
+#[cfg(test)]
+mod tests;
 pub mod write;
