@@ -1,11 +1,13 @@
 //! The readers over worked texts.
 
+use crate::contents::{error_content, outcome_content};
 use crate::header::read_header;
 use crate::hub::{read_content, read_hub};
 use crate::kinds::{reply_type, request_of};
 use crate::reply::read_reply;
 use crate::submit::read_submit;
 use crate::write::{made_header, resubmit_header};
+use cluster_types::sequence::Sequence;
 use cluster_types::text::Text;
 use message_defs::content::HubContent;
 use message_defs::fault::ReadError;
@@ -300,6 +302,25 @@ fn writes_headers(rt: HostRuntime) -> Result<(), Fail> {
     assert_eq!(rt;
         again.as_slice(),
         "{\"msg_id\":\"resubmit:2\",\"session\":\"a\\\"\\n\\u0001\u{e9}\",\"username\":\"a\\\"\\n\\u0001\u{e9}\",\"date\":\"2023-11-14T22:13:20.000Z\",\"msg_type\":\"queue_request\",\"version\":\"5.3\"}".as_bytes()
+    );
+    Ok(())
+}
+
+#[test]
+fn writes_contents(rt: HostRuntime) -> Result<(), Fail> {
+    let alloc = rt.alloc();
+    let mut ids = Sequence::new(alloc);
+    ids.push(Text::new(alloc, "b")?)?;
+    ids.push(Text::new(alloc, "c\"")?)?;
+    let refusal = error_content(alloc, "Inflight", "", &ids)?;
+    assert_eq!(rt;
+        refusal.as_slice(),
+        b"{\"status\":\"error\",\"ename\":\"Inflight\",\"evalue\":\"\",\"traceback\":[],\"ids\":[\"b\",\"c\\\"\"]}".as_slice()
+    );
+    let outcome = outcome_content(alloc, "TaskTimeout", "the task waited past its timeout")?;
+    assert_eq!(rt;
+        outcome.as_slice(),
+        b"{\"status\":\"error\",\"ename\":\"TaskTimeout\",\"evalue\":\"the task waited past its timeout\",\"traceback\":[]}".as_slice()
     );
     Ok(())
 }
