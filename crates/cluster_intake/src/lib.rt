@@ -12,6 +12,8 @@ ghost use Rattle.message_defs.specs.Reply.{read_reply};
 ghost use Rattle.message_defs.specs.Submit.{read_submit};
 
 pub mod fault;
+#[cfg(test)]
+mod tests;
 
 use cluster_types::config::Channel;
 use cluster_types::event::{Event, Query, Reason, Submission};

@@ -1,5 +1,5 @@
 -- Steps of a walk that takes fractions of timeouts off.
-use Rattle.std.proofs.Common.{◌≡◌, ◌<◌, ◌≤◌, ◌+◌, ◌&&◌, ℕ, List, [], ◌∷◌, ◌++◌, length, take, drop, get_or, true, false, true≢false, arith, refl, sym, ◌∙◌, ap, append_assoc, take-add, drop-drop, length-drop}
+use Rattle.std.proofs.Common.{◌≡◌, ◌<◌, ◌≤◌, ◌+◌, ◌&&◌, ℕ, List, [], ◌∷◌, ◌++◌, length, take, drop, get_or, true, false, true≢false, arith, refl, sym, ◌∙◌, take-add, drop-drop, length-drop}
 use Rattle.std.proofs.lemmas.List.{drop_more, take_more}
 use Rattle.message_defs.specs.Points.{begins_with_fraction, ends_in_timeout, whole_behind}
 

@@ -3,6 +3,7 @@
 //! Each reader reads its text once, and answers the first fault in the order of the fields.
 #![tactic(auto)]
 
+pub mod contents;
 mod fields;
 pub mod header;
 pub mod hub;
@@ -12,4 +13,6 @@ mod object;
 mod points;
 pub mod reply;
 pub mod submit;
+#[cfg(test)]
+mod tests;
 pub mod write;

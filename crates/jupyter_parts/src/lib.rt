@@ -5,4 +5,6 @@
 pub mod fault;
 pub mod laws;
 pub mod read;
+#[cfg(test)]
+mod tests;
 pub mod write;
