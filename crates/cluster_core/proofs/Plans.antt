@@ -38,9 +38,9 @@ allowed_at xs i e lt is legal =
     let parts : xs ≡ take (i + 1) xs ++ drop (i + 1) xs = sym (take-append-drop (i + 1) xs) in
     let front : take (i + 1) xs ≡ take i xs ++ e ∷ [] = take_more xs i e lt ∙ ap (λ (x : Entry). take i xs ++ x ∷ []) (sym is) in
     let turned : reverse xs ≡ reverse (drop (i + 1) xs) ++ e ∷ reverse (take i xs) =
-        ap reverse parts ∙ reverse-append (take (i + 1) xs) (drop (i + 1) xs)
-        ∙ ap (λ (ys : List Entry). reverse (drop (i + 1) xs) ++ reverse ys) front
-        ∙ ap (λ (ys : List Entry). reverse (drop (i + 1) xs) ++ ys) (reverse-append (take i xs) (e ∷ [])) in
+    ap reverse parts ∙ reverse-append (take (i + 1) xs) (drop (i + 1) xs)
+    ∙ ap (λ (ys : List Entry). reverse (drop (i + 1) xs) ++ reverse ys) front
+    ∙ ap (λ (ys : List Entry). reverse (drop (i + 1) xs) ++ ys) (reverse-append (take i xs) (e ∷ [])) in
     let here : Legal (e ∷ reverse (take i xs)) = below (reverse (drop (i + 1) xs)) (e ∷ reverse (take i xs)) (subst Legal turned legal) in
     here.0
 

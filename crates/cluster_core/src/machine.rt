@@ -216,11 +216,7 @@ impl Core {
 }
 
 /// What is known after a history: what is kept of it, or what its entries say.
-fn known_state(
-    alloc: Global,
-    cached: Option<State>,
-    entries: &[Entry],
-) -> Result<State, AllocError>
+fn known_state(alloc: Global, cached: Option<State>, entries: &[Entry]) -> Result<State, AllocError>
     requires legal { Legal (reverse entries.now) }
     requires cached { ForSome cached (λ s. s ≡ facts (reverse entries.now)) }
     ensures { IfOk result (λ s. s ≡ facts (reverse entries.now)) }

@@ -114,7 +114,11 @@ pub fn outcome_to(
 {
     match task {
         Some(task) => {
-            let outs = passed(alloc, owner_conn(connections, task), reply_of(&task.attempt))?;
+            let outs = passed(
+                alloc,
+                owner_conn(connections, task),
+                reply_of(&task.attempt),
+            )?;
             Ok(outs)
         }
         None => Ok(Outs::new(alloc)),

@@ -84,10 +84,10 @@ impl Plan {
     fn add(&mut self, alloc: Global, place: u64, decision: Entry) -> Result<(), AllocError>
         requires { due self.old.facts ≡ Some decision }
         ensures { OnOk result (self.new ≡ record self.old {
-            decisions = self.old.decisions ++ decision ∷ [];
-            outs = self.old.outs ++ outs place self.old.facts decision;
-            kept = self.old.kept ++ decision ∷ [];
-            facts = next self.old.facts decision;
+          decisions = self.old.decisions ++ decision ∷ [];
+          outs = self.old.outs ++ outs place self.old.facts decision;
+          kept = self.old.kept ++ decision ∷ [];
+          facts = next self.old.facts decision;
         }) }
     {
         let mut outs = self.state.outs(alloc, place, &decision, &None)?.into_vec();

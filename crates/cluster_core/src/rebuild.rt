@@ -56,11 +56,7 @@ pub fn event_of_input(
 }
 
 /// What the message of an entry means.
-fn event_of_entry(
-    alloc: Global,
-    state: &State,
-    entry: &Entry,
-) -> Result<Option<Event>, AllocError>
+fn event_of_entry(alloc: Global, state: &State, entry: &Entry) -> Result<Option<Event>, AllocError>
     ensures { IfOk result (λ e. IsEventOf state.now entry.now e) }
 {
     match entry {

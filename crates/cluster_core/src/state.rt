@@ -266,12 +266,14 @@ impl State {
             Some(Event::Submit(submission)) => {
                 may_submit_as(&self.tasks, &submission.id, message)
             }
-            Some(Event::Reply {
-                task,
-                header_id: _,
-                ok,
-                declined: _,
-            }) => *ok && is_plain(&message.metadata) && self.may_reply(conn, task),
+            Some(
+                Event::Reply {
+                    task,
+                    header_id: _,
+                    ok,
+                    declined: _,
+                },
+            ) => *ok && is_plain(&message.metadata) && self.may_reply(conn, task),
             _ => false,
         }
     }
@@ -295,12 +297,7 @@ impl State {
     }
 
     /// A connection came up.
-    fn connect(
-        &mut self,
-        conn: u32,
-        channel: Channel,
-        identity: &Octets,
-    ) -> Result<(), AllocError>
+    fn connect(&mut self, conn: u32, channel: Channel, identity: &Octets) -> Result<(), AllocError>
         ensures { OnOk result (self.new ≡ record self.old { connections = self.old.connections ++ (record { number = conn; channel = channel; identity = identity.now }) ∷ [] }) }
     {
         let identity = identity.copy()?;
@@ -355,12 +352,14 @@ impl State {
         match event {
             Some(Event::Join { uuid }) => self.join(conn, uuid)?,
             Some(Event::Submit(submission)) => self.accept(conn, &submission.id, message)?,
-            Some(Event::Reply {
-                task,
-                header_id: _,
-                ok: _,
-                declined: _,
-            }) => end_task(&mut self.tasks, task, message)?,
+            Some(
+                Event::Reply {
+                    task,
+                    header_id: _,
+                    ok: _,
+                    declined: _,
+                },
+            ) => end_task(&mut self.tasks, task, message)?,
             _ => {}
         }
         Ok(())
@@ -496,12 +495,14 @@ impl State {
         ensures { IfOk result (λ list. list ≡ outs place self.now entry.now) }
     {
         match entry {
-            Entry::Input(Input::In {
-                conn,
-                moment,
-                word: _,
-                message,
-            }) => {
+            Entry::Input(
+                Input::In {
+                    conn,
+                    moment,
+                    word: _,
+                    message,
+                },
+            ) => {
                 let list = self.answers(alloc, place, *conn, *moment, message, event)?;
                 Ok(list)
             }

@@ -6,6 +6,8 @@ mod inputs;
 mod outputs;
 mod quick;
 mod replay;
+#[cfg(test)]
+mod tests;
 mod words;
 
 use cluster_types::message::WordList;
@@ -13,9 +15,8 @@ use cluster_types::text::Text;
 use edges::standard::{StdSink, StdSource};
 use quick::quick;
 use std::alloc::AllocError;
-use std::env;
-use std::io;
 use std::process::ExitCode;
+use std::{env, io};
 
 /// The status where the words have no reading.
 const USAGE: u8 = 2;

@@ -22,11 +22,11 @@ abbrev pub Id : Type 0
 Id = List ℕ
 
 pub record Facts : Type 0 where
-  pub opened : Bool                     -- an Open stands
-  pub connections : List Connection     -- the live ones, in the order in which they came up
-  pub engines : List Engine             -- the live ones, by number
-  pub by_use : List ℕ                   -- their numbers, in ascending order of last use
-  pub tasks : List Task                 -- the accepted ones, by number
+  pub opened : Bool  -- an Open stands
+  pub connections : List Connection  -- the live ones, in the order in which they came up
+  pub engines : List Engine  -- the live ones, by number
+  pub by_use : List ℕ  -- their numbers, in ascending order of last use
+  pub tasks : List Task  -- the accepted ones, by number
 
 -- before the first entry
 abbrev pub nothing_yet : Facts

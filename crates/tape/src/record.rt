@@ -30,13 +30,21 @@ pub enum TapeKind {
         identity: Octets,
     },
     /// Octets of a connection that speaks ZMTP.
-    Piece { conn: u32, octets: Octets },
+    Piece {
+        conn: u32,
+        octets: Octets,
+    },
     /// A connection goes down.
-    Down { conn: u32 },
+    Down {
+        conn: u32,
+    },
     /// A round of heartbeats.
     Beat,
     /// Time passes.
     Time,
     /// The 1 to 64 frames of a message on a bare connection.
-    Message { conn: u32, frames: Frames },
+    Message {
+        conn: u32,
+        frames: Frames,
+    },
 }

@@ -18,7 +18,7 @@ pub loop-decision-preserved : goal.loop-decision-preserved
 loop-decision-preserved c =
     let is_due = sym c.in_ok-decision.ensures ∙ c.in-Some.is in
     let at : c.place-place.result ≡ length (reverse c.args.history.now) + length c.loop-decision.plan.decisions + 1 =
-        c.place-place.ensures ∙ ap (λ n. n + length c.loop-decision.plan.decisions + 1) (sym (length-reverse c.args.history.now)) in
+    c.place-place.ensures ∙ ap (λ n. n + length c.loop-decision.plan.decisions + 1) (sym (length-reverse c.args.history.now)) in
     record {
       input = ap (λ (p : PlanView). p.input) c.in_ok-add.ensures ∙ c.loop-decision.invariant.input;
       grown = subst (IsGrown (reverse c.args.history.now)) (sym c.in_ok-add.ensures) (grown_more (reverse c.args.history.now) c.loop-decision.plan c.place-place.result c.in-Some.decision at c.loop-decision.invariant.grown);

@@ -58,4 +58,3 @@ loop-preserved g c =
 pub returns-clause-front : goal.returns-clause-front
 returns-clause-front g c =
     λ octets told. going_stops (c.loop.invariant.going octets told)
-
