@@ -2,6 +2,9 @@
 
 use crate::quick::quick;
 use crate::words::{Command, CommandError, command_of};
+use cluster_core::machine::Core;
+use cluster_types::config::{Channel, Scheme};
+use cluster_types::entry::Input;
 use cluster_types::message::{Buffers, Message, WordList};
 use cluster_types::octets::Octets;
 use cluster_types::text::Text;
@@ -32,21 +35,78 @@ fn run(alloc: Global, tape: &[u8], reads: &[u64], writes: &[u64]) -> Result<(u8,
     Ok((status, output))
 }
 
+/// A message with the metadata `{}`.
+fn message(alloc: Global, header: &[u8], parent: &[u8], content: &[u8]) -> Result<Message, Fail> {
+    Ok(Message {
+        target: Octets::new(alloc, b"")?,
+        header: Octets::new(alloc, header)?,
+        parent: Octets::new(alloc, parent)?,
+        metadata: Octets::new(alloc, b"{}")?,
+        content: Octets::new(alloc, content)?,
+        buffers: Buffers::new(alloc),
+    })
+}
+
+const REGISTRATION: &[u8] = b"{\"msg_id\":\"j\",\"msg_type\":\"registration_request\"}";
+
+const REQUEST: &[u8] = b"{\"msg_id\":\"a\",\"msg_type\":\"execute_request\"}";
+
+const REPLY: &[u8] = b"{\"msg_id\":\"r\",\"msg_type\":\"execute_reply\"}";
+
 /// The frames of a registration of the engine `e0`, signed under the key `k`.
 fn registration(alloc: Global) -> Result<Frames, Fail> {
     let key = Key::new(alloc, b"k")?;
-    let message = Message {
-        target: Octets::new(alloc, b"")?,
-        header: Octets::new(
-            alloc,
-            b"{\"msg_id\":\"j\",\"msg_type\":\"registration_request\"}",
-        )?,
-        parent: Octets::new(alloc, b"{}")?,
-        metadata: Octets::new(alloc, b"{}")?,
-        content: Octets::new(alloc, b"{\"uuid\":\"e0\"}")?,
-        buffers: Buffers::new(alloc),
-    };
+    let message = message(alloc, REGISTRATION, b"{}", b"{\"uuid\":\"e0\"}")?;
     Ok(write_parts(alloc, &message, &key)?)
+}
+
+/// Takes an input, and says how many outs it sends.
+fn taken(core: &mut Core, input: Input) -> Result<usize, Fail> {
+    let event = core.understand(&input)?;
+    let plan = core.plan(input, event)?;
+    Ok(core.apply(plan).outs.len())
+}
+
+fn up(alloc: Global, conn: u32, channel: Channel, identity: &[u8]) -> Result<Input, Fail> {
+    Ok(Input::Up {
+        conn,
+        channel,
+        moment: 0,
+        word: 0,
+        identity: Octets::new(alloc, identity)?,
+    })
+}
+
+fn incoming(conn: u32, message: Message) -> Input {
+    Input::In {
+        conn,
+        moment: 0,
+        word: 0,
+        message,
+    }
+}
+
+#[test]
+fn one_task_makes_eight_entries(rt: HostRuntime) -> Result<(), Fail> {
+    let alloc = rt.alloc();
+    let mut core = Core::new(alloc);
+    let opening = Input::Open {
+        moment: 0,
+        scheme: Scheme::LeastLoad,
+        hwm: 1,
+        misses: 10,
+    };
+    assert_eq!(rt; taken(&mut core, opening)?, 0);
+    assert_eq!(rt; taken(&mut core, up(alloc, 1, Channel::Engine, b"e")?)?, 0);
+    let join = message(alloc, REGISTRATION, b"{}", b"{\"uuid\":\"e0\"}")?;
+    assert_eq!(rt; taken(&mut core, incoming(1, join))?, 1);
+    assert_eq!(rt; taken(&mut core, up(alloc, 2, Channel::Task, b"c")?)?, 0);
+    let request = message(alloc, REQUEST, b"{}", b"{\"code\":\"6*7\"}")?;
+    assert_eq!(rt; taken(&mut core, incoming(2, request))?, 1);
+    let reply = message(alloc, REPLY, b"{\"msg_id\":\"a\"}", b"{\"status\":\"ok\"}")?;
+    assert_eq!(rt; taken(&mut core, incoming(1, reply))?, 1);
+    assert_eq!(rt; core.history().len(), 8);
+    Ok(())
 }
 
 /// A tape with the Up and a registration on its connection.
