@@ -8,15 +8,16 @@ use cluster_types::entry::Input;
 use cluster_types::message::{Buffers, Message, WordList};
 use cluster_types::octets::Octets;
 use cluster_types::text::Text;
-use edges::frames::Frames;
 use edges::memory::{MemSink, MemSource};
-use hmac_sign::Key;
-use jupyter_parts::write::write_parts;
 use std::alloc::Global;
 use std::test::Fail;
 
 /// An Up of connection 1 on channel engine, bare, with the identity `e`.
 const UP: &[u8] = b"\x01\0\0\0\0\0\0\0\0\0\0\0\0\0\0\0\0\0\0\0\x01\x03\x01\x01e";
+
+/// The Up, and the registration of the engine `e0` on its connection, signed under the key `k`.
+const JOINING: &[u8] =
+    b"\x01\0\0\0\0\0\0\0\0\0\0\0\0\0\0\0\0\0\0\0\x01\x03\x01\x01e\x06\0\0\0\0\0\0\0\0\0\0\0\0\0\0\0\0\0\0\0\x01\x06\0\0\0\x09<IDS|MSG>\0\0\0@d2f52e7ee3d1bb06564157fe40e43ed04a1d7379b14330f3fc557ded7a84af38\0\0\06{\"msg_id\":\"join-e0\",\"msg_type\":\"registration_request\"}\0\0\0\x02{}\0\0\0\x02{}\0\0\0\x0d{\"uuid\":\"e0\"}";
 
 fn words(alloc: Global, texts: &[&str]) -> Result<WordList, Fail> {
     let mut words = WordList::new(alloc);
@@ -52,13 +53,6 @@ const REGISTRATION: &[u8] = b"{\"msg_id\":\"j\",\"msg_type\":\"registration_requ
 const REQUEST: &[u8] = b"{\"msg_id\":\"a\",\"msg_type\":\"execute_request\"}";
 
 const REPLY: &[u8] = b"{\"msg_id\":\"r\",\"msg_type\":\"execute_reply\"}";
-
-/// The frames of a registration of the engine `e0`, signed under the key `k`.
-fn registration(alloc: Global) -> Result<Frames, Fail> {
-    let key = Key::new(alloc, b"k")?;
-    let message = message(alloc, REGISTRATION, b"{}", b"{\"uuid\":\"e0\"}")?;
-    Ok(write_parts(alloc, &message, &key)?)
-}
 
 /// Takes an input, and says how many outs it sends.
 fn taken(core: &mut Core, input: Input) -> Result<usize, Fail> {
@@ -109,28 +103,6 @@ fn one_task_makes_eight_entries(rt: HostRuntime) -> Result<(), Fail> {
     Ok(())
 }
 
-/// A tape with the Up and a registration on its connection.
-fn joining(alloc: Global) -> Result<Vec<u8>, Fail> {
-    let frames = registration(alloc)?;
-    let mut tape = Vec::from_slice(alloc, UP)?;
-    tape.extend_from_slice(b"\x06\0\0\0\0\0\0\0\0\0\0\0\0\0\0\0\0\0\0\0\x01")?;
-    tape.push(6)?;
-    for place in 0..frames.len() {
-        if let Some(body) = frames.get(place) {
-            put_blob(&mut tape, body)?;
-        }
-    }
-    Ok(tape)
-}
-
-/// Appends a body of fewer than 256 octets behind its length.
-fn put_blob(tape: &mut Vec<u8>, body: &[u8]) -> Result<(), Fail> {
-    let length = u8::try_from(body.len()).map_err(|_| Fail::from("too long"))?;
-    tape.extend_from_slice(&[0, 0, 0, length])?;
-    tape.extend_from_slice(body)?;
-    Ok(())
-}
-
 #[test]
 fn reads_words(rt: HostRuntime) -> Result<(), Fail> {
     let alloc = rt.alloc();
@@ -162,16 +134,11 @@ fn serves_and_stops(rt: HostRuntime) -> Result<(), Fail> {
 }
 
 #[test]
-fn answers_a_registration(rt: HostRuntime) -> Result<(), Fail> {
-    let tape = joining(rt.alloc())?;
-    let (status, output) = run(rt.alloc(), tape.as_slice(), &[], &[])?;
+fn write_faults(rt: HostRuntime) -> Result<(), Fail> {
+    let (status, output) = run(rt.alloc(), JOINING, &[], &[])?;
     assert_eq!(rt; status, 0);
-    assert!(rt;
-        output
-            .written()
-            .ends_with(b"\0\0\0\x16{\"status\":\"ok\",\"id\":0}")
-    );
-    let (status, output) = run(rt.alloc(), tape.as_slice(), &[], &[1])?;
+    assert!(rt; output.written().ends_with(b"{\"status\":\"ok\",\"id\":0}"));
+    let (status, output) = run(rt.alloc(), JOINING, &[], &[1])?;
     assert_eq!(rt; status, 4);
     assert_eq!(rt; output.written().len(), 0);
     Ok(())
