@@ -4,4 +4,6 @@
 pub mod reader;
 pub mod reading;
 pub mod record;
+#[cfg(test)]
+mod tests;
 pub mod writing;
