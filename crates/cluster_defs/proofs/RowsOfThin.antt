@@ -1,16 +1,16 @@
 -- Histories of kept entries, and what is left of them without the contents that a purge lets go: a worked row, and histories that an independent model drew. Nothing rests on them.
-use Rattle.std.proofs.Common.{◌≡◌, [], ◌∷◌, refl}
+use Rattle.std.proofs.Common.{◌≡◌, List, [], ◌∷◌, refl}
 use Rattle.std.specs.Prelude.{codes}
 use Rattle.std.specs.Fmt.{digits}
 use Rattle.std.specs.Str.{is_utf8, chars}
 use Rattle.serde_json.proofs.OnLiterals.{serde_json_on_literals}
 use Rattle.cluster_types.specs.declared.config.Channel.TheVariants.{Hub, Task, Mux, Engine}
-use Rattle.cluster_types.specs.declared.config.Scheme.TheVariants.{Lru, LeastLoad, PlainRandom}
+use Rattle.cluster_types.specs.declared.config.Scheme.TheVariants.{Lru, LeastLoad, PlainRandom, TwoBin}
 use Rattle.cluster_types.specs.declared.verdict.Verdict.TheVariants.{Completed, Failed}
-use Rattle.cluster_types.specs.declared.verdict.Cause.TheVariants.{Reply as ByReply, EngineError, ImpossibleDependency, InvalidDependency}
+use Rattle.cluster_types.specs.declared.verdict.Cause.TheVariants.{Reply as ByReply, EngineError, ImpossibleDependency, InvalidDependency, TaskTimeout}
 use Rattle.cluster_types.specs.declared.message.Message.{Message}
 use Rattle.cluster_types.specs.declared.entry.Input.TheVariants.{Open, Up, Down, In, Beat, Time}
-use Rattle.cluster_types.specs.declared.entry.Entry.TheVariants.{Input, Hand, Settle}
+use Rattle.cluster_types.specs.declared.entry.Entry.TheVariants.{Input, Hand, Settle, Lose}
 use Rattle.message_defs.specs.Event.{event_of, is_request, is_reply, is_leave}
 use Rattle.message_defs.specs.Points.{whole_timeouts, ends_in_name}
 use Rattle.message_defs.specs.Submit.{read_submit}
@@ -30,13 +30,13 @@ abbrev thin_row_m1 : Message
 thin_row_m1 = message [] (codes "{\"msg_id\":\"a\",\"msg_type\":\"execute_request\"}") (codes "{}") (codes "{}") (codes "{\"code\":\"6*7\"}") []
 
 abbrev thin_row_m2 : Message
-thin_row_m2 = message [] (codes "{\"msg_id\":\"r1\",\"msg_type\":\"execute_reply\"}") (codes "{\"msg_id\":\"a\"}") (codes "{}") (codes "{\"status\":\"ok\"}") []
+thin_row_m2 = message [] (codes "{\"msg_id\":\"r1\",\"msg_type\":\"execute_reply\"}") (codes "{\"msg_id\":\"a\"}") (codes "{}") (codes "{\"status\":\"ok\",\"result\":\"42\"}") []
 
 abbrev thin_row_m3 : Message
-thin_row_m3 = message [] (codes "{\"msg_id\":\"b\",\"msg_type\":\"execute_request\"}") (codes "{}") (codes "{}") (codes "{\"code\":\"6*7\"}") []
+thin_row_m3 = message [] (codes "{\"msg_id\":\"b\",\"msg_type\":\"execute_request\"}") (codes "{}") (codes "{}") (codes "{\"code\":\"6*7\"}") ((codes "x") ∷ [])
 
 abbrev thin_row_m4 : Message
-thin_row_m4 = message [] (codes "{\"msg_id\":\"r2\",\"msg_type\":\"execute_reply\"}") (codes "{\"msg_id\":\"b\"}") (codes "{}") (codes "{\"status\":\"ok\"}") []
+thin_row_m4 = message [] (codes "{\"msg_id\":\"r2\",\"msg_type\":\"execute_reply\"}") (codes "{\"msg_id\":\"b\"}") (codes "{}") (codes "{\"status\":\"ok\",\"result\":\"43\"}") ((codes "y") ∷ [])
 
 abbrev thin_row_m5 : Message
 thin_row_m5 = message [] (codes "{\"msg_id\":\"ask\",\"msg_type\":\"resubmit_request\"}") (codes "{}") (codes "{}") (codes "{\"msg_ids\":[\"b\"]}") []
@@ -46,6 +46,12 @@ thin_row_m6 = message [] (codes "{\"msg_id\":\"ask\",\"msg_type\":\"purge_reques
 
 abbrev thin_row_m7 : Message
 thin_row_m7 = message [] (codes "{\"msg_id\":\"a\",\"msg_type\":\"execute_request\"}") (codes "{}") (codes "{}") (codes "{}") []
+
+abbrev thin_row_m8 : Message
+thin_row_m8 = message [] (codes "{\"msg_id\":\"r1\",\"msg_type\":\"execute_reply\"}") (codes "{\"msg_id\":\"a\"}") (codes "{}") (codes "{\"status\":\"ok\"}") []
+
+abbrev thin_row_m9 : Message
+thin_row_m9 = message [] (codes "{\"msg_id\":\"r2\",\"msg_type\":\"execute_reply\"}") (codes "{\"msg_id\":\"b\"}") (codes "{}") (codes "{\"status\":\"ok\"}") []
 
 -- `a` and `b` are purged: the content of `a` goes, that of `b` stays for its copy; both replies keep their status alone
 abbrev thin_row : History
@@ -74,12 +80,12 @@ thin_row_left =
     ∷ Hand (codes "resubmit:3") 0
     ∷ Input (In 4 0 0 thin_row_m5)
     ∷ Settle (codes "b") Completed ByReply
-    ∷ Input (In 1 0 0 thin_row_m4)
+    ∷ Input (In 1 0 0 thin_row_m9)
     ∷ Input (Up 4 Hub 0 0 (codes "h"))
     ∷ Hand (codes "b") 0
     ∷ Input (In 2 0 0 thin_row_m3)
     ∷ Settle (codes "a") Completed ByReply
-    ∷ Input (In 1 0 0 thin_row_m2)
+    ∷ Input (In 1 0 0 thin_row_m8)
     ∷ Hand (codes "a") 0
     ∷ Input (In 2 0 0 thin_row_m7)
     ∷ Input (Up 2 Task 0 0 (codes "c"))
