@@ -1,20 +1,17 @@
 -- Purges and resubmissions come to the same off the records of all tasks.
-use Rattle.std.proofs.Common.{◌≡◌, ℕ, suc, ◌+◌, List, [], ◌∷◌, length, map, Bool, true, false, cond, not, ◌&&◌, ◌||◌, refl, sym, ap, ◌∙◌, Option, Some, None, ⊎_elim}
-use Rattle.std.specs.Prelude.{filter, nat_lt, is_some, is_none, option_map}
-use Rattle.std.specs.List.{list_all}
-use Rattle.std.proofs.lemmas.Bool.{and_parts, not-true, false_from_ne_true, both_ways}
-use Rattle.cluster_types.specs.declared.record.Record.{Record}
+use Rattle.std.proofs.Common.{◌≡◌, suc, ◌+◌, List, [], ◌∷◌, length, map, Bool, true, false, cond, not, ◌&&◌, refl, sym, ap, ◌∙◌, Some, None}
+use Rattle.std.specs.Prelude.{nat_lt, is_some, is_none}
+use Rattle.std.proofs.lemmas.Bool.{false_from_ne_true, both_ways}
 use Rattle.cluster_defs.specs.Words.{Id, is_empty, is_listed, once}
 use Rattle.cluster_defs.specs.Tasks.{Settled}
 use Rattle.cluster_defs.specs.Facts.{Facts, is_settled}
 use Rattle.cluster_defs.specs.Acceptance.{most_ids}
-use Rattle.cluster_defs.specs.Purges.{Purging, Unknown, Inflight, Drops, inflight, gone_or_unknown, purge_list, purging, copies_from, never_known, gone, Resubmitting, NeverKnown, Gone, Running, NoRoom, Makes, resubmitting, resubmitting_known}
+use Rattle.cluster_defs.specs.Purges.{Unknown, Inflight, Drops, inflight, gone_or_unknown, purge_list, purging, copies_from, never_known, gone, NeverKnown, Gone, Running, NoRoom, Makes, resubmitting}
 use Rattle.cluster_defs.specs.Histories.{History, facts, Legal}
 use Rattle.cluster_defs.specs.TaskRecords.{record_of, records_of}
 use Rattle.cluster_defs.specs.RecordAnswers.{record_in, gone_as, settled_in}
-use Rattle.cluster_defs.specs.RecordPlans.{gone_in, inflight_in, purge_list_in, purge_in, unknown_in, purged_in, resubmit_known_in, resubmit_in}
+use Rattle.cluster_defs.specs.RecordPlans.{gone_in, inflight_in, purge_list_in, purge_in, unknown_in, purged_in, resubmit_in}
 use Rattle.cluster_laws.proofs.Closed.{Closed, closed}
-use Rattle.cluster_laws.proofs.Copies.{none_pass}
 use Rattle.cluster_laws.proofs.RecordsTell.{same_filter, some_map, picked, gone_told, record_is}
 
 -- whether an id is settled, by its record
