@@ -1,5 +1,5 @@
 -- Worked rows on dependencies, targets and draws, computed. Nothing rests on them.
-use Rattle.std.proofs.Common.{List, [], ◌∷◌, Option, Some, None, Bool, true, false, refl}
+use Rattle.std.proofs.Common.{List, [], ◌∷◌, Some, None, true, false, refl}
 use Rattle.std.specs.Prelude.{codes}
 use Rattle.std.specs.Fmt.{digits}
 use Rattle.std.specs.Str.{is_utf8, chars}
@@ -8,16 +8,15 @@ use Rattle.serde_json.proofs.OnLiterals.{serde_json_on_literals}
 use Rattle.hex.specs.Hex.{encode_with}
 use Rattle.edges.specs.Date.{date_of, day_text, time_text, digits as date_digits, civil_date, from_year, from_month}
 use Rattle.cluster_types.specs.Verdicts.{engine_lost_text}
-use Rattle.cluster_types.specs.declared.config.Channel.TheVariants.{Hub, Task, Mux, Engine}
-use Rattle.cluster_types.specs.declared.config.Scheme.TheVariants.{Lru, LeastLoad, PlainRandom, TwoBin}
+use Rattle.cluster_types.specs.declared.config.Channel.TheVariants.{Task, Engine}
+use Rattle.cluster_types.specs.declared.config.Scheme.TheVariants.{LeastLoad, PlainRandom}
 use Rattle.cluster_types.specs.declared.verdict.Verdict.TheVariants.{Completed, Failed}
-use Rattle.cluster_types.specs.declared.verdict.Cause.TheVariants.{Reply as ByReply, EngineError, ImpossibleDependency, InvalidDependency, TaskTimeout}
+use Rattle.cluster_types.specs.declared.verdict.Cause.TheVariants.{Reply as ByReply, ImpossibleDependency, InvalidDependency}
 use Rattle.cluster_types.specs.declared.message.Message.{Message}
-use Rattle.cluster_types.specs.declared.event.Event.TheVariants.{Submit, Direct, Reply, Join, Leave, Pong, Purge, Resubmit, Ask}
-use Rattle.cluster_types.specs.declared.event.Query.TheVariants.{Connection, Queue, Result, History, Shutdown, Unknown, Bad}
+use Rattle.cluster_types.specs.declared.event.Event.TheVariants.{Submit, Reply, Join}
 use Rattle.cluster_types.specs.declared.out.Out.TheVariants.{Pass, Made}
-use Rattle.cluster_types.specs.declared.entry.Input.TheVariants.{Open, Up, Down, In, Beat, Time}
-use Rattle.cluster_types.specs.declared.entry.Entry.TheVariants.{Input, Hand, Settle, Lose}
+use Rattle.cluster_types.specs.declared.entry.Input.TheVariants.{Open, Up, In}
+use Rattle.cluster_types.specs.declared.entry.Entry.TheVariants.{Input, Hand, Settle}
 use Rattle.message_defs.specs.Event.{event_of, is_request, is_reply, is_leave}
 use Rattle.message_defs.specs.Points.{whole_timeouts, ends_in_name}
 use Rattle.message_defs.specs.Submit.{read_submit}

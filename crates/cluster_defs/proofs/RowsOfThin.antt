@@ -30,13 +30,13 @@ abbrev thin_row_m1 : Message
 thin_row_m1 = message [] (codes "{\"msg_id\":\"a\",\"msg_type\":\"execute_request\"}") (codes "{}") (codes "{}") (codes "{\"code\":\"6*7\"}") []
 
 abbrev thin_row_m2 : Message
-thin_row_m2 = message [] (codes "{\"msg_id\":\"r1\",\"msg_type\":\"execute_reply\"}") (codes "{\"msg_id\":\"a\"}") (codes "{}") (codes "{\"status\":\"ok\"}") []
+thin_row_m2 = message [] (codes "{\"msg_id\":\"r1\",\"msg_type\":\"execute_reply\"}") (codes "{\"msg_id\":\"a\"}") (codes "{}") (codes "{\"status\":\"ok\",\"result\":\"42\"}") []
 
 abbrev thin_row_m3 : Message
-thin_row_m3 = message [] (codes "{\"msg_id\":\"b\",\"msg_type\":\"execute_request\"}") (codes "{}") (codes "{}") (codes "{\"code\":\"6*7\"}") []
+thin_row_m3 = message [] (codes "{\"msg_id\":\"b\",\"msg_type\":\"execute_request\"}") (codes "{}") (codes "{}") (codes "{\"code\":\"6*7\"}") ((codes "x") ∷ [])
 
 abbrev thin_row_m4 : Message
-thin_row_m4 = message [] (codes "{\"msg_id\":\"r2\",\"msg_type\":\"execute_reply\"}") (codes "{\"msg_id\":\"b\"}") (codes "{}") (codes "{\"status\":\"ok\"}") []
+thin_row_m4 = message [] (codes "{\"msg_id\":\"r2\",\"msg_type\":\"execute_reply\"}") (codes "{\"msg_id\":\"b\"}") (codes "{}") (codes "{\"status\":\"ok\",\"result\":\"43\"}") ((codes "y") ∷ [])
 
 abbrev thin_row_m5 : Message
 thin_row_m5 = message [] (codes "{\"msg_id\":\"ask\",\"msg_type\":\"resubmit_request\"}") (codes "{}") (codes "{}") (codes "{\"msg_ids\":[\"b\"]}") []
@@ -46,6 +46,12 @@ thin_row_m6 = message [] (codes "{\"msg_id\":\"ask\",\"msg_type\":\"purge_reques
 
 abbrev thin_row_m7 : Message
 thin_row_m7 = message [] (codes "{\"msg_id\":\"a\",\"msg_type\":\"execute_request\"}") (codes "{}") (codes "{}") (codes "{}") []
+
+abbrev thin_row_m8 : Message
+thin_row_m8 = message [] (codes "{\"msg_id\":\"r1\",\"msg_type\":\"execute_reply\"}") (codes "{\"msg_id\":\"a\"}") (codes "{}") (codes "{\"status\":\"ok\"}") []
+
+abbrev thin_row_m9 : Message
+thin_row_m9 = message [] (codes "{\"msg_id\":\"r2\",\"msg_type\":\"execute_reply\"}") (codes "{\"msg_id\":\"b\"}") (codes "{}") (codes "{\"status\":\"ok\"}") []
 
 -- `a` and `b` are purged: the content of `a` goes, that of `b` stays for its copy; both replies keep their status alone
 abbrev thin_row : History
@@ -74,12 +80,12 @@ thin_row_left =
     ∷ Hand (codes "resubmit:3") 0
     ∷ Input (In 4 0 0 thin_row_m5)
     ∷ Settle (codes "b") Completed ByReply
-    ∷ Input (In 1 0 0 thin_row_m4)
+    ∷ Input (In 1 0 0 thin_row_m9)
     ∷ Input (Up 4 Hub 0 0 (codes "h"))
     ∷ Hand (codes "b") 0
     ∷ Input (In 2 0 0 thin_row_m3)
     ∷ Settle (codes "a") Completed ByReply
-    ∷ Input (In 1 0 0 thin_row_m2)
+    ∷ Input (In 1 0 0 thin_row_m8)
     ∷ Hand (codes "a") 0
     ∷ Input (In 2 0 0 thin_row_m7)
     ∷ Input (Up 2 Task 0 0 (codes "c"))

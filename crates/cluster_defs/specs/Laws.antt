@@ -1,5 +1,5 @@
 -- What holds of every legal history: the statements, each ready to be the contract of a law.
-use Rattle.std.specs.Prelude.{◌≡◌, ◌<◌, ◌↔◌, ℕ, nat_lt, true, false, not, ◌&&◌, ◌==◌, List, [], ◌∷◌, ◌++◌, Some, None, is_some, map, bytes_eq}
+use Rattle.std.specs.Prelude.{◌≡◌, ◌<◌, ◌↔◌, ℕ, nat_lt, true, false, not, ◌&&◌, ◌==◌, List, [], ◌∷◌, ◌++◌, Some, None, is_some, Bool, map, bytes_eq}
 use Rattle.std.specs.List.{list_any, list_all}
 use Rattle.cluster_types.specs.declared.config.Channel.{Channel}
 use Rattle.cluster_types.specs.declared.message.Message.{Message}
@@ -14,10 +14,12 @@ use Rattle.cluster_types.specs.declared.entry.Entry.TheVariants.{Input, Hand, Se
 use Rattle.cluster_types.specs.declared.entry.Input.TheVariants.{Open}
 use Rattle.cluster_types.specs.declared.config.Scheme.{Scheme}
 use Rattle.cluster_defs.specs.declared.engine.Engine.{Engine}
-use Rattle.cluster_defs.specs.Words.{Id, is_listed}
+use Rattle.cluster_defs.specs.Words.{Id, is_listed, once}
 use Rattle.cluster_defs.specs.Engines.{conn_in}
 use Rattle.cluster_defs.specs.Tasks.{Settled, engine_of}
 use Rattle.cluster_defs.specs.Facts.{is_settled}
+use Rattle.cluster_defs.specs.Acceptance.{most_ids}
+use Rattle.cluster_defs.specs.Purges.{purge_list, purging, resubmitting}
 use Rattle.cluster_defs.specs.Scheduling.{due, may_run, open_work, is_live}
 use Rattle.cluster_defs.specs.Histories.{History, facts, Legal, kept, decide_all}
 use Rattle.cluster_defs.specs.Outcomes.{hand_out, outcome}
@@ -25,6 +27,7 @@ use Rattle.cluster_defs.specs.Outs.{outs}
 use Rattle.cluster_defs.specs.Queries.{answer}
 use Rattle.cluster_defs.specs.TaskRecords.{records_of}
 use Rattle.cluster_defs.specs.RecordAnswers.{answer_in}
+use Rattle.cluster_defs.specs.RecordPlans.{purge_list_in, purge_in, resubmit_in}
 use Rattle.cluster_defs.specs.Uses.{last_use, Ascends, newest_word, newest_moment}
 use Rattle.cluster_defs.specs.Thin.{thin}
 use Rattle.cluster_defs.specs.Safety.{Safe}
@@ -184,3 +187,10 @@ RecordsAnswer =
     (history : History) (channel : Channel) (query : Query) (msg_type : List ℕ) → Legal history →
     answer_in (records_of (facts history)) (map (λ e. (e.number, e.uuid)) (facts history).engines.live) channel query msg_type
     ≡ answer (facts history) channel query msg_type
+
+-- and what a Purge and a Resubmit come to, off the records alone
+abbrev pub RecordsPlan : Type 0
+RecordsPlan =
+    (history : History) (all : Bool) (ids : List Id) → Legal history →
+    (purge_in (records_of (facts history)) (purge_list_in (records_of (facts history)) all ids) ≡ purging (facts history) (purge_list (facts history) all ids))
+    × (resubmit_in (records_of (facts history)) most_ids (once ids) ≡ resubmitting (facts history) (once ids))

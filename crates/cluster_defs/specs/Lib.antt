@@ -11,6 +11,7 @@ pub mod Outs
 pub mod Purges
 pub mod Queries
 pub mod RecordAnswers
+pub mod RecordPlans
 pub mod Requests
 pub mod Runs
 pub mod Safety

@@ -16,6 +16,7 @@ pub mod Order
 pub mod Outcome
 pub mod Parts
 pub mod RecordsHold
+pub mod RecordsPlan
 pub mod RecordsTell
 pub mod Safe
 pub mod Sound

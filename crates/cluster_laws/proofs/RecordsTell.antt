@@ -43,7 +43,7 @@ where_is f p (id ∷ ids) =
       | false ↦ rest
     ]
 
-same_filter : {X : Type 0} (p q : X → Bool) → ((x : X) → p x ≡ q x) → (xs : List X) → filter p xs ≡ filter q xs
+pub same_filter : {X : Type 0} (p q : X → Bool) → ((x : X) → p x ≡ q x) → (xs : List X) → filter p xs ≡ filter q xs
 same_filter p q same [] = refl
 same_filter p q same (x ∷ xs) = rw (same x, same_filter p q same xs) refl
 
@@ -56,10 +56,10 @@ same_find p q same [] = refl
 same_find p q same (x ∷ xs) = rw (same x, same_find p q same xs) refl
 
 -- the ids that a test of the records picks
-picked : (f : Facts) (p : Record → Bool) (q : Id → Bool) → ((id : Id) → p (record_of f id) ≡ q id) → ids_where p (records_of f) ≡ filter q f.known
+pub picked : (f : Facts) (p : Record → Bool) (q : Id → Bool) → ((id : Id) → p (record_of f id) ≡ q id) → ids_where p (records_of f) ≡ filter q f.known
 picked f p q same = where_is f p f.known ∙ same_filter (λ id. p (record_of f id)) q same f.known
 
-some_map : {X Y : Type 0} (g : X → Y) (o : Option X) → is_some (option_map g o) ≡ is_some o
+pub some_map : {X Y : Type 0} (g : X → Y) (o : Option X) → is_some (option_map g o) ≡ is_some o
 some_map g None = refl
 some_map g (Some x) = refl
 
@@ -123,7 +123,7 @@ queue_told h legal targets verbose =
 -- RESULTS
 
 -- the record of an id is its record, where it is known
-record_is : (f : Facts) (ids : List Id) (id : Id) → find (λ (r : Record). bytes_eq r.id id) (map (record_of f) ids) ≡ cond (is_listed id ids) (Some (record_of f id)) None
+pub record_is : (f : Facts) (ids : List Id) (id : Id) → find (λ (r : Record). bytes_eq r.id id) (map (record_of f) ids) ≡ cond (is_listed id ids) (Some (record_of f id)) None
 record_is f [] id = refl
 record_is f (i ∷ ids) id =
     elim (bytes_eq i id) as (λ b. bytes_eq i id ≡ b → cond b (Some (record_of f i)) (find (λ (r : Record). bytes_eq r.id id) (map (record_of f) ids)) ≡ cond (b || is_listed id ids) (Some (record_of f id)) None) [
@@ -135,7 +135,7 @@ gone_same : (f : Facts) (id : Id) (b : Bool) → gone_as (cond b (Some (record_o
 gone_same f id true = refl
 gone_same f id false = refl
 
-gone_told : (f : Facts) (id : Id) → gone_as (record_in (records_of f) id) ≡ (not (is_listed id f.known) || f.purged id)
+pub gone_told : (f : Facts) (id : Id) → gone_as (record_in (records_of f) id) ≡ (not (is_listed id f.known) || f.purged id)
 gone_told f id = ap gone_as (record_is f f.known id) ∙ gone_same f id (is_listed id f.known)
 
 -- of ids that are known and not purged

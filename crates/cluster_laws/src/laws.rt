@@ -1,6 +1,6 @@
 //! Laws of histories, over the definitions alone.
 
-ghost use Rattle.cluster_defs.specs.Laws.{KeptIsLegal, KeptIsOwn, KeptReadsSame, KeptOrder, UseAscends, UseHasLive, DrawsByWord, SettlesAtMoment, IsSafe, ImpossibleStays, LifeIsLegal, SentBelongs, AnsweredAlike, ThinIsLegal, ThinIsKept, ThinDue, ThinGoesOn, ThinSendsSame, DueFalls, DecidesMore, DecidesNone, KnownOnce, KnownStays, LiveAscend, HandsSend, SettledAnswered, RecordsHold, SettledEngine, RecordsAnswer};
+ghost use Rattle.cluster_defs.specs.Laws.{KeptIsLegal, KeptIsOwn, KeptReadsSame, KeptOrder, UseAscends, UseHasLive, DrawsByWord, SettlesAtMoment, IsSafe, ImpossibleStays, LifeIsLegal, SentBelongs, AnsweredAlike, ThinIsLegal, ThinIsKept, ThinDue, ThinGoesOn, ThinSendsSame, DueFalls, DecidesMore, DecidesNone, KnownOnce, KnownStays, LiveAscend, HandsSend, SettledAnswered, RecordsHold, SettledEngine, RecordsAnswer, RecordsPlan};
 
 /// The kept entries of a legal history make a legal history that is its own kept one, and read the same; the places of
 /// last use differ, but not their order.
@@ -72,9 +72,11 @@ pub fn nothing_is_missing()
 {}
 
 /// The records of all tasks are what a table of records keeps to; what is settled has had no attempt since; and each
-/// question is answered the same off the records and the live engines.
+/// question is answered the same off the records and the live engines, and each purge and resubmission comes to the
+/// same off the records.
 pub fn records_are_sound()
     ensures records { RecordsHold }
     ensures engine { SettledEngine }
     ensures answer { RecordsAnswer }
+    ensures plan { RecordsPlan }
 {}
