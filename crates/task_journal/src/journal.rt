@@ -34,10 +34,10 @@ impl<D: Disk> Model for Journal<D> {
 /// Writes a batch behind a closed gate, and opens the gate once the batch is on the disk.
 fn append_at<D: Disk>(disk: &mut D, gate: u64, octets: &[u8]) -> Result<(), Failed>
     requires { D.tells → IsReady D.content D.image disk.old gate }
-    ensures ready { D.tells → OnOk result ((list es : List EntryType) → IsBatch octets.now es → StandsFor (D.content disk.old) list
-        → IsReady D.content D.image disk.new (gate + length octets.now)) }
-    ensures stands { D.tells → OnOk result ((list es : List EntryType) → IsBatch octets.now es → StandsFor (D.content disk.old) list
-        → StandsFor (D.content disk.new) (list ++ es)) }
+    ensures ready { D.tells → OnOk result ((list es : List EntryType) → IsBatch octets.now es
+        → StandsFor (D.content disk.old) list → IsReady D.content D.image disk.new (gate + length octets.now)) }
+    ensures stands { D.tells → OnOk result ((list es : List EntryType) → IsBatch octets.now es
+        → StandsFor (D.content disk.old) list → StandsFor (D.content disk.new) (list ++ es)) }
     ensures any_moment { D.tells → (list es : List EntryType) → IsBatch octets.now es → StandsFor (D.content disk.old) list
         → LeavesOnly D.moment D.image_since disk.old disk.new (Outcome list es) }
     ensures later { D.faults disk.old ≤ D.faults disk.new }
@@ -60,8 +60,8 @@ impl<D: Disk> Journal<D> {
             → StandsFor (D.content self.new.disk) (list ++ batch)) }
         ensures durable { D.tells → OnOk result (Only (D.content self.new.disk) (D.image self.new.disk)) }
         // A crash at any moment of the call leaves the entries from before it, or these with the whole batch.
-        ensures any_moment { D.tells → self.old.failed ≡ false → (list : List EntryType) → StandsFor (D.content self.old.disk) list
-            → LeavesOnly D.moment D.image_since self.old.disk self.new.disk (Outcome list batch) }
+        ensures any_moment { D.tells → self.old.failed ≡ false → (list : List EntryType)
+            → StandsFor (D.content self.old.disk) list → LeavesOnly D.moment D.image_since self.old.disk self.new.disk (Outcome list batch) }
         ensures reopen { (result ≡ Err AppendFault.Reopen) ↔ (self.old.failed ≡ true) }
         ensures unchanged { result ≡ Err AppendFault.Reopen → self.new ≡ self.old }
         ensures failed { self.new.failed ≡ is_err result }

@@ -1,9 +1,9 @@
 //! Opening a journal.
 
-ghost use Rattle.std.specs.Prelude.{◌≡◌, ◌≤◌, ◌<◌, ◌⊎◌, List, ℕ, [], length, false, Ok, Err, IfOk, IfErr, OnOk, IsErr, IsErrOf};
+ghost use Rattle.std.specs.Prelude.{◌≡◌, ◌≤◌, ◌<◌, ◌⊎◌, List, ℕ, [], ◌∷◌, ◌++◌, length, false, Ok, Err, IfOk, IfErr, OnOk, IsErr, IsErrOf};
 ghost use Rattle.cluster_types.specs.declared.entry.Entry.{Entry as EntryType};
 ghost use Rattle.disk_model.specs.Crashes.{Rose, Only, NoMore, LeavesOnly};
-ghost use Rattle.task_journal.specs.Journal.{StandsFor, Gives, Fails, IsSame, holding, journal};
+ghost use Rattle.task_journal.specs.Journal.{StandsFor, Gives, Fails, IsSame, head, holding, journal};
 ghost use Rattle.task_journal.specs.Settled.{IsReady, Unharmed, OnRefusal};
 
 use crate::fault::OpenFault;
@@ -27,6 +27,7 @@ fn make<D: Disk>(disk: &mut D) -> Result<(), Failed>
     requires durable { D.tells → Only (D.content disk.old) (D.image disk.old) }
     ensures ready { D.tells → OnOk result (IsReady D.content D.image disk.new 31) }
     ensures empty { D.tells → OnOk result (StandsFor (D.content disk.new) []) }
+    ensures made { D.tells → OnOk result (D.content disk.new ≡ head ++ 0 ∷ 0 ∷ []) }
     ensures any_moment { D.tells → LeavesOnly D.moment D.image_since disk.old disk.new (λ c. StandsFor c []) }
     ensures later { D.faults disk.old ≤ D.faults disk.new }
     ensures cause { IsErr result → Rose (D.faults disk.old) (D.faults disk.new) }
@@ -45,7 +46,10 @@ fn prepare<D: Disk>(alloc: Global, disk: &mut D) -> Result<(Found, u64), OpenFau
     ensures value { D.tells → Gives (λ x. x.0) result (journal (D.content disk.old)) }
     ensures ready { D.tells → IfOk result (λ x. IsReady D.content D.image disk.new x.1) }
     ensures same { D.tells → OnOk result (IsSame (D.content disk.new) (D.content disk.old)) }
-    ensures any_moment { D.tells → LeavesOnly D.moment D.image_since disk.old disk.new (Unharmed (D.image disk.old) (D.content disk.old)) }
+    ensures kept { D.tells → 33 ≤ length (D.content disk.old) → OnOk result (D.content disk.new ≡ D.content disk.old) }
+    ensures made { D.tells → length (D.content disk.old) < 33 → OnOk result (D.content disk.new ≡ head ++ 0 ∷ 0 ∷ []) }
+    ensures any_moment { D.tells → LeavesOnly D.moment D.image_since disk.old disk.new
+        (Unharmed (D.image disk.old) (D.content disk.old)) }
     ensures untouched { IfErr result (λ e. OnRefusal e (NoMore (D.image disk.old) (D.image disk.new))) }
     ensures later { D.faults disk.old ≤ D.faults disk.new }
     ensures cause { IsErrOf result OpenFault.DiskFault → Rose (D.faults disk.old) (D.faults disk.new) }
@@ -65,6 +69,9 @@ impl<D: Disk> Journal<D> {
     /// made. A refusal hands the disk back: it is untouched where it holds no journal or a damaged one.
     pub fn open(alloc: Global, disk: D) -> Result<(Journal<D>, Entries, Places), Refused<D>>
         ensures found { D.tells → IfOk result (λ x. journal (D.content disk) ≡ Ok (holding x.1 x.2)) }
+        // Nothing is written but the head of a disk of fewer than 33 octets.
+        ensures kept { D.tells → 33 ≤ length (D.content disk) → IfOk result (λ x. D.content x.0.disk ≡ D.content disk) }
+        ensures made { D.tells → length (D.content disk) < 33 → IfOk result (λ x. D.content x.0.disk ≡ head ++ 0 ∷ 0 ∷ []) }
         // From now on the disk stands for these entries, and so does all that a crash leaves.
         ensures stands { D.tells → IfOk result (λ x. StandsFor (D.content x.0.disk) x.1) }
         ensures durable { D.tells → IfOk result (λ x. Only (D.content x.0.disk) (D.image x.0.disk)) }
@@ -72,8 +79,10 @@ impl<D: Disk> Journal<D> {
         ensures refused { D.tells → IfErr result (λ r. Fails r.why (journal (D.content disk))) }
         ensures untouched { IfErr result (λ r. OnRefusal r.why (NoMore (D.image disk) (D.image r.disk))) }
         // A crash at any moment of the call leaves what it might have left before, or what stands for the same entries.
-        ensures any_moment { D.tells → IfOk result (λ x. LeavesOnly D.moment D.image_since disk x.0.disk (Unharmed (D.image disk) (D.content disk))) }
-        ensures any_moment_err { D.tells → IfErr result (λ r. LeavesOnly D.moment D.image_since disk r.disk (Unharmed (D.image disk) (D.content disk))) }
+        ensures any_moment { D.tells → IfOk result (λ x.
+            LeavesOnly D.moment D.image_since disk x.0.disk (Unharmed (D.image disk) (D.content disk))) }
+        ensures any_moment_err { D.tells → IfErr result (λ r.
+            LeavesOnly D.moment D.image_since disk r.disk (Unharmed (D.image disk) (D.content disk))) }
         ensures later { IfOk result (λ x. D.faults disk ≤ D.faults x.0.disk) }
         ensures later_err { IfErr result (λ r. D.faults disk ≤ D.faults r.disk) }
         ensures cause { IfErr result (λ r. r.why ≡ OpenFault.DiskFault → Rose (D.faults disk) (D.faults r.disk)) }

@@ -25,7 +25,8 @@ fn read_records<D: Disk>(
     found: &mut Found,
 ) -> Result<(), OpenFault>
     requires { D.tells → Shows window.old end (D.content disk.old) }
-    ensures value { D.tells → Gives (λ _. found.new) result (with_front found.old (records_at count end (span window.old.place end (D.content disk.old)))) }
+    ensures value { D.tells → Gives (λ _. found.new) result
+        (with_front found.old (records_at count end (span window.old.place end (D.content disk.old)))) }
     ensures reads { OnlyReads D.content D.image D.moment D.image_since D.faults disk.old disk.new }
     ensures cause { IsErrOf result OpenFault.DiskFault → Rose (D.faults disk.old) (D.faults disk.new) }
 {

@@ -88,7 +88,8 @@ impl Window {
     pub fn read_more<D: Disk>(&mut self, disk: &mut D, n: usize) -> Result<(), OpenFault>
         requires inside { D.tells → self.old.place + length self.old.octets + n ≤ length (D.content disk.old) }
         requires fits { D.tells → self.old.place + length self.old.octets < 2 ^ 64 }
-        ensures octets { D.tells → OnOk result (self.new.octets ≡ self.old.octets ++ take n (drop (self.old.place + length self.old.octets) (D.content disk.old))) }
+        ensures octets { D.tells → OnOk result (self.new.octets
+            ≡ self.old.octets ++ take n (drop (self.old.place + length self.old.octets) (D.content disk.old))) }
         ensures place { self.new.place ≡ self.old.place }
         ensures reads { OnlyReads D.content D.image D.moment D.image_since D.faults disk.old disk.new }
         ensures fault { IfErr result IsOfDisk }
@@ -110,7 +111,8 @@ fn read_behind<D: Disk>(
     n: usize,
 ) -> Result<(), OpenFault>
     requires { D.tells → at + n ≤ length (D.content disk.old) }
-    ensures octets { D.tells → OnOk result (octets.new.items ≡ octets.old.items ++ take n (drop at (D.content disk.old))) }
+    ensures octets { D.tells → OnOk result (octets.new.items
+        ≡ octets.old.items ++ take n (drop at (D.content disk.old))) }
     ensures reads { OnlyReads D.content D.image D.moment D.image_since D.faults disk.old disk.new }
     ensures fault { IfErr result IsOfDisk }
     ensures cause { IsErrOf result OpenFault.DiskFault → Rose (D.faults disk.old) (D.faults disk.new) }
@@ -139,7 +141,8 @@ pub fn next_record<D: Disk>(
     end: u64,
 ) -> Result<Entry, OpenFault>
     requires { D.tells → Shows window.old end (D.content disk.old) }
-    ensures value { D.tells → Gives (λ e. (e, span window.new.place end (D.content disk.old))) result (record_at end (span window.old.place end (D.content disk.old))) }
+    ensures value { D.tells → Gives (λ e. (e, span window.new.place end (D.content disk.old))) result
+        (record_at end (span window.old.place end (D.content disk.old))) }
     ensures shows { D.tells → OnOk result (Shows window.new end (D.content disk.old)) }
     ensures reads { OnlyReads D.content D.image D.moment D.image_since D.faults disk.old disk.new }
     ensures cause { IsErrOf result OpenFault.DiskFault → Rose (D.faults disk.old) (D.faults disk.new) }

@@ -73,3 +73,10 @@ returns-clause-empty g c = λ told.
     let staged : g.D.Disk.content c.write_at.new.self ≡ made = head_done disk (g.D.Disk.content c.write_at.new.self) (c.requires.short told) (c.in_ok-write_at.ensures.written told) in
     let done : g.D.Disk.content c.sync-2.new.self ≡ made ++ 0 ∷ [] = c.sync-2.ensures.same ∙ pad_done (g.D.Disk.content c.write_at-2.new.self) (subst (λ (z : List ℕ). Written z 32 (0 ∷ []) (g.D.Disk.content c.write_at-2.new.self)) (c.sync.ensures.same ∙ staged) (c.in_ok-write_at-2.ensures.written told)) in
     made_empty (g.D.Disk.content c.sync-2.new.self) done
+
+pub returns-clause-made : goal.returns-clause-made
+returns-clause-made g c = λ told.
+    let disk = g.D.Disk.content c.args.disk.now in
+    let staged : g.D.Disk.content c.write_at.new.self ≡ made = head_done disk (g.D.Disk.content c.write_at.new.self) (c.requires.short told) (c.in_ok-write_at.ensures.written told) in
+    let done : g.D.Disk.content c.sync-2.new.self ≡ made ++ 0 ∷ [] = c.sync-2.ensures.same ∙ pad_done (g.D.Disk.content c.write_at-2.new.self) (subst (λ (z : List ℕ). Written z 32 (0 ∷ []) (g.D.Disk.content c.write_at-2.new.self)) (c.sync.ensures.same ∙ staged) (c.in_ok-write_at-2.ensures.written told)) in
+    done

@@ -1,4 +1,4 @@
-use Rattle.std.proofs.Common.{◌<◌, inl, inr, [], length, sym, subst, ◌∙◌, arith, ℕ, List}
+use Rattle.std.proofs.Common.{◌≤◌, ◌<◌, inl, inr, [], length, sym, subst, ◌∙◌, arith, ℕ, List}
 use Rattle.task_journal.specs.Journal.{StandsFor}
 use Rattle.task_journal.specs.Settled.{IsSettled, Unharmed}
 use Rattle.task_journal.proofs.Moments.{starts, stays, reads, joined}
@@ -43,3 +43,13 @@ returns-clause-ready g c = λ told.
       settled = subst (λ (z : List ℕ). IsSettled z c.in_ok-found.gate) (sym c.read_found.ensures.reads.same) settled;
       durable = λ f now. c.in_ok-sync.ensures.durable f (c.read_found.ensures.reads.images f now) ∙ sym (c.read_found.ensures.reads.same ∙ c.sync.ensures.same);
     }
+
+pub returns-then-gate-eq0-clause-kept : goal.returns-then-gate-eq0-clause-kept
+returns-then-gate-eq0-clause-kept g c = λ told long.
+    let short : length (g.D.Disk.content c.args.disk.now) < 33 = subst (λ (z : List ℕ). length z < 33) c.sync.ensures.same (short_at_0 (g.D.Disk.content c.sync.new.self) c.in_ok-found.found c.in_ok-found.gate (c.in_ok-found.ensures.value told) c.in_ok-found.ensures.gate c.if-gate-eq0.true) in
+    absurd (omega (arith, short, long))
+
+pub returns-clause-made : goal.returns-clause-made
+returns-clause-made g c = λ told short.
+    let long = long_past_0 (g.D.Disk.content c.sync.new.self) c.in_ok-found.found c.in_ok-found.gate (c.in_ok-found.ensures.value told) c.in_ok-found.ensures.gate (λ zero_is. absurd (omega (arith, zero_is, c.if-gate-eq0.false))) in
+    absurd (omega (arith, subst (λ (z : List ℕ). 33 ≤ length z) c.sync.ensures.same long, short))
