@@ -1,0 +1,78 @@
+-- Commands (RFC 23, Commands and The NULL mechanism): a name behind its length, then data. The data of READY is
+-- metadata: properties, each a name behind its length in one octet and a value behind its length in four. Names are
+-- compared without regard to ASCII case.
+use Rattle.std.specs.Prelude.{◌≡◌, ℕ, zero, suc, nat_le, ◌==◌, List, [], ◌∷◌, ◌++◌, length, codes, bytes_eq, Option, Some, None, Result, Ok, Err, Bool, true, false, ◌||◌, if◌then◌else◌, option_map}
+use Rattle.std.specs.Option.{option_and_then}
+use Rattle.std.specs.List.{list_any, find}
+use Rattle.std.specs.Str.{str_to_ascii_lowercase}
+use Rattle.octet_fields.specs.declared.stop.Stop.{Stop}
+use Rattle.octet_fields.specs.Reading.{Read, str8_at, blob_at, ◌>>=◌}
+use Rattle.zmtp_frames.specs.declared.command.Command.{Command}
+use Rattle.zmtp_frames.specs.declared.command.Command.TheVariants.{Ready, Error, Other}
+use Rattle.zmtp_frames.specs.declared.command.Props.{Props}
+use Rattle.zmtp_frames.specs.declared.metadata.Property.{Property}
+
+-- what stands at the front, if anything does
+abbrev pub read_off : {A : Type 0} → Read A → Option (A × List ℕ)
+read_off (Ok x) = Some x
+read_off (Err stop) = None
+
+abbrev pub same_name : List ℕ → List ℕ → Bool
+same_name a b = bytes_eq (str_to_ascii_lowercase a) (str_to_ascii_lowercase b)
+
+-- a property at the front
+unfoldable pub property_at : List ℕ → Read Property
+property_at octets = do
+  name ← str8_at octets
+  value ← blob_at name.1
+  Ok (record { name = name.0; value = value.0 }, value.1)
+
+-- the first property of this name
+abbrev pub named : List ℕ → List Property → Option Property
+named name list = find (λ p. same_name name p.name) list
+
+-- these properties and one more, whose name has an octet at least and didn't come before
+abbrev pub with_property : List Property → Property → Option (List Property)
+with_property list p =
+    if length p.name == 0 || list_any (λ q. same_name p.name q.name) list then None
+    else Some (list ++ p ∷ [])
+
+-- these properties and those of the octets, which are at most so many
+abbrev pub metadata_from : ℕ → List Property → List ℕ → Option (List Property)
+metadata_from n list [] = Some list
+metadata_from zero list (x ∷ xs) = None
+metadata_from (suc n) list (x ∷ xs) =
+    option_and_then (λ p. option_and_then (λ more. metadata_from n more p.1) (with_property list p.0)) (read_off (property_at (x ∷ xs)))
+
+-- the properties that octets are: no more than there are octets
+abbrev pub metadata : List ℕ → Option (List Property)
+metadata octets = metadata_from (length octets) [] octets
+
+-- an identity has at most 255 octets
+abbrev pub props_with : List ℕ → Option Property → Option Props
+props_with socket_type None = Some (record { socket_type = socket_type; identity = None })
+props_with socket_type (Some p) =
+    if nat_le (length p.value) 255 then Some (record { socket_type = socket_type; identity = Some p.value }) else None
+
+-- what READY says: a socket type, and maybe an identity
+abbrev pub props_of : List Property → Option Props
+props_of list = option_and_then (λ p. props_with p.value (named (codes "Identity") list)) (named (codes "Socket-Type") list)
+
+abbrev pub ready_of : List ℕ → Option Command
+ready_of octets = option_map Ready (option_and_then props_of (metadata octets))
+
+-- the reason of an ERROR, behind its length
+abbrev pub error_of : List ℕ → Option Command
+error_of octets = option_map (λ x. Error x.0) (read_off (str8_at octets))
+
+-- what the command of this name says with these data
+abbrev pub command_named : List ℕ → List ℕ → Option Command
+command_named name rest =
+    if length name == 0 then None
+    else if same_name name (codes "READY") then ready_of rest
+    else if same_name name (codes "ERROR") then error_of rest
+    else Some Other
+
+-- the command that a body is, or None where it is faulty
+abbrev pub command_of : List ℕ → Option Command
+command_of body = option_and_then (λ x. command_named x.0 x.1) (read_off (str8_at body))

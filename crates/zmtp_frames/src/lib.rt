@@ -1,0 +1,10 @@
+//! ZMTP 3.0 (RFC 23): the greeting, frames of a stream that comes in any pieces, and commands.
+#![tactic(auto)]
+
+pub mod command;
+pub mod fault;
+pub mod frame;
+pub mod greeting;
+pub mod metadata;
+pub mod reader;
+pub mod writing;
