@@ -10,6 +10,8 @@ use Rattle.octet_fields.specs.Reading.{Read, str8_at, blob_at, ◌>>=◌}
 use Rattle.zmtp_frames.specs.declared.command.Command.{Command}
 use Rattle.zmtp_frames.specs.declared.command.Command.TheVariants.{Ready, Error, Other}
 use Rattle.zmtp_frames.specs.declared.command.Props.{Props}
+use Rattle.zmtp_frames.specs.declared.command.CommandError.{CommandError}
+use Rattle.zmtp_frames.specs.declared.command.CommandError.TheVariants.{OutOfMemory, BadCommand}
 use Rattle.zmtp_frames.specs.declared.metadata.Property.{Property}
 
 -- what stands at the front, if anything does
@@ -37,42 +39,63 @@ with_property list p =
     if length p.name == 0 || list_any (λ q. same_name p.name q.name) list then None
     else Some (list ++ p ∷ [])
 
+-- these properties with the one at the front of the octets, and the octets after it
+abbrev pub metadata_step : List Property → List ℕ → Option (List Property × List ℕ)
+metadata_step list octets =
+    option_and_then (λ p. option_map (λ more. (more, p.1)) (with_property list p.0)) (read_off (property_at octets))
+
 -- these properties and those of the octets, which are at most so many
 abbrev pub metadata_from : ℕ → List Property → List ℕ → Option (List Property)
 metadata_from n list [] = Some list
 metadata_from zero list (x ∷ xs) = None
-metadata_from (suc n) list (x ∷ xs) =
-    option_and_then (λ p. option_and_then (λ more. metadata_from n more p.1) (with_property list p.0)) (read_off (property_at (x ∷ xs)))
+metadata_from (suc n) list (x ∷ xs) = option_and_then (λ s. metadata_from n s.0 s.1) (metadata_step list (x ∷ xs))
 
 -- the properties that octets are: no more than there are octets
 abbrev pub metadata : List ℕ → Option (List Property)
 metadata octets = metadata_from (length octets) [] octets
 
--- an identity has at most 255 octets
-abbrev pub props_with : List ℕ → Option Property → Option Props
-props_with socket_type None = Some (record { socket_type = socket_type; identity = None })
-props_with socket_type (Some p) =
-    if nat_le (length p.value) 255 then Some (record { socket_type = socket_type; identity = Some p.value }) else None
+-- an identity may be absent, and has at most 255 octets
+abbrev pub identity_of : Option Property → Option (Option (List ℕ))
+identity_of None = Some None
+identity_of (Some p) = if nat_le (length p.value) 255 then Some (Some p.value) else None
+
+abbrev pub props_with : Property → Option (List ℕ) → Props
+props_with p identity = record { socket_type = p.value; identity = identity }
 
 -- what READY says: a socket type, and maybe an identity
 abbrev pub props_of : List Property → Option Props
-props_of list = option_and_then (λ p. props_with p.value (named (codes "Identity") list)) (named (codes "Socket-Type") list)
+props_of list =
+    option_and_then (λ p. option_map (props_with p) (identity_of (named (codes "Identity") list))) (named (codes "Socket-Type") list)
 
-abbrev pub ready_of : List ℕ → Option Command
-ready_of octets = option_map Ready (option_and_then props_of (metadata octets))
+abbrev pub ready_of : List ℕ → Option Props
+ready_of octets = option_and_then props_of (metadata octets)
 
 -- the reason of an ERROR, behind its length
-abbrev pub error_of : List ℕ → Option Command
-error_of octets = option_map (λ x. Error x.0) (read_off (str8_at octets))
+abbrev pub error_of : List ℕ → Option (List ℕ)
+error_of octets = option_map (λ x. x.0) (read_off (str8_at octets))
 
 -- what the command of this name says with these data
 abbrev pub command_named : List ℕ → List ℕ → Option Command
 command_named name rest =
     if length name == 0 then None
-    else if same_name name (codes "READY") then ready_of rest
-    else if same_name name (codes "ERROR") then error_of rest
+    else if same_name name (codes "READY") then option_map Ready (ready_of rest)
+    else if same_name name (codes "ERROR") then option_map Error (error_of rest)
     else Some Other
 
 -- the command that a body is, or None where it is faulty
 abbrev pub command_of : List ℕ → Option Command
 command_of body = option_and_then (λ x. command_named x.0 x.1) (read_off (str8_at body))
+
+-- an error says that nothing is read, unless memory ran out
+abbrev pub Refuses : {A : Type 0} → CommandError → Option A → Type 0
+Refuses OutOfMemory read = Unit {0}
+Refuses BadCommand read = read ≡ None
+
+-- what a function returned, seen by `view`, is what is read, unless memory ran out
+abbrev pub Gives : {X Y : Type 0} → (X → Y) → Result X CommandError → Option Y → Type 0
+Gives view (Ok x) read = read ≡ Some (view x)
+Gives view (Err e) read = Refuses e read
+
+-- these lower-case names are those of the properties
+abbrev pub AreNamesOf : List (List ℕ) → List Property → Type 0
+AreNamesOf names list = (q : List ℕ) → list_any (bytes_eq q) names ≡ list_any (λ p. bytes_eq q (str_to_ascii_lowercase p.name)) list

@@ -6,5 +6,6 @@ pub mod fault;
 pub mod frame;
 pub mod greeting;
 pub mod metadata;
+mod names;
 pub mod reader;
 pub mod writing;
