@@ -1,3 +1,6 @@
 pub mod Sizes
 pub mod Kept
 pub mod NameSets
+pub mod Pieces
+pub mod Whole
+mod Rows

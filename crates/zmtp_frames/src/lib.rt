@@ -5,6 +5,7 @@ pub mod command;
 pub mod fault;
 pub mod frame;
 pub mod greeting;
+pub mod laws;
 pub mod metadata;
 mod names;
 pub mod reader;
