@@ -34,8 +34,8 @@ pub put : {K : Type 0} (items : K → List ℕ) (q : List ℕ) (k : K) (ks : Lis
 put items q k [] = refl
 put items q k (x ∷ xs) =
     elim (slice_cmp nat_cmp (items k) (items x)) as (λ o. slice_cmp nat_cmp (items k) (items x) ≡ o
-        → Put items q k (x ∷ xs) (match_ordering o (k ∷ x ∷ xs) (x ∷ xs) (x ∷ insert_key (λ a b. slice_cmp nat_cmp (items a) (items b)) xs k)))
-    [ Less ↦ λ e. refl
-    | Equal ↦ λ e. rw (same_key (items k) (items x) e) (or_same (bytes_eq q (items x)) (list_any (bytes_eq q) (map items xs)))
-    | Greater ↦ λ e. rw (put items q k xs) (or_swap (bytes_eq q (items x)) (bytes_eq q (items k)) (list_any (bytes_eq q) (map items xs)))
+    → Put items q k (x ∷ xs) (match_ordering o (k ∷ x ∷ xs) (x ∷ xs) (x ∷ insert_key (λ a b. slice_cmp nat_cmp (items a) (items b)) xs k))) [
+      | Less ↦ λ e. refl
+      | Equal ↦ λ e. rw (same_key (items k) (items x) e) (or_same (bytes_eq q (items x)) (list_any (bytes_eq q) (map items xs)))
+      | Greater ↦ λ e. rw (put items q k xs) (or_swap (bytes_eq q (items x)) (bytes_eq q (items k)) (list_any (bytes_eq q) (map items xs)))
     ] refl

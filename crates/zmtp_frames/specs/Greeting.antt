@@ -21,10 +21,10 @@ difference place (x ∷ xs) (y ∷ ys) = if x == y then difference (place + 1) x
 abbrev pub greeting_fault : List ℕ → Option FrameFault
 greeting_fault octets =
     if slice_index octets 0 == 255 then
-        if slice_index octets 9 == 127 then
-            if nat_lt (slice_index octets 10) 3 then Some (BadVersion 10)
-            else option_map BadMechanism (difference 12 null_mechanism (take 20 (drop 12 octets)))
-        else Some (BadSignature 9)
+    if slice_index octets 9 == 127 then
+    if nat_lt (slice_index octets 10) 3 then Some (BadVersion 10)
+    else option_map BadMechanism (difference 12 null_mechanism (take 20 (drop 12 octets)))
+    else Some (BadSignature 9)
     else Some (BadSignature 0)
 
 -- the greeting that is written: version 3.0, and zeros wherever a reader looks at nothing

@@ -73,10 +73,7 @@ fn read_identity(property: Option<&Property>) -> Result<Option<Octets>, CommandE
 }
 
 /// What these two properties say.
-fn props_from(
-    socket_type: &Property,
-    identity: Option<&Property>,
-) -> Result<Props, CommandError>
+fn props_from(socket_type: &Property, identity: Option<&Property>) -> Result<Props, CommandError>
     ensures { Gives (λ x. x) result (option_map (props_with socket_type.now) (identity_of (option_copied identity.entry))) }
 {
     let identity = read_identity(identity)?;

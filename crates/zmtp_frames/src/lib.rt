@@ -9,4 +9,6 @@ pub mod laws;
 pub mod metadata;
 mod names;
 pub mod reader;
+#[cfg(test)]
+mod tests;
 pub mod writing;
