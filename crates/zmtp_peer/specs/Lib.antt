@@ -1,0 +1,2 @@
+pub mod PeerStream
+pub mod Message
