@@ -3,6 +3,7 @@
 #![tactic(auto)]
 
 pub mod fault;
+pub mod laws;
 pub mod parts;
 pub mod peer;
 pub mod phase;
