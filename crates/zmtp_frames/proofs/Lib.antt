@@ -3,4 +3,6 @@ pub mod Kept
 pub mod NameSets
 pub mod Pieces
 pub mod Whole
+pub mod Given
+pub mod Spelled
 mod Rows

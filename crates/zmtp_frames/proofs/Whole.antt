@@ -68,7 +68,7 @@ behind_size place head (x ∷ xs) le =
       ap (λ (o : Option Frame). listed o ++ frames (record { place = place; stage = sized head (length (x ∷ xs)); body = [] }) (x ∷ xs)) none ∙ ap (λ (s : Stage). frames (record { place = place; stage = s; body = [] }) (x ∷ xs)) is ∙ b.given,
     )
 
-place_append : (place : ℕ) (xs ys : List ℕ) → place_after place (xs ++ ys) ≡ place_after (place_after place xs) ys
+pub place_append : (place : ℕ) (xs ys : List ℕ) → place_after place (xs ++ ys) ≡ place_after (place_after place xs) ys
 place_append place [] ys = refl
 place_append place (x ∷ xs) ys = place_append (up place) xs ys
 

@@ -38,16 +38,30 @@ AreFrames place octets (f ∷ fs) =
 
 -- octets that begin a frame at this place and don't end it, by what stands unfinished; behind a fault any octets may follow
 abbrev pub IsUnfinished : ℕ → List ℕ → Stage → List ℕ → Type 0
-IsUnfinished at octets Between body = octets ≡ []
+IsUnfinished at octets Between body = (octets ≡ []) × (body ≡ [])
 IsUnfinished at octets (Sizing head left size) body =
     (flags : ℕ) × (sizes : List ℕ) × (octets ≡ flags ∷ sizes) × (are_flags flags ≡ true) × (head ≡ head_of at flags)
-    × (length sizes + left ≡ size_width flags) × (number_from 0 sizes ≡ size)
+    × (0 < left) × (length sizes + left ≡ size_width flags) × (number_from 0 sizes ≡ size) × (body ≡ [])
 IsUnfinished at octets (Filling head size left) body =
     (flags : ℕ) × (sizes : List ℕ) × (octets ≡ flags ∷ (sizes ++ body)) × (are_flags flags ≡ true) × (head ≡ head_of at flags)
-    × (length sizes ≡ size_width flags) × (number_from 0 sizes ≡ size) × (size ≤ body_limit) × (length body + left ≡ size)
+    × (length sizes ≡ size_width flags) × (number_from 0 sizes ≡ size) × (size ≤ body_limit) × (0 < left) × (length body + left ≡ size)
 IsUnfinished at octets (Ended (BadFlags place) b) body =
     (flags : ℕ) × (more : List ℕ) × (octets ≡ flags ∷ more) × (are_flags flags ≡ false) × (place ≡ at) × (b ≡ begun (head_of at flags) None)
 IsUnfinished at octets (Ended (FrameTooLong place) b) body =
     (flags : ℕ) × (sizes : List ℕ) × (more : List ℕ) × (octets ≡ flags ∷ (sizes ++ more)) × (are_flags flags ≡ true)
     × (length sizes ≡ size_width flags) × (body_limit < number_from 0 sizes) × (place ≡ at) × (b ≡ begun (head_of at flags) (Some (number_from 0 sizes)))
 IsUnfinished at octets (Ended _ b) body = ⊥
+
+-- the next octet has this place, unless a fault has ended the stream
+abbrev pub IsPlaced : Stage → ℕ → ℕ → Type 0
+IsPlaced (Ended fault b) place next = Unit {0}
+IsPlaced _ place next = place ≡ next
+
+-- all octets from this place on are those of the frames, and then those of the frame that isn't whole or that has the fault
+pub record IsReadingOf (place : ℕ) (octets : List ℕ) (r : Reading) (list : List Frame) : Type 0 where
+  pub front : List ℕ
+  pub rest : List ℕ
+  pub parts : octets ≡ front ++ rest
+  pub are : AreFrames place front list
+  pub left : IsUnfinished (place_after place front) rest r.stage r.body
+  pub placed : IsPlaced r.stage r.place (place_after place octets)
