@@ -1,5 +1,5 @@
 -- The frames given are those that the octets stand for, up to the one that isn't whole.
-use Rattle.std.proofs.Common.{◌≡◌, ℕ, zero, suc, ◌+◌, ◌-◌, ◌*◌, ◌/◌, ◌%◌, ◌<◌, ◌≤◌, Bool, true, false, List, [], ◌∷◌, ◌++◌, length, Option, Some, None, refl, sym, ap, subst, ◌∙◌, append_assoc, arith, nat_lt}
+use Rattle.std.proofs.Common.{◌≡◌, ℕ, ◌+◌, ◌-◌, ◌*◌, ◌/◌, ◌%◌, ◌<◌, ◌≤◌, Bool, true, false, List, [], ◌∷◌, ◌++◌, length, Option, Some, None, refl, sym, ap, subst, ◌∙◌, append_assoc, arith, nat_lt}
 use Rattle.std.specs.Prelude.{◌==◌, if◌then◌else◌}
 use Rattle.std.proofs.lemmas.Bool.Decides.{nat_tests}
 use Rattle.std.proofs.lemmas.List.{append-nil, length-append}
@@ -10,7 +10,7 @@ use Rattle.zmtp_frames.specs.declared.frame.Stage.TheVariants.{Between, Sizing, 
 use Rattle.zmtp_frames.specs.declared.frame.Begun.{Begun}
 use Rattle.zmtp_frames.specs.declared.fault.FrameFault.{FrameFault}
 use Rattle.zmtp_frames.specs.declared.fault.FrameFault.TheVariants.{BadSignature, BadVersion, BadMechanism, BadFlags, FrameTooLong}
-use Rattle.zmtp_frames.specs.Stream.{Reading, start, up, step, step_at, listed, after, frames, frame, begun, sized, whole_at, head_of, flagged, are_flags, size_width, body_limit}
+use Rattle.zmtp_frames.specs.Stream.{Reading, start, up, step, listed, after, frames, frame, begun, sized, whole_at, head_of, flagged, are_flags, size_width, body_limit}
 use Rattle.zmtp_frames.specs.Grammar.{IsFrame, AreFrames, IsUnfinished, IsPlaced, IsReadingOf, number_from, place_after}
 use Rattle.zmtp_frames.proofs.Whole.{place_append}
 
@@ -34,7 +34,11 @@ are_more : (place : ℕ) (octets : List ℕ) (list : List Frame) → AreFrames p
 are_more place octets [] e f piece at is =
     subst (λ (xs : List ℕ). AreFrames place (xs ++ piece) (f ∷ [])) (sym e) (piece, [], sym (append-nil piece), at ∙ ap (place_after place) e, is, refl)
 are_more place octets (g ∷ gs) (front, rest, parts, first, is-first, more) f piece at is = (
-  front, rest ++ piece, ap (λ (xs : List ℕ). xs ++ piece) parts ∙ append_assoc front rest piece, first, is-first,
+  front,
+  rest ++ piece,
+  ap (λ (xs : List ℕ). xs ++ piece) parts ∙ append_assoc front rest piece,
+  first,
+  is-first,
   are_more (place_after place front) rest gs more f piece (at ∙ ap (place_after place) parts ∙ place_append place front rest) is,
 )
 
@@ -134,24 +138,24 @@ sized_by place octets x p size head body list k =
     let parts : k.rest ++ x ∷ [] ≡ flags ∷ (sizes ++ x ∷ []) = ap (λ (xs : List ℕ). xs ++ x ∷ []) is in
     let whole : length (sizes ++ x ∷ []) ≡ size_width flags = one_more sizes x ∙ width in
     let long : body_limit < n → Next place (octets ++ x ∷ []) list (record { place = up p; stage = Ended (FrameTooLong head.at) (begun head (Some n)); body = [] }, None) = λ h.
-        stays place octets x _ list k (record { place = up p; stage = Ended (FrameTooLong head.at) (begun head (Some n)); body = [] })
-        (flags, sizes ++ x ∷ [], [], parts ∙ ap (λ (xs : List ℕ). flags ∷ xs) (sym (append-nil (sizes ++ x ∷ []))), allowed, whole, subst (λ (m : ℕ). body_limit < m) (sym number) h, ap (λ (d : Head). d.at) head-is, rw (number, head-is) refl) tt in
+    stays place octets x _ list k (record { place = up p; stage = Ended (FrameTooLong head.at) (begun head (Some n)); body = [] })
+    (flags, sizes ++ x ∷ [], [], parts ∙ ap (λ (xs : List ℕ). flags ∷ xs) (sym (append-nil (sizes ++ x ∷ []))), allowed, whole, subst (λ (m : ℕ). body_limit < m) (sym number) h, ap (λ (d : Head). d.at) head-is, rw (number, head-is) refl) tt in
     let empty : n ≡ 0 → Next place (octets ++ x ∷ []) list (record { place = up p; stage = Between; body = [] }, Some (frame head [])) = λ h.
-        ends place octets x _ list k (up p) (frame head []) (ap (λ (d : Head). d.at) head-is)
-        (record {
-          flags = flags;
-          size = sizes ++ x ∷ [];
-          parts = parts ∙ ap (λ (xs : List ℕ). flags ∷ xs) (sym (append-nil (sizes ++ x ∷ [])));
-          allowed = allowed;
-          more = ap (λ (d : Head). d.more) head-is;
-          command = ap (λ (d : Head). d.command) head-is;
-          width = whole;
-          value = number ∙ h;
-          limit = omega arith;
-        }) next in
+    ends place octets x _ list k (up p) (frame head []) (ap (λ (d : Head). d.at) head-is)
+    (record {
+      flags = flags;
+      size = sizes ++ x ∷ [];
+      parts = parts ∙ ap (λ (xs : List ℕ). flags ∷ xs) (sym (append-nil (sizes ++ x ∷ [])));
+      allowed = allowed;
+      more = ap (λ (d : Head). d.more) head-is;
+      command = ap (λ (d : Head). d.command) head-is;
+      width = whole;
+      value = number ∙ h;
+      limit = omega arith;
+    }) next in
     let fill : n ≤ body_limit → 0 < n → Next place (octets ++ x ∷ []) list (record { place = up p; stage = Filling head n n; body = [] }, None) = λ small some.
-        stays place octets x _ list k (record { place = up p; stage = Filling head n n; body = [] })
-        (flags, sizes ++ x ∷ [], parts ∙ ap (λ (xs : List ℕ). flags ∷ xs) (sym (append-nil (sizes ++ x ∷ []))), allowed, head-is, whole, number, small, some, none_before n) next in
+    stays place octets x _ list k (record { place = up p; stage = Filling head n n; body = [] })
+    (flags, sizes ++ x ∷ [], parts ∙ ap (λ (xs : List ℕ). flags ∷ xs) (sym (append-nil (sizes ++ x ∷ []))), allowed, head-is, whole, number, small, some, none_before n) next in
     subst (λ (b : List ℕ). Next place (octets ++ x ∷ []) list (record { place = up p; stage = sized head n; body = b }, whole_at head n)) (sym no-body)
     (sized_by_tests (λ (s : Stage) (o : Option Frame). Next place (octets ++ x ∷ []) list (record { place = up p; stage = s; body = [] }, o)) head n (nat_lt body_limit n) (n == 0) refl refl long empty fill)
 

@@ -1,5 +1,5 @@
 -- The octets of a body that began before a call stand in the first frame that the call gives, or are still there.
-use Rattle.std.proofs.Common.{◌≡◌, ℕ, ◌<◌, ◌≤◌, Bool, true, false, List, [], ◌∷◌, ◌++◌, Option, Some, None, refl, subst, sym, ap, ◌∙◌, append_assoc}
+use Rattle.std.proofs.Common.{◌≡◌, ℕ, Bool, true, false, List, [], ◌∷◌, ◌++◌, Option, Some, None, refl, subst, sym}
 use Rattle.std.specs.Prelude.{◌+◌, ◌*◌, ◌-◌, ◌==◌, if◌then◌else◌}
 use Rattle.std.proofs.lemmas.List.{append-nil}
 use Rattle.zmtp_frames.specs.declared.frame.Head.{Head}
@@ -45,6 +45,3 @@ pub step_kept : (list new : List Frame) (r next : Reading) (o : Option Frame) (x
 step_kept list new r next o x sound is now =
     let k = step_keeps list r x sound in
     (k.0, rw now (subst (λ (s : Reading × Option Frame). first_body (list ++ listed s.1) s.0.body ≡ first_body list r.body ++ k.0) is k.1))
-
-pub joined : (a b c : List ℕ) → ((rest : List ℕ) × (b ≡ a ++ rest)) → ((rest : List ℕ) × (c ≡ b ++ rest)) → (rest : List ℕ) × (c ≡ a ++ rest)
-joined a b c (r, e) (s, f) = (r ++ s, f ∙ ap (λ (xs : List ℕ). xs ++ s) e ∙ append_assoc a r s)

@@ -1,12 +1,12 @@
 -- Worked rows of greetings, frames and commands, computed over the definitions.
-use Rattle.std.proofs.Common.{◌≡◌, ℕ, zero, suc, ◌+◌, ◌-◌, List, [], ◌∷◌, ◌++◌, Option, Some, None, refl, true, false, length, take, drop}
+use Rattle.std.proofs.Common.{◌≡◌, ℕ, List, [], ◌∷◌, ◌++◌, Some, None, refl, true, false, drop}
 use Rattle.std.specs.Prelude.{codes}
-use Rattle.octet_fields.specs.Spelling.{be32, be64, str8, blob}
+use Rattle.octet_fields.specs.Spelling.{be32, be64, str8}
 use Rattle.octet_fields.specs.Reading.{str8_at, blob_at}
 use Rattle.zmtp_frames.specs.declared.frame.Frame.{Frame}
 use Rattle.zmtp_frames.specs.declared.fault.FrameFault.TheVariants.{BadSignature, BadVersion, BadMechanism, BadFlags, FrameTooLong}
 use Rattle.zmtp_frames.specs.declared.command.Command.TheVariants.{Ready, Error, Other}
-use Rattle.zmtp_frames.specs.Stream.{Reading, start, after, frames, begun_at, fault_at}
+use Rattle.zmtp_frames.specs.Stream.{start, after, frames, begun_at, fault_at}
 use Rattle.zmtp_frames.specs.Greeting.{zeros, null_mechanism, own_greeting, greeting_fault}
 use Rattle.zmtp_frames.specs.Command.{command_of, property_at}
 use Rattle.zmtp_frames.specs.Written.{written, written_property, own_ready, written_error}

@@ -1,14 +1,14 @@
 -- A frame's octets give this frame, and nothing is begun after them.
-use Rattle.std.proofs.Common.{◌≡◌, ℕ, zero, suc, ◌+◌, ◌-◌, ◌*◌, ◌/◌, ◌%◌, ◌<◌, ◌≤◌, Bool, true, false, List, [], ◌∷◌, ◌++◌, length, Option, Some, None, refl, sym, ap, subst, ◌∙◌, append_assoc, arith}
+use Rattle.std.proofs.Common.{◌≡◌, ℕ, ◌+◌, ◌-◌, ◌*◌, ◌/◌, ◌%◌, ◌<◌, ◌≤◌, Bool, true, false, List, [], ◌∷◌, ◌++◌, length, Option, None, refl, sym, ap, subst, ◌∙◌, append_assoc, arith}
 use Rattle.std.specs.Prelude.{nat_lt, ◌==◌, if◌then◌else◌}
-use Rattle.std.proofs.lemmas.Bool.{eq-eqb, le-ltb}
+use Rattle.std.proofs.lemmas.Bool.{le-ltb}
 use Rattle.std.proofs.lemmas.Bool.Decides.{nat_tests}
 use Rattle.std.proofs.lemmas.List.{append-nil}
 use Rattle.zmtp_frames.specs.declared.frame.Head.{Head}
 use Rattle.zmtp_frames.specs.declared.frame.Frame.{Frame}
 use Rattle.zmtp_frames.specs.declared.frame.Stage.{Stage}
-use Rattle.zmtp_frames.specs.declared.frame.Stage.TheVariants.{Between, Sizing, Filling, Ended}
-use Rattle.zmtp_frames.specs.Stream.{Reading, start, up, step, listed, after, frames, frame, sized, whole_at, head_of, flagged, are_flags, size_width}
+use Rattle.zmtp_frames.specs.declared.frame.Stage.TheVariants.{Sizing, Filling}
+use Rattle.zmtp_frames.specs.Stream.{Reading, start, up, step, listed, after, frames, frame, sized, whole_at, head_of, are_flags, size_width}
 use Rattle.zmtp_frames.specs.Grammar.{IsFrame, AreFrames, number_from, place_after}
 use Rattle.zmtp_frames.proofs.Pieces.{after_append, frames_append}
 

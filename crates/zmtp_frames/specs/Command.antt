@@ -1,11 +1,10 @@
 -- Commands (RFC 23, Commands and The NULL mechanism): a name behind its length, then data. The data of READY is
 -- metadata: properties, each a name behind its length in one octet and a value behind its length in four. Names are
 -- compared without regard to ASCII case.
-use Rattle.std.specs.Prelude.{◌≡◌, ℕ, zero, suc, nat_le, ◌==◌, List, [], ◌∷◌, ◌++◌, length, codes, bytes_eq, Option, Some, None, Result, Ok, Err, Bool, true, false, ◌||◌, if◌then◌else◌, option_map}
+use Rattle.std.specs.Prelude.{◌≡◌, ℕ, zero, suc, nat_le, ◌==◌, List, [], ◌∷◌, ◌++◌, length, codes, bytes_eq, Option, Some, None, Result, Ok, Err, Bool, ◌||◌, if◌then◌else◌, option_map}
 use Rattle.std.specs.Option.{option_and_then}
 use Rattle.std.specs.List.{list_any, find}
 use Rattle.std.specs.Str.{str_to_ascii_lowercase}
-use Rattle.octet_fields.specs.declared.stop.Stop.{Stop}
 use Rattle.octet_fields.specs.Reading.{Read, str8_at, blob_at, ◌>>=◌}
 use Rattle.zmtp_frames.specs.declared.command.Command.{Command}
 use Rattle.zmtp_frames.specs.declared.command.Command.TheVariants.{Ready, Error, Other}

@@ -1,10 +1,8 @@
 -- Which octets stand for frames (RFC 23, Framing): flags, size and body, one frame behind another, the size in either form.
-use Rattle.std.specs.Prelude.{◌≡◌, ℕ, ◌+◌, ◌*◌, ◌/◌, ◌%◌, ◌<◌, ◌≤◌, ◌==◌, List, [], ◌∷◌, ◌++◌, length, Some, None, true, false, if◌then◌else◌}
-use Rattle.zmtp_frames.specs.declared.frame.Head.{Head}
+use Rattle.std.specs.Prelude.{◌≡◌, ℕ, ◌+◌, ◌*◌, ◌/◌, ◌%◌, ◌<◌, ◌≤◌, ◌==◌, List, [], ◌∷◌, ◌++◌, length, Some, None, true, false}
 use Rattle.zmtp_frames.specs.declared.frame.Frame.{Frame}
 use Rattle.zmtp_frames.specs.declared.frame.Stage.{Stage}
 use Rattle.zmtp_frames.specs.declared.frame.Stage.TheVariants.{Between, Sizing, Filling, Ended}
-use Rattle.zmtp_frames.specs.declared.fault.FrameFault.{FrameFault}
 use Rattle.zmtp_frames.specs.declared.fault.FrameFault.TheVariants.{BadFlags, FrameTooLong}
 use Rattle.zmtp_frames.specs.Stream.{Reading, are_flags, size_width, body_limit, head_of, begun, up}
 

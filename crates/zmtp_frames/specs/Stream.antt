@@ -1,5 +1,5 @@
 -- A stream of frames (RFC 23, Framing), octet by octet: a frame is flags, size and body.
-use Rattle.std.specs.Prelude.{◌≡◌, ℕ, ◌+◌, ◌-◌, ◌*◌, ◌/◌, ◌%◌, ◌^◌, ◌<◌, ◌≤◌, nat_lt, ◌==◌, min, List, [], ◌∷◌, ◌++◌, Option, Some, None, Bool, true, false, not, ◌&&◌, ◌||◌, if◌then◌else◌}
+use Rattle.std.specs.Prelude.{◌≡◌, ℕ, ◌+◌, ◌-◌, ◌*◌, ◌/◌, ◌%◌, ◌^◌, ◌<◌, ◌≤◌, nat_lt, ◌==◌, min, List, [], ◌∷◌, ◌++◌, Option, Some, None, Bool, not, ◌&&◌, if◌then◌else◌}
 use Rattle.zmtp_frames.specs.declared.frame.Head.{Head}
 use Rattle.zmtp_frames.specs.declared.frame.Frame.{Frame}
 use Rattle.zmtp_frames.specs.declared.frame.Begun.{Begun}

@@ -1,5 +1,5 @@
 -- What is written: of the two forms of a size, the short one where it holds the size.
-use Rattle.std.specs.Prelude.{ℕ, ◌+◌, nat_le, List, [], ◌∷◌, ◌++◌, length, codes, Bool, true, false, if◌then◌else◌}
+use Rattle.std.specs.Prelude.{ℕ, ◌+◌, nat_le, List, ◌∷◌, ◌++◌, length, codes, Bool, if◌then◌else◌}
 use Rattle.octet_fields.specs.Spelling.{be64, str8, blob}
 
 -- a body behind its size, and flags that say which form the size has

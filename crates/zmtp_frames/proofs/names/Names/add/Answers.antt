@@ -1,5 +1,4 @@
-use Rattle.std.proofs.Common.{rules, ◌≡◌, ◌||◌, ◌∙◌, ap, List, ℕ, not, bytes_eq, refl}
-use Rattle.std.specs.List.{list_any}
+use Rattle.std.proofs.Common.{ap, not}
 use Rattle.zmtp_frames.proofs.NameSets.{held, put}
 use Rattle.zmtp_frames.proofs.names.Names.add.Goals as goal
 

@@ -1,4 +1,4 @@
-use Rattle.std.proofs.Common.{rules, ◌≡◌, List, ℕ, ◌++◌, refl}
+use Rattle.std.proofs.Common.{rules, refl}
 use Rattle.zmtp_frames.proofs.Kept.{step_kept}
 use Rattle.zmtp_frames.proofs.reader.FrameReader.add_octet.Goals as goal
 

@@ -1,4 +1,4 @@
-use Rattle.std.proofs.Common.{rules, arith, ◌<◌, ◌+◌, ◌*◌, ◌^◌}
+use Rattle.std.proofs.Common.{rules, arith}
 use Rattle.zmtp_frames.proofs.Sizes.{size_fits, size_next}
 use Rattle.zmtp_frames.proofs.reader.FrameReader.size_octet.Goals as goal
 
