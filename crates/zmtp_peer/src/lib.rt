@@ -7,4 +7,6 @@ pub mod laws;
 pub mod parts;
 pub mod peer;
 pub mod phase;
+#[cfg(test)]
+mod tests;
 pub mod writing;

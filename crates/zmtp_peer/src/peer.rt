@@ -148,13 +148,20 @@ fn hear_first(alloc: Global, frame: &Frame) -> Result<Heard, AllocError>
             let heard = shake(alloc, frame.at, command)?;
             Ok(heard)
         }
-        Err(CommandError::BadCommand) => Ok(quiet_in(alloc, Phase::Ended(PeerFault::BadCommand(frame.at)))),
+        Err(CommandError::BadCommand) => Ok(quiet_in(
+            alloc,
+            Phase::Ended(PeerFault::BadCommand(frame.at)),
+        )),
         Err(CommandError::OutOfMemory) => Err(AllocError),
     }
 }
 
 /// Takes a frame of traffic: the parts that are left, and the message that it ends.
-fn hear_message(alloc: Global, parts: &mut Parts, frame: &Frame) -> Result<Option<Frames>, AllocError>
+fn hear_message(
+    alloc: Global,
+    parts: &mut Parts,
+    frame: &Frame,
+) -> Result<Option<Frames>, AllocError>
     ensures parts { OnOk result (parts.new ≡ parts_after Phase.Traffic parts.old (Some frame.now)) }
     ensures message { IfOk result (λ m. m ≡ message_of parts.old frame.now) }
 {

@@ -1,0 +1,195 @@
+//! Streams of peers, and what is written to them.
+
+use crate::fault::PeerFault;
+use crate::peer::Peer;
+use crate::phase::{FramesList, PeerFed};
+use crate::writing::{error_octets, message_octets};
+use edges::frames::Frames;
+use std::alloc::{AllocError, Global};
+use std::test::Fail;
+use zmtp_frames::fault::FrameFault;
+
+/// A greeting as libzmq sends it: a length in the padding, and version 3.1.
+const GREETING: &[u8; 64] =
+    b"\xff\0\0\0\0\0\0\0\x01\x7f\x03\x01NULL\0\0\0\0\0\0\0\0\0\0\0\0\0\0\0\0\0\0\0\0\0\0\0\0\0\0\0\0\0\0\0\0\0\0\0\0\0\0\0\0\0\0\0\0\0\0\0\0";
+
+/// The READY of a DEALER with the identity `e`.
+const DEALER: &[u8; 44] =
+    b"\x04\x2a\x05READY\x0bSocket-Type\x00\x00\x00\x06DEALER\x08Identity\x00\x00\x00\x01e";
+
+/// The READY of a REQ.
+const REQ: &[u8; 27] = b"\x04\x19\x05READY\x0bSocket-Type\x00\x00\x00\x03REQ";
+
+/// A READY as a ROUTER sends it.
+const ROUTER: &[u8; 30] = b"\x04\x1c\x05READY\x0bSocket-Type\x00\x00\x00\x06ROUTER";
+
+/// The message of the frames `ab` and an empty one, and the flags of a command inside another message.
+const TRAFFIC: &[u8; 9] = b"\x01\x02ab\x00\x00\x01\x00\x04";
+
+/// A frame of 16,777,216 octets, up to its body, with MORE.
+const LONGEST: &[u8; 9] = b"\x03\x00\x00\x00\x00\x01\x00\x00\x00";
+
+/// The octets of a connection.
+fn connection(alloc: Global, ready: &[u8], traffic: &[u8]) -> Result<Vec<u8>, AllocError> {
+    let mut octets = Vec::from_slice(alloc, GREETING)?;
+    octets.extend_from_slice(ready)?;
+    octets.extend_from_slice(traffic)?;
+    Ok(octets)
+}
+
+/// What a new peer gives that is fed these octets.
+fn fed_all(alloc: Global, octets: &[u8]) -> Result<PeerFed, AllocError> {
+    let mut peer = Peer::new(alloc);
+    peer.feed(octets)
+}
+
+/// The fault of a connection with these octets behind the greeting.
+fn fault_behind(alloc: Global, octets: &[u8]) -> Result<Option<PeerFault>, AllocError> {
+    let whole = connection(alloc, octets, b"")?;
+    Ok(fed_all(alloc, whole.as_slice())?.fault)
+}
+
+/// Whether these messages are the one of `ab` and an empty frame.
+fn is_ab(messages: &FramesList) -> bool {
+    match messages.get(0) {
+        Some(message) => {
+            messages.len() == 1
+                && message.len() == 2
+                && message.get(0) == Some(b"ab".as_slice())
+                && message.get(1) == Some(b"".as_slice())
+        }
+        None => false,
+    }
+}
+
+#[test]
+fn in_one_piece(rt: HostRuntime) -> Result<(), Fail> {
+    let octets = connection(rt.alloc(), DEALER, TRAFFIC)?;
+    let fed = fed_all(rt.alloc(), octets.as_slice())?;
+    assert_eq!(rt; fed.send.as_slice(), ROUTER.as_slice());
+    let identity = fed.ready.ok_or("no identity")?;
+    assert_eq!(rt; identity.as_slice(), b"e".as_slice());
+    assert!(rt; is_ab(&fed.messages));
+    assert_eq!(rt; fed.fault, Some(PeerFault::BadCommand(116)));
+    Ok(())
+}
+
+#[test]
+fn cut_at_every_octet(rt: HostRuntime) -> Result<(), Fail> {
+    let octets = connection(rt.alloc(), DEALER, TRAFFIC)?;
+    let mut peer = Peer::new(rt.alloc());
+    let mut send = Vec::new(rt.alloc());
+    let mut ready = 0u8;
+    let mut count: usize = 0;
+    for octet in octets.as_slice() {
+        let fed = peer.feed(&[*octet])?;
+        send.extend_from_slice(fed.send.as_slice())?;
+        if fed.ready.is_some() {
+            ready = ready.saturating_add(1);
+        }
+        count = count.saturating_add(fed.messages.len());
+    }
+    assert_eq!(rt; send.as_slice(), ROUTER.as_slice());
+    assert_eq!(rt; (ready, count), (1, 1));
+    assert_eq!(rt; peer.fault(), Some(PeerFault::BadCommand(116)));
+    Ok(())
+}
+
+#[test]
+fn greeting_is_sent_at_once(rt: HostRuntime) -> Result<(), Fail> {
+    let peer = Peer::new(rt.alloc());
+    let greeting = peer.greeting();
+    assert_eq!(rt;
+        &greeting[..12],
+        b"\xff\0\0\0\0\0\0\0\0\x7f\x03\0".as_slice()
+    );
+    assert_eq!(rt;
+        &greeting[12..32],
+        b"NULL\0\0\0\0\0\0\0\0\0\0\0\0\0\0\0\0".as_slice()
+    );
+    Ok(())
+}
+
+#[test]
+fn req_is_refused(rt: HostRuntime) -> Result<(), Fail> {
+    let octets = connection(rt.alloc(), REQ, b"")?;
+    let fed = fed_all(rt.alloc(), octets.as_slice())?;
+    assert_eq!(rt; fed.fault, Some(PeerFault::BadSocketType(64)));
+    assert!(rt; fed.ready.is_none());
+    assert_eq!(rt;
+        fed.send.as_slice().get(30..),
+        Some(b"\x04\x12\x05ERROR\x0bSocket-Type".as_slice())
+    );
+    Ok(())
+}
+
+#[test]
+fn faults_of_the_handshake(rt: HostRuntime) -> Result<(), Fail> {
+    let alloc = rt.alloc();
+    assert_eq!(rt; fault_behind(alloc, b"\x00")?, Some(PeerFault::NoReady(64)));
+    assert_eq!(rt;
+        fault_behind(alloc, b"\x08")?,
+        Some(PeerFault::Frame(FrameFault::BadFlags(64)))
+    );
+    assert_eq!(rt;
+        fault_behind(alloc, b"\x04\x05\x04PING")?,
+        Some(PeerFault::NoReady(64))
+    );
+    assert_eq!(rt;
+        fault_behind(alloc, b"\x04\x06\x05READY")?,
+        Some(PeerFault::BadCommand(64))
+    );
+    assert_eq!(rt;
+        fault_behind(alloc, b"\x04\x0b\x05ERROR\x04busy")?,
+        Some(PeerFault::PeerError(64))
+    );
+    Ok(())
+}
+
+#[test]
+fn faults_of_the_greeting(rt: HostRuntime) -> Result<(), Fail> {
+    let mut greeting = *GREETING;
+    greeting[9] = 0x7e;
+    let fed = fed_all(rt.alloc(), &greeting)?;
+    assert_eq!(rt;
+        fed.fault,
+        Some(PeerFault::Frame(FrameFault::BadSignature(9)))
+    );
+    assert!(rt; fed.send.as_slice().is_empty());
+    Ok(())
+}
+
+#[test]
+fn octets_of_a_message(rt: HostRuntime) -> Result<(), Fail> {
+    let mut peer = Peer::new(rt.alloc());
+    peer.feed(connection(rt.alloc(), ROUTER, b"")?.as_slice())?;
+    let piece = [7u8; 65_536];
+    for _ in 0..2 {
+        peer.feed(LONGEST)?;
+        for _ in 0..256 {
+            peer.feed(&piece)?;
+        }
+    }
+    peer.feed(b"\x01\x00")?;
+    assert_eq!(rt; peer.fault(), None);
+    peer.feed(b"\x00\x01")?;
+    assert_eq!(rt; peer.fault(), Some(PeerFault::MessageTooLong(33_554_546)));
+    Ok(())
+}
+
+#[test]
+fn written(rt: HostRuntime) -> Result<(), Fail> {
+    let alloc = rt.alloc();
+    let mut frames = Frames::new(alloc);
+    frames.push(b"ab")?;
+    frames.push(b"")?;
+    assert_eq!(rt;
+        message_octets(alloc, &frames)?.as_slice(),
+        b"\x01\x02ab\x00\x00".as_slice()
+    );
+    assert_eq!(rt;
+        error_octets(alloc, "busy")?.as_slice(),
+        b"\x04\x0b\x05ERROR\x04busy".as_slice()
+    );
+    Ok(())
+}
