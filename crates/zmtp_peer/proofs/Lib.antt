@@ -1,3 +1,4 @@
 pub mod Messages
 pub mod Pieces
+pub mod Connected
 mod Rows

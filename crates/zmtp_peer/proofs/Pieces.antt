@@ -11,7 +11,7 @@ sent_append t [] ys = refl
 sent_append t (x ∷ xs) ys =
     ap (λ (zs : List ℕ). (talk t x).1.send ++ zs) (sent_append (talk t x).0 xs ys) ∙ sym (append_assoc (talk t x).1.send (sent (talk t x).0 xs) (sent (talked (talk t x).0 xs) ys))
 
-or_assoc : (a b c : Option (List ℕ)) → or_later a (or_later b c) ≡ or_later (or_later a b) c
+pub or_assoc : (a b c : Option (List ℕ)) → or_later a (or_later b c) ≡ or_later (or_later a b) c
 or_assoc (Some a) b c = refl
 or_assoc None b c = refl
 

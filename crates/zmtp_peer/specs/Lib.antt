@@ -1,2 +1,3 @@
 pub mod PeerStream
 pub mod Message
+pub mod Connection

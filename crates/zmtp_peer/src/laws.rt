@@ -1,7 +1,9 @@
 //! Laws of a peer's stream.
 
 ghost use Rattle.std.specs.Prelude.{◌≡◌, List, ℕ, ◌++◌};
-ghost use Rattle.zmtp_peer.specs.PeerStream.{Talk, talked, sent, identity, or_later, messages};
+ghost use Rattle.zmtp_peer.specs.declared.phase.Phase.{Phase};
+ghost use Rattle.zmtp_peer.specs.Connection.{IsConnection};
+ghost use Rattle.zmtp_peer.specs.PeerStream.{Talk, begins, talked, sent, identity, or_later, messages};
 
 /// It doesn't matter how a stream is cut.
 pub fn any_pieces()
@@ -9,4 +11,9 @@ pub fn any_pieces()
     ensures sent { (t : Talk) (xs ys : List ℕ) → sent t (xs ++ ys) ≡ sent t xs ++ sent (talked t xs) ys }
     ensures identity { (t : Talk) (xs ys : List ℕ) → identity t (xs ++ ys) ≡ or_later (identity t xs) (identity (talked t xs) ys) }
     ensures messages { (t : Talk) (xs ys : List ℕ) → messages t (xs ++ ys) ≡ messages t xs ++ messages (talked t xs) ys }
+{}
+
+/// A stream that is in traffic is a greeting, a READY and messages: what it gave is what its frames say.
+pub fn in_traffic()
+    ensures { (octets : List ℕ) → (talked begins octets).phase ≡ Phase.Traffic → IsConnection octets (talked begins octets) (sent begins octets) (identity begins octets) (messages begins octets) }
 {}
