@@ -1,11 +1,10 @@
 -- What is known of a stream that has no fault.
-use Rattle.std.proofs.Common.{◌≡◌, ℕ, zero, suc, ◌+◌, ◌-◌, ◌*◌, ◌<◌, ◌≤◌, Bool, true, false, List, [], ◌∷◌, ◌++◌, length, Option, Some, None, refl, sym, ap, subst, ◌∙◌, append_assoc, arith}
-use Rattle.std.specs.Prelude.{◌==◌, if◌then◌else◌, codes}
+use Rattle.std.proofs.Common.{◌≡◌, ℕ, ◌+◌, ◌-◌, ◌*◌, ◌<◌, Bool, true, false, List, [], ◌∷◌, ◌++◌, length, Option, Some, None, refl, sym, ap, subst, ◌∙◌, append_assoc, arith}
+use Rattle.std.specs.Prelude.{◌==◌, if◌then◌else◌}
 use Rattle.std.specs.Option.{unwrap_or}
 use Rattle.std.proofs.lemmas.Bool.Decides.{nat_tests}
 use Rattle.std.proofs.lemmas.Option.{none-some}
 use Rattle.std.proofs.lemmas.List.{append-nil, length-append}
-use Rattle.zmtp_frames.specs.declared.frame.Head.{Head}
 use Rattle.zmtp_frames.specs.declared.frame.Frame.{Frame}
 use Rattle.zmtp_frames.specs.declared.frame.Begun.{Begun}
 use Rattle.zmtp_frames.specs.declared.frame.Stage.{Stage}
@@ -25,7 +24,7 @@ use Rattle.zmtp_peer.specs.declared.fault.PeerFault.TheVariants.{NoReady, BadCom
 use Rattle.zmtp_peer.specs.declared.phase.Phase.{Phase}
 use Rattle.zmtp_peer.specs.declared.phase.Phase.TheVariants.{Greeting, Handshake, Traffic, Ended}
 use Rattle.zmtp_peer.specs.declared.phase.Gave.{Gave}
-use Rattle.zmtp_peer.specs.PeerStream.{Talk, begins, talk, talk_at, greet, hear, hear_as, heard, shaken, quiet, nothing, refusal, parts_after, message_of, listed, begun_fault, first_fault, ended_by, greeting_phase, greeting_answer, is_served, talked, sent, identity, or_later, messages}
+use Rattle.zmtp_peer.specs.PeerStream.{Talk, begins, talk, greet, hear, hear_as, shaken, refusal, parts_after, message_of, listed, begun_fault, first_fault, ended_by, greeting_phase, greeting_answer, is_served, talked, sent, identity, or_later, messages}
 use Rattle.zmtp_peer.proofs.Pieces.{or_assoc}
 use Rattle.zmtp_peer.specs.Connection.{IsConnection, grouped, ungrouped}
 

@@ -1,4 +1,4 @@
-use Rattle.std.proofs.Common.{rules, ◌≡◌, ◌∙◌, ap}
+use Rattle.std.proofs.Common.{◌∙◌}
 use Rattle.zmtp_peer.proofs.Messages.{counted}
 use Rattle.zmtp_peer.proofs.parts.Parts.push.Goals as goal
 
