@@ -1,6 +1,7 @@
 -- Octets one after another.
 use Rattle.std.proofs.Common.{◌≡◌, ℕ, List, [], ◌∷◌, ◌++◌, Option, Some, None, refl, sym, ap, ◌∙◌, append_assoc}
-use Rattle.zmtp_peer.specs.PeerStream.{Talk, talk, talked, sent, identity, or_later, messages, listed}
+use Rattle.zmtp_frames.specs.Greeting.{own_greeting}
+use Rattle.zmtp_peer.specs.PeerStream.{Talk, talk, talked, sent, identity, or_later, messages, listed, fault_of, begins, peer_stream, with_piece}
 
 pub talked_append : (t : Talk) (xs ys : List ℕ) → talked t (xs ++ ys) ≡ talked (talked t xs) ys
 talked_append t [] ys = refl
@@ -25,3 +26,13 @@ pub messages_append : (t : Talk) (xs ys : List ℕ) → messages t (xs ++ ys) �
 messages_append t [] ys = refl
 messages_append t (x ∷ xs) ys =
     ap (λ (zs : List (List (List ℕ))). listed (talk t x).1.message ++ zs) (messages_append (talk t x).0 xs ys) ∙ sym (append_assoc (listed (talk t x).1.message) (messages (talk t x).0 xs) (messages (talked (talk t x).0 xs) ys))
+
+pub piece_more : (octets piece : List ℕ) → peer_stream (octets ++ piece) ≡ with_piece (peer_stream octets) (talked begins octets) piece
+piece_more octets piece =
+    rw (
+      talked_append begins octets piece,
+      sent_append begins octets piece,
+      identity_append begins octets piece,
+      messages_append begins octets piece,
+      append_assoc own_greeting (sent begins octets) (sent (talked begins octets) piece),
+    ) refl

@@ -204,3 +204,12 @@ peer_stream octets = record {
   messages = messages begins octets;
   fault = fault_of (talked begins octets).phase;
 }
+
+-- what they give with one piece more
+abbrev pub with_piece : PeerStream → Talk → List ℕ → PeerStream
+with_piece s t piece = record {
+  send = s.send ++ sent t piece;
+  identity = or_later s.identity (identity t piece);
+  messages = s.messages ++ messages t piece;
+  fault = fault_of (talked t piece).phase;
+}

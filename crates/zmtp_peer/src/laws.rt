@@ -3,7 +3,7 @@
 ghost use Rattle.std.specs.Prelude.{◌≡◌, List, ℕ, ◌++◌};
 ghost use Rattle.zmtp_peer.specs.declared.phase.Phase.{Phase};
 ghost use Rattle.zmtp_peer.specs.Connection.{IsConnection};
-ghost use Rattle.zmtp_peer.specs.PeerStream.{Talk, begins, talked, sent, identity, or_later, messages};
+ghost use Rattle.zmtp_peer.specs.PeerStream.{Talk, begins, talked, sent, identity, or_later, messages, peer_stream, with_piece};
 
 /// It doesn't matter how a stream is cut.
 pub fn any_pieces()
@@ -11,6 +11,11 @@ pub fn any_pieces()
     ensures sent { (t : Talk) (xs ys : List ℕ) → sent t (xs ++ ys) ≡ sent t xs ++ sent (talked t xs) ys }
     ensures identity { (t : Talk) (xs ys : List ℕ) → identity t (xs ++ ys) ≡ or_later (identity t xs) (identity (talked t xs) ys) }
     ensures messages { (t : Talk) (xs ys : List ℕ) → messages t (xs ++ ys) ≡ messages t xs ++ messages (talked t xs) ys }
+{}
+
+/// What all octets so far give is what they gave before a piece, with what the feed of the piece gives.
+pub fn next_piece()
+    ensures { (octets piece : List ℕ) → peer_stream (octets ++ piece) ≡ with_piece (peer_stream octets) (talked begins octets) piece }
 {}
 
 /// A stream that is in traffic is a greeting, a READY and messages: what it gave is what its frames say.
