@@ -1,4 +1,5 @@
 pub mod Messages
 pub mod Pieces
 pub mod Connected
+pub mod Faultless
 mod Rows

@@ -2,7 +2,7 @@
 
 ghost use Rattle.std.specs.Prelude.{◌≡◌, List, ℕ, ◌++◌};
 ghost use Rattle.zmtp_peer.specs.declared.phase.Phase.{Phase};
-ghost use Rattle.zmtp_peer.specs.Connection.{IsConnection};
+ghost use Rattle.zmtp_peer.specs.Connection.{IsConnection, IsFaultless};
 ghost use Rattle.zmtp_peer.specs.PeerStream.{Talk, begins, talked, sent, identity, or_later, messages, peer_stream, with_piece};
 
 /// It doesn't matter how a stream is cut.
@@ -21,4 +21,9 @@ pub fn next_piece()
 /// A stream that is in traffic is a greeting, a READY and messages: what it gave is what its frames say.
 pub fn in_traffic()
     ensures { (octets : List ℕ) → (talked begins octets).phase ≡ Phase.Traffic → IsConnection octets (talked begins octets) (sent begins octets) (identity begins octets) (messages begins octets) }
+{}
+
+/// A stream that has no fault by the grammar of frames and the limits of messages is in traffic.
+pub fn faultless()
+    ensures { (octets : List ℕ) → IsFaultless octets → (talked begins octets).phase ≡ Phase.Traffic }
 {}
