@@ -1,16 +1,12 @@
 -- A stream that has no fault by the grammar is in traffic.
-use Rattle.std.proofs.Common.{◌≡◌, ℕ, zero, suc, ◌+◌, ◌-◌, ◌*◌, ◌/◌, ◌%◌, ◌<◌, ◌≤◌, nat_lt, Bool, true, false, List, [], ◌∷◌, ◌++◌, length, Option, Some, None, refl, sym, ap, subst, ◌∙◌, append_assoc, arith}
+use Rattle.std.proofs.Common.{◌≡◌, ℕ, suc, ◌+◌, ◌-◌, ◌*◌, ◌/◌, ◌%◌, ◌<◌, ◌≤◌, nat_lt, Bool, true, false, List, [], ◌∷◌, ◌++◌, length, Option, Some, None, refl, sym, ap, subst, ◌∙◌, append_assoc, arith}
 use Rattle.std.specs.Prelude.{◌==◌, if◌then◌else◌}
-use Rattle.std.specs.Option.{unwrap_or}
 use Rattle.std.proofs.lemmas.Bool.{le-ltb, lt-ltb}
 use Rattle.std.proofs.lemmas.Bool.Decides.{nat_tests}
-use Rattle.std.proofs.lemmas.List.{append-nil, length-append}
+use Rattle.std.proofs.lemmas.List.{length-append}
 use Rattle.zmtp_frames.specs.declared.frame.Head.{Head}
 use Rattle.zmtp_frames.specs.declared.frame.Frame.{Frame}
-use Rattle.zmtp_frames.specs.declared.frame.Begun.{Begun}
-use Rattle.zmtp_frames.specs.declared.frame.Stage.{Stage}
 use Rattle.zmtp_frames.specs.declared.frame.Stage.TheVariants as stages
-use Rattle.zmtp_frames.specs.declared.fault.FrameFault.{FrameFault}
 use Rattle.zmtp_frames.specs.declared.command.Props.{Props}
 use Rattle.zmtp_frames.specs.declared.command.Command.{Command}
 use Rattle.zmtp_frames.specs.declared.command.Command.TheVariants.{Ready}
@@ -18,13 +14,10 @@ use Rattle.zmtp_frames.specs.Stream.{Reading, start, up, step, begun, begun_at, 
 use Rattle.zmtp_frames.specs.Grammar.{IsFrame, AreFrames, number_from, place_after}
 use Rattle.zmtp_frames.specs.Greeting.{greeting_fault}
 use Rattle.zmtp_frames.specs.Command.{command_of}
-use Rattle.zmtp_frames.proofs.Whole.{place_append}
-use Rattle.zmtp_peer.specs.declared.fault.PeerFault.{PeerFault}
 use Rattle.zmtp_peer.specs.declared.phase.Phase.{Phase}
-use Rattle.zmtp_peer.specs.declared.phase.Phase.TheVariants.{Greeting, Handshake, Traffic, Ended}
+use Rattle.zmtp_peer.specs.declared.phase.Phase.TheVariants.{Greeting, Handshake, Traffic}
 use Rattle.zmtp_peer.specs.declared.phase.Gave.{Gave}
-use Rattle.zmtp_peer.specs.Message.{body_octets}
-use Rattle.zmtp_peer.specs.PeerStream.{Talk, begins, talk, greet, hear, hear_as, heard, shaken, parts_after, begun_fault, first_fault, ended_by, greeting_phase, is_served, talked, frame_limit, message_limit}
+use Rattle.zmtp_peer.specs.PeerStream.{Talk, begins, talk, greet, hear, hear_as, shaken, parts_after, begun_fault, first_fault, ended_by, is_served, talked}
 use Rattle.zmtp_peer.specs.Connection.{FollowsAs, MayFollow, IsFaultless}
 use Rattle.zmtp_peer.proofs.Pieces.{talked_append}
 

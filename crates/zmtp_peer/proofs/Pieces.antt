@@ -1,7 +1,7 @@
 -- Octets one after another.
 use Rattle.std.proofs.Common.{◌≡◌, ℕ, List, [], ◌∷◌, ◌++◌, Option, Some, None, refl, sym, ap, ◌∙◌, append_assoc}
 use Rattle.zmtp_frames.specs.Greeting.{own_greeting}
-use Rattle.zmtp_peer.specs.PeerStream.{Talk, talk, talked, sent, identity, or_later, messages, listed, fault_of, begins, peer_stream, with_piece}
+use Rattle.zmtp_peer.specs.PeerStream.{Talk, talk, talked, sent, identity, or_later, messages, listed, begins, peer_stream, with_piece}
 
 pub talked_append : (t : Talk) (xs ys : List ℕ) → talked t (xs ++ ys) ≡ talked (talked t xs) ys
 talked_append t [] ys = refl
