@@ -5,4 +5,5 @@ pub mod Pieces
 pub mod Whole
 pub mod Given
 pub mod Spelled
+pub mod Properties
 mod Rows

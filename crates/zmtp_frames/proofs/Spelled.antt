@@ -40,9 +40,9 @@ long at false body limit =
     let fits : length body < 2 ^ 64 = omega (arith, limit) in
     record { flags = 2; size = be64 (length body); parts = refl; allowed = refl; more = refl; command = refl; width = be64_width (length body); value = be64_value (length body) fits; limit = limit }
 
-either : (b : Bool) (xs ys : List ℕ) (f : Frame) → IsFrame xs f → IsFrame ys f → IsFrame (if b then xs else ys) f
-either true xs ys f first other = first
-either false xs ys f first other = other
+either : (b : Bool) (xs ys body : List ℕ) (f : Frame) → IsFrame (xs ++ body) f → IsFrame (ys ++ body) f → IsFrame ((if b then xs else ys) ++ body) f
+either true xs ys body f first other = first
+either false xs ys body f first other = other
 
 pub written_frame : (at : ℕ) (more : Bool) (body : List ℕ) → length body ≤ body_limit → IsFrame (written more body) (record { at = at; more = more; command = false; body = body })
-written_frame at more body limit = either (nat_le (length body) 255) _ _ _ (short at more body limit) (long at more body limit)
+written_frame at more body limit = either (nat_le (length body) 255) _ _ _ _ (short at more body limit) (long at more body limit)

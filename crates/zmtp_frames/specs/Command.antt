@@ -1,7 +1,7 @@
 -- Commands (RFC 23, Commands and The NULL mechanism): a name behind its length, then data. The data of READY is
 -- metadata: properties, each a name behind its length in one octet and a value behind its length in four. Names are
 -- compared without regard to ASCII case.
-use Rattle.std.specs.Prelude.{◌≡◌, ℕ, zero, suc, nat_le, ◌==◌, List, [], ◌∷◌, ◌++◌, length, codes, bytes_eq, Option, Some, None, Result, Ok, Err, Bool, ◌||◌, if◌then◌else◌, option_map}
+use Rattle.std.specs.Prelude.{◌≡◌, ℕ, zero, suc, ◌<◌, ◌^◌, nat_le, ◌==◌, List, [], ◌∷◌, ◌++◌, length, codes, bytes_eq, Option, Some, None, Result, Ok, Err, Bool, false, ◌||◌, if◌then◌else◌, option_map}
 use Rattle.std.specs.Option.{option_and_then}
 use Rattle.std.specs.List.{list_any, find}
 use Rattle.std.specs.Str.{str_to_ascii_lowercase}
@@ -52,6 +52,14 @@ metadata_from (suc n) list (x ∷ xs) = option_and_then (λ s. metadata_from n s
 -- the properties that octets are: no more than there are octets
 abbrev pub metadata : List ℕ → Option (List Property)
 metadata octets = metadata_from (length octets) [] octets
+
+-- properties that may stand behind others: each has a name of 1 to 255 octets that didn't come before, and a value whose
+-- length has four octets
+abbrev pub MayStand : List Property → List Property → Type 0
+MayStand before [] = Unit {0}
+MayStand before (p ∷ list) =
+    (0 < length p.name) × (length p.name < 256) × (length p.value < 2 ^ 32) × (list_any (λ q. same_name p.name q.name) before ≡ false)
+    × MayStand (before ++ p ∷ []) list
 
 -- an identity may be absent, and has at most 255 octets
 abbrev pub identity_of : Option Property → Option (Option (List ℕ))

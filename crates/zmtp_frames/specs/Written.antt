@@ -1,12 +1,15 @@
 -- What is written: of the two forms of a size, the short one where it holds the size.
-use Rattle.std.specs.Prelude.{ℕ, ◌+◌, nat_le, List, ◌∷◌, ◌++◌, length, codes, Bool, if◌then◌else◌}
+use Rattle.std.specs.Prelude.{ℕ, ◌+◌, nat_le, List, [], ◌∷◌, ◌++◌, length, codes, Bool, if◌then◌else◌}
+use Rattle.zmtp_frames.specs.declared.metadata.Property.{Property}
 use Rattle.octet_fields.specs.Spelling.{be64, str8, blob}
 
--- a body behind its size, and flags that say which form the size has
+-- flags and a size, with the flag that says which form the size has
+abbrev pub sized_head : ℕ → ℕ → List ℕ
+sized_head flags size = if nat_le size 255 then flags ∷ size ∷ [] else (flags + 2) ∷ be64 size
+
+-- a body behind its flags and its size
 abbrev pub sized_body : ℕ → List ℕ → List ℕ
-sized_body flags body =
-    if nat_le (length body) 255 then flags ∷ length body ∷ body
-    else (flags + 2) ∷ (be64 (length body) ++ body)
+sized_body flags body = sized_head flags (length body) ++ body
 
 abbrev pub more_flag : Bool → ℕ
 more_flag more = if more then 1 else 0
@@ -22,6 +25,10 @@ written_command body = sized_body 4 body
 -- a property of READY
 abbrev pub written_property : List ℕ → List ℕ → List ℕ
 written_property name value = str8 name ++ blob value
+
+abbrev pub written_properties : List Property → List ℕ
+written_properties [] = []
+written_properties (p ∷ list) = written_property p.name p.value ++ written_properties list
 
 -- the READY of a ROUTER
 abbrev pub own_ready : List ℕ

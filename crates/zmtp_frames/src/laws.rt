@@ -1,10 +1,12 @@
 //! Laws of streams of frames.
 
-ghost use Rattle.std.specs.Prelude.{◌≡◌, ◌≤◌, List, ℕ, Bool, false, length, ◌++◌};
+ghost use Rattle.std.specs.Prelude.{◌≡◌, ◌≤◌, List, ℕ, Bool, false, length, slice_index, [], Some, ◌<◌, ◌++◌};
 ghost use Rattle.zmtp_frames.specs.declared.frame.Frame.{Frame};
 ghost use Rattle.zmtp_frames.specs.Grammar.{AreFrames, IsFrame, IsReadingOf, place_after};
 ghost use Rattle.zmtp_frames.specs.Stream.{Reading, start, after, frames, body_limit};
-ghost use Rattle.zmtp_frames.specs.Written.{written};
+ghost use Rattle.zmtp_frames.specs.Written.{written, written_properties};
+ghost use Rattle.zmtp_frames.specs.Command.{metadata, MayStand};
+ghost use Rattle.zmtp_frames.specs.declared.metadata.Property.{Property};
 
 /// It doesn't matter how a stream is cut.
 pub fn any_pieces()
@@ -24,4 +26,14 @@ pub fn frames_given_stand()
 /// What is written for a frame stands for it.
 pub fn written_stands()
     ensures { (at : ℕ) (more : Bool) (body : List ℕ) → length body ≤ body_limit → IsFrame (written more body) (record { at = at; more = more; command = false; body = body }) }
+{}
+
+/// The metadata of READY is read as the properties that were written.
+pub fn metadata_is_read()
+    ensures { (list : List Property) → MayStand [] list → metadata (written_properties list) ≡ Some list }
+{}
+
+/// What is read as metadata are these properties, written one behind another.
+pub fn metadata_stands()
+    ensures { (octets : List ℕ) (list : List Property) → ((i : ℕ) → slice_index octets i < 256) → metadata octets ≡ Some list → (octets ≡ written_properties list) × MayStand [] list }
 {}

@@ -1,35 +1,60 @@
 //! Writing frames and commands.
 
-ghost use Rattle.std.specs.Prelude.{◌≡◌, ◌≤◌, ◌++◌, OnOk};
-ghost use Rattle.zmtp_frames.specs.Written.{sized_body, written, written_command, more_flag, own_ready};
+ghost use Rattle.std.specs.Prelude.{◌≡◌, ◌≤◌, ◌++◌, OnOk, OnErr, IfOk};
+ghost use Rattle.zmtp_frames.specs.Written.{sized_head, sized_body, written, written_command, more_flag, own_ready};
 
 use octet_fields::writing::put_number64;
-use std::alloc::AllocError;
+use std::alloc::{AllocError, Global};
 
 /// The longest body whose size is written in one octet.
 const SHORT: usize = 255;
 
-/// Appends a body behind its flags and its size.
-#[tactic(auto, using(octet_fields::proofs::Joins::joins))]
+/// Flags and a size.
+fn head_octets(alloc: Global, flags: u8, size: usize) -> Result<Vec<u8>, AllocError>
+    requires { flags ≤ 4 }
+    ensures { IfOk result (λ head. head.items ≡ sized_head flags size) }
+{
+    let mut head = Vec::new(alloc);
+    if size <= SHORT {
+        head.push(flags)?;
+        head.push(size as u8)?;
+    } else {
+        head.push(flags + 2)?;
+        put_number64(&mut head, size as u64)?;
+    }
+    Ok(head)
+}
+
+/// Appends these octets and those, or nothing.
+fn put_both(into: &mut Vec<u8>, first: &[u8], second: &[u8]) -> Result<(), AllocError>
+    ensures ok { OnOk result (into.new.items ≡ into.old.items ++ (first.now ++ second.now)) }
+    ensures err { OnErr result (into.new.items ≡ into.old.items) }
+{
+    let before = into.len();
+    into.extend_from_slice(first)?;
+    match into.extend_from_slice(second) {
+        Ok(()) => Ok(()),
+        Err(error) => {
+            into.truncate(before);
+            Err(error)
+        }
+    }
+}
+
+/// Appends a body behind its flags and its size, or nothing.
 fn put_sized(into: &mut Vec<u8>, flags: u8, body: &[u8]) -> Result<(), AllocError>
     requires { flags ≤ 4 }
-    ensures { OnOk result (into.new.items ≡ into.old.items ++ sized_body flags body.now) }
+    ensures ok { OnOk result (into.new.items ≡ into.old.items ++ sized_body flags body.now) }
+    ensures err { OnErr result (into.new.items ≡ into.old.items) }
 {
-    if body.len() <= SHORT {
-        into.push(flags)?;
-        into.push(body.len() as u8)?;
-        into.extend_from_slice(body)?;
-        return Ok(());
-    }
-    into.push(flags + 2)?;
-    put_number64(into, body.len() as u64)?;
-    into.extend_from_slice(body)?;
-    Ok(())
+    let head = head_octets(*into.allocator(), flags, body.len())?;
+    put_both(into, head.as_slice(), body)
 }
 
 /// Appends a frame of a message in its one written spelling: the size has one octet up to 255, and else eight.
 pub fn write_frame(into: &mut Vec<u8>, more: bool, body: &[u8]) -> Result<(), AllocError>
-    ensures { OnOk result (into.new.items ≡ into.old.items ++ written more body.now) }
+    ensures ok { OnOk result (into.new.items ≡ into.old.items ++ written more body.now) }
+    ensures err { OnErr result (into.new.items ≡ into.old.items) }
 {
     let flags = if more { 1 } else { 0 };
     put_sized(into, flags, body)?;
@@ -38,7 +63,8 @@ pub fn write_frame(into: &mut Vec<u8>, more: bool, body: &[u8]) -> Result<(), Al
 
 /// Appends a command frame with this body.
 pub fn write_command(into: &mut Vec<u8>, body: &[u8]) -> Result<(), AllocError>
-    ensures { OnOk result (into.new.items ≡ into.old.items ++ written_command body.now) }
+    ensures ok { OnOk result (into.new.items ≡ into.old.items ++ written_command body.now) }
+    ensures err { OnErr result (into.new.items ≡ into.old.items) }
 {
     put_sized(into, 4, body)?;
     Ok(())
@@ -47,7 +73,8 @@ pub fn write_command(into: &mut Vec<u8>, body: &[u8]) -> Result<(), AllocError>
 /// Appends the READY of a ROUTER.
 #[tactic(auto, unfolding(octet_fields::specs::Spelling::be32))]
 pub fn write_ready(into: &mut Vec<u8>) -> Result<(), AllocError>
-    ensures { OnOk result (into.new.items ≡ into.old.items ++ own_ready) }
+    ensures ok { OnOk result (into.new.items ≡ into.old.items ++ own_ready) }
+    ensures err { OnErr result (into.new.items ≡ into.old.items) }
 {
     into.extend_from_slice(b"\x04\x1c\x05READY\x0bSocket-Type\x00\x00\x00\x06ROUTER")
 }
