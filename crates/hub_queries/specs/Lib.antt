@@ -1,2 +1,4 @@
+pub mod Ascending
 pub mod Kinds
+pub mod Rows
 pub mod Tallies

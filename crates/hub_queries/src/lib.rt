@@ -1,6 +1,8 @@
 //! Answers to questions about the cluster, off the records of all tasks and the live engines.
 #![tactic(auto)]
 
+pub mod engines;
+pub mod rows;
 pub mod scan;
 pub mod tally;
 #[cfg(test)]
