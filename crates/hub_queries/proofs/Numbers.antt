@@ -1,5 +1,5 @@
 -- Numbers that ascend, and a search among them.
-use Rattle.std.proofs.Common.{◌≡◌, ◌≢◌, ◌<◌, ◌≤◌, ◌+◌, ℕ, suc, zero, List, [], ◌∷◌, length, get_or, filter, Bool, true, false, ◌||◌, if◌then◌else◌, nat_eq, Result, Ok, Err, refl, ap, ◌∙◌, sym, arith}
+use Rattle.std.proofs.Common.{◌≡◌, ◌≢◌, ◌<◌, ◌≤◌, ℕ, suc, zero, List, [], ◌∷◌, length, get_or, filter, Bool, true, false, if◌then◌else◌, nat_eq, Result, Ok, Err, refl, arith}
 use Rattle.std.specs.List.{list_any}
 use Rattle.std.specs.Option.{IfNone}
 use Rattle.std.specs.Result.{MatchResult, result_ok}

@@ -1,15 +1,14 @@
 -- One more record in the rows of a queue reply.
-use Rattle.std.proofs.Common.{◌≡◌, ◌<◌, ◌+◌, ℕ, suc, zero, List, [], ◌∷◌, ◌++◌, length, map, set, get_or, Option, Some, None, Bool, true, false, true≢false, not, ◌&&◌, ◌||◌, if◌then◌else◌, nat_eq, is_some, refl, sym, ap, ◌∙◌, arith, append-nil}
+use Rattle.std.proofs.Common.{◌≡◌, ◌<◌, ℕ, suc, zero, List, [], ◌∷◌, ◌++◌, length, map, set, get_or, Option, Some, None, Bool, true, false, true≢false, not, ◌&&◌, ◌||◌, if◌then◌else◌, nat_eq, is_some, refl, sym, ap, ◌∙◌, arith, append-nil}
 use Rattle.std.specs.List.{list_any}
 use Rattle.std.proofs.lemmas.Bool.{ne_eqb, eqb-false}
 use Rattle.std.proofs.lemmas.Bool.Decides.{nat_tests}
 use Rattle.cluster_types.specs.declared.record.Record.{Record}
 use Rattle.cluster_defs.specs.Words.{Id, is_number}
-use Rattle.cluster_defs.specs.RecordAnswers.{ids_where, runs_in, finished_in, queue_in}
-use Rattle.hub_queries.specs.Ascending.{Below, Ascends}
+use Rattle.cluster_defs.specs.RecordAnswers.{ids_where, runs_in, finished_in}
+use Rattle.hub_queries.specs.Ascending.{Ascends}
 use Rattle.hub_queries.specs.Rows.{row_of}
 use Rattle.hub_queries.specs.Tallies.{tallied}
-use Rattle.hub_queries.specs.declared.rows.Row.{Row}
 use Rattle.hub_queries.proofs.Numbers.{above_unlisted, below_at}
 use Rattle.hub_queries.proofs.Wheres.{where_append}
 

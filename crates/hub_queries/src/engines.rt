@@ -60,11 +60,7 @@ fn set_of(alloc: Global, targets: &[u32]) -> Result<BTreeSet<u32>, AllocError>
 }
 
 /// Those of the numbers that are listed; an empty list asks for all.
-pub fn asked(
-    alloc: Global,
-    numbers: &[u32],
-    targets: &[u32],
-) -> Result<Vec<u32>, AllocError>
+pub fn asked(alloc: Global, numbers: &[u32], targets: &[u32]) -> Result<Vec<u32>, AllocError>
     ensures { IfOk result (λ v. v.items ≡ filter (λ n. is_empty targets.now || list_any (λ m. nat_eq n m) targets.now) numbers.now) }
 {
     let set = set_of(alloc, targets)?;

@@ -31,12 +31,7 @@ pub fn plain(alloc: Global, content: Octets) -> Answer
 }
 
 /// An error answer: its name, its value, and the ids concerned.
-pub fn refusal(
-    alloc: Global,
-    ename: &str,
-    evalue: &str,
-    ids: &Ids,
-) -> Result<Answer, AllocError>
+pub fn refusal(alloc: Global, ename: &str, evalue: &str, ids: &Ids) -> Result<Answer, AllocError>
     ensures { IfOk result (λ a. a ≡ refusal ename.now evalue.now ids.now) }
 {
     let content = error_content(alloc, ename, evalue, ids)?;

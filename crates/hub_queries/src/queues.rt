@@ -54,11 +54,7 @@ fn push_engine(
 }
 
 /// Appends the live engines, parted by commas.
-fn push_engines(
-    text: &mut String,
-    alloc: Global,
-    live: &LiveEngines,
-) -> Result<(), AllocError>
+fn push_engines(text: &mut String, alloc: Global, live: &LiveEngines) -> Result<(), AllocError>
     ensures { OnOk result (string_bytes text.new ≡ string_bytes text.old ++ parted (map engine_member live.now)) }
 {
     for (place, engine) in live.as_slice().iter().enumerate() {

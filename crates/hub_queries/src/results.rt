@@ -77,11 +77,7 @@ fn head_text(
 }
 
 /// The member of a task, off its beginning and its outcome. The outcome's parts stand in it as they are.
-fn whole_member(
-    alloc: Global,
-    head: String,
-    outcome: &Message,
-) -> Result<Vec<u8>, AllocError>
+fn whole_member(alloc: Global, head: String, outcome: &Message) -> Result<Vec<u8>, AllocError>
     ensures { IfOk result (λ v. v.items ≡ string_bytes head ++ codes ",\"header\":" ++ outcome.now.header ++ codes ",\"metadata\":" ++ outcome.now.metadata ++ codes ",\"content\":" ++ outcome.now.content ++ codes ",\"buffers\":" ++ decimal (length outcome.now.buffers) ++ codes "}") }
 {
     let count = outcome.buffers.len().to_string(alloc)?;
@@ -183,11 +179,7 @@ impl Written {
 }
 
 /// What these tasks left.
-fn written_of<R: Records>(
-    alloc: Global,
-    table: &R,
-    ids: &Ids,
-) -> Result<Written, AllocError>
+fn written_of<R: Records>(alloc: Global, table: &R, ids: &Ids) -> Result<Written, AllocError>
     ensures { IfOk result (λ w. w ≡ written (all_left (R.records table.now) false ids.now)) }
 {
     let mut written = Written::new(alloc);

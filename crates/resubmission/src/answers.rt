@@ -33,11 +33,7 @@ fn whole_purge(alloc: Global, plan: &PurgePlan) -> Result<Answer, AllocError>
 
 /// The answer to a purge that was asked on a channel. On the hub's channel an answer past a limit gives way to a
 /// refusal, and the purge stands all the same.
-pub fn purge_answer(
-    alloc: Global,
-    channel: Channel,
-    plan: &PurgePlan,
-) -> Result<Answer, AllocError>
+pub fn purge_answer(alloc: Global, channel: Channel, plan: &PurgePlan) -> Result<Answer, AllocError>
     ensures { IfOk result (λ a. a ≡ limited channel (purge_answer (purging_of plan.now))) }
 {
     let whole = whole_purge(alloc, plan)?;
@@ -64,11 +60,7 @@ fn push_renaming(
 }
 
 /// Appends the old and the new ids, parted by commas.
-fn push_renamed(
-    text: &mut String,
-    alloc: Global,
-    renamed: &Renamed,
-) -> Result<(), AllocError>
+fn push_renamed(text: &mut String, alloc: Global, renamed: &Renamed) -> Result<(), AllocError>
     ensures { OnOk result (string_bytes text.new ≡ string_bytes text.old ++ parted (map (λ r. text_member (pair_of r)) renamed.now)) }
 {
     for (place, renaming) in renamed.as_slice().iter().enumerate() {

@@ -58,12 +58,7 @@ fn kept_ids<R: Records>(alloc: Global, table: &R) -> Result<Ids, AllocError>
 }
 
 /// The ids that a purge lists: with `all` every settled one that isn't purged, else each of `ids` once.
-fn listed<R: Records>(
-    alloc: Global,
-    table: &R,
-    all: bool,
-    ids: &Ids,
-) -> Result<Ids, AllocError>
+fn listed<R: Records>(alloc: Global, table: &R, all: bool, ids: &Ids) -> Result<Ids, AllocError>
     ensures { IfOk result (λ list. list ≡ purge_list_in (R.records table.now) all ids.now) }
 {
     if all {
@@ -75,11 +70,7 @@ fn listed<R: Records>(
 }
 
 /// What a purge of these ids comes to.
-fn plan_listed<R: Records>(
-    alloc: Global,
-    table: &R,
-    ids: Ids,
-) -> Result<PurgePlan, AllocError>
+fn plan_listed<R: Records>(alloc: Global, table: &R, ids: Ids) -> Result<PurgePlan, AllocError>
     ensures { IfOk result (λ p. purging_of p ≡ purge_in (R.records table.now) ids) }
 {
     let gone = ids_that(alloc, table, Standing::Gone, &ids)?;

@@ -1,4 +1,4 @@
-use Rattle.std.proofs.Common.{◌≡◌, ◌∙◌, sym, subst, false, nat_eq, Option, ℕ}
+use Rattle.std.proofs.Common.{◌≡◌, sym, subst, false, nat_eq, Option, ℕ}
 use Rattle.std.specs.List.{list_any}
 use Rattle.std.specs.Option.{IfNone}
 use Rattle.std.proofs.lemmas.List.Sorted.{searched}

@@ -1,4 +1,4 @@
-use Rattle.std.proofs.Common.{◌≡◌, ◌||◌, ℕ, List, Option, Some, None, map, filter, find, not, nat_eq, subst, sym, ap, ◌∙◌}
+use Rattle.std.proofs.Common.{◌≡◌, ◌||◌, Some, None, map, filter, find, not, nat_eq, subst, sym, ap, ◌∙◌}
 use Rattle.std.specs.List.{list_any}
 use Rattle.message_defs.specs.Texts.{queue_content}
 use Rattle.cluster_defs.specs.Words.{is_empty}

@@ -1,7 +1,5 @@
-use Rattle.std.proofs.Common.{◌≡◌, ◌<◌, ◌≤◌, ◌+◌, ◌^◌, ◌++◌, ◌∷◌, [], ℕ, Some, None, length, map, take, set, get_or, slice_get, arith, sym, ap, ◌∙◌, length-take-le}
-use Rattle.std.specs.Option.{option_copied}
+use Rattle.std.proofs.Common.{◌≡◌, ◌<◌, ◌+◌, ◌^◌, ◌++◌, ◌∷◌, [], Some, length, map, take, set, get_or, slice_get, arith, sym, ap, ◌∙◌, length-take-le}
 use Rattle.std.proofs.lemmas.List.{get_or-map}
-use Rattle.cluster_types.specs.declared.record.Record.{Record}
 use Rattle.hub_queries.specs.Rows.{row_of}
 use Rattle.hub_queries.proofs.Wheres.{records_more}
 use Rattle.hub_queries.proofs.RowSteps.{rows_without, rows_off, rows_at}

@@ -1,8 +1,7 @@
-use Rattle.std.proofs.Common.{◌≡◌, ◌<◌, ◌≤◌, ◌+◌, ◌++◌, ◌∷◌, [], List, ℕ, Some, length, Bool, true, not, ◌&&◌, is_some, if◌then◌else◌, arith, refl, sym, ap, ◌∙◌}
+use Rattle.std.proofs.Common.{◌≡◌, ◌++◌, ◌∷◌, [], Bool, true, not, ◌&&◌, is_some, if◌then◌else◌, arith, refl, sym, ap, ◌∙◌}
 use Rattle.cluster_types.specs.declared.record.Record.{Record}
 use Rattle.cluster_defs.specs.Words.{is_number}
 use Rattle.cluster_defs.specs.RecordAnswers.{ids_where, runs_in, finished_in}
-use Rattle.hub_queries.specs.Rows.{row_of}
 use Rattle.hub_queries.specs.Tallies.{tallied}
 use Rattle.hub_queries.proofs.Wheres.{where_append, where_short}
 use Rattle.hub_queries.proofs.RowSteps.{on_itself, on_left}

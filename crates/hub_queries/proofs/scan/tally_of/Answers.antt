@@ -1,5 +1,4 @@
-use Rattle.std.proofs.Common.{◌≡◌, ◌<◌, ◌≤◌, ◌+◌, ◌^◌, ◌++◌, length, take, Bool, slice_get, arith, sym, ap, ◌∙◌, length-take-le}
-use Rattle.std.specs.Option.{option_copied}
+use Rattle.std.proofs.Common.{◌≡◌, ◌<◌, ◌+◌, ◌^◌, ◌++◌, length, take, Bool, arith, sym, ap, ◌∙◌, length-take-le}
 use Rattle.cluster_types.specs.declared.record.Record.{Record}
 use Rattle.cluster_defs.specs.RecordAnswers.{ids_where}
 use Rattle.hub_queries.specs.Kinds.{is_kind, id_if}

@@ -1,6 +1,5 @@
-use Rattle.std.proofs.Common.{◌≡◌, map, refl, sym}
-use Rattle.message_defs.specs.Texts.{resubmit_content, text_member}
-use Rattle.resubmission.specs.Plans.{copy_of, pair_of}
+use Rattle.std.proofs.Common.{refl}
+use Rattle.message_defs.specs.Texts.{resubmit_content}
 use Rattle.resubmission.proofs.Copies.{members_of}
 use Rattle.resubmission.proofs.answers.renamed_text.Goals as goal
 
