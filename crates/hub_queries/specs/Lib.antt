@@ -3,3 +3,4 @@ pub mod Kinds
 pub mod Results
 pub mod Rows
 pub mod Tallies
+pub mod Weights

@@ -1,9 +1,10 @@
 //! The answer to a question.
 
-ghost use Rattle.std.specs.Prelude.{◌≡◌, map, IfOk};
+ghost use Rattle.std.specs.Prelude.{◌≡◌, [], codes, map, IfOk};
 ghost use Rattle.message_defs.specs.Texts.{ok_content};
-ghost use Rattle.cluster_defs.specs.Queries.{plain, bad_name};
-ghost use Rattle.cluster_defs.specs.RecordAnswers.{query_in, answer_in};
+ghost use Rattle.cluster_defs.specs.Queries.{plain, refusal, bad_name, limited};
+ghost use Rattle.cluster_defs.specs.RecordAnswers.{answer_in};
+ghost use Rattle.cluster_defs.specs.declared.answer.Answer.{Answer};
 ghost use Rattle.hub_queries.specs.Ascending.{Ascends};
 
 use crate::engines::LiveEngines;
@@ -38,37 +39,43 @@ pub fn ok_answer(alloc: Global) -> Result<Answer, AllocError>
     Ok(plain(alloc, content))
 }
 
-/// The answer, whatever its length.
-fn query_answer<R: Records>(
-    alloc: Global,
-    table: &R,
-    live: &LiveEngines,
-    channel: Channel,
-    query: &Query,
-    msg_type: &Text,
-) -> Result<Answer, AllocError>
-    requires { Ascends (map (λ e. e.0) live.now) }
-    ensures { IfOk result (λ a. a ≡ query_in (R.records table.now) live.now channel query.now msg_type.now) }
+/// The refusal of a request that the hub doesn't know.
+fn unknown_request(alloc: Global, msg_type: &Text) -> Result<Answer, AllocError>
+    ensures { IfOk result (λ a. a ≡ refusal (codes "UnknownRequest") msg_type.now []) }
 {
-    match query {
-        Query::Connection => connection_answer(alloc, live),
-        Query::Queue { targets, verbose } => queues_answer(alloc, table, live, targets, *verbose),
-        Query::Result { ids, status_only } => result_answer(alloc, table, ids, *status_only),
-        Query::History => history_answer(alloc, table),
-        Query::Shutdown => ok_answer(alloc),
-        Query::Unknown => refusal(
-            alloc,
-            "UnknownRequest",
-            msg_type.as_str(),
-            &Sequence::new(alloc),
-        ),
-        Query::Bad { field } => refusal(
-            alloc,
-            bad_name(channel),
-            field.as_str(),
-            &Sequence::new(alloc),
-        ),
-    }
+    let refused = refusal(
+        alloc,
+        "UnknownRequest",
+        msg_type.as_str(),
+        &Sequence::new(alloc),
+    )?;
+    Ok(refused)
+}
+
+/// The refusal of a request that doesn't read, with the field at fault.
+fn bad_request(alloc: Global, channel: Channel, field: &Text) -> Result<Answer, AllocError>
+    ensures { IfOk result (λ a. a ≡ refusal (bad_name channel) field.now []) }
+{
+    let refused = refusal(
+        alloc,
+        bad_name(channel),
+        field.as_str(),
+        &Sequence::new(alloc),
+    )?;
+    Ok(refused)
+}
+
+/// The answer that was made, within the limits of its channel.
+fn within(
+    alloc: Global,
+    channel: Channel,
+    made: Result<Answer, AllocError>,
+) -> Result<Answer, AllocError>
+    ensures { (whole : Answer) → IfOk made (λ a. a ≡ whole) → IfOk result (λ a. a ≡ limited channel whole) }
+{
+    let whole = made?;
+    let answer = limited(alloc, channel, whole)?;
+    Ok(answer)
 }
 
 /// The answer to a question that came on a channel in a message of a type, off the records of all tasks and the live
@@ -84,7 +91,19 @@ pub fn answer<R: Records>(
     requires { Ascends (map (λ e. e.0) live.now) }
     ensures { IfOk result (λ a. a ≡ answer_in (R.records table.now) live.now channel query.now msg_type.now) }
 {
-    let whole = query_answer(alloc, table, live, channel, query, msg_type)?;
-    let answer = limited(alloc, channel, whole)?;
-    Ok(answer)
+    match query {
+        Query::Connection => within(alloc, channel, connection_answer(alloc, live)),
+        Query::Queue { targets, verbose } => within(
+            alloc,
+            channel,
+            queues_answer(alloc, table, live, targets, *verbose),
+        ),
+        Query::Result { ids, status_only } => {
+            result_answer(alloc, channel, table, ids, *status_only)
+        }
+        Query::History => within(alloc, channel, history_answer(alloc, table)),
+        Query::Shutdown => within(alloc, channel, ok_answer(alloc)),
+        Query::Unknown => within(alloc, channel, unknown_request(alloc, msg_type)),
+        Query::Bad { field } => within(alloc, channel, bad_request(alloc, channel, field)),
+    }
 }

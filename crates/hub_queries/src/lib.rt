@@ -11,3 +11,4 @@ pub mod scan;
 pub mod tally;
 #[cfg(test)]
 mod tests;
+pub mod weights;

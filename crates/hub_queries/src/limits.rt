@@ -1,6 +1,6 @@
 //! The limits of an answer.
 
-ghost use Rattle.std.specs.Prelude.{◌≡◌, ◌-◌, ◌^◌, min, sum, map, length, IfOk};
+ghost use Rattle.std.specs.Prelude.{◌≡◌, ◌-◌, ◌^◌, [], codes, min, sum, map, length, IfOk};
 ghost use Rattle.cluster_defs.specs.Queries.{plain, refusal, is_hub, is_too_long, limited};
 
 use cluster_defs::answer::Answer;
@@ -12,13 +12,13 @@ use jupyter_header::contents::error_content;
 use std::alloc::{AllocError, Global};
 
 /// The most octets of a content.
-const MOST_CONTENT: usize = 16_777_216;
+pub(crate) const MOST_CONTENT: usize = 16_777_216;
 
 /// The most octets of a content and its buffers.
-const MOST_OCTETS: usize = 33_000_000;
+pub(crate) const MOST_OCTETS: usize = 33_000_000;
 
 /// The most buffers.
-const MOST_BUFFERS: usize = 58;
+pub(crate) const MOST_BUFFERS: usize = 58;
 
 /// An answer without buffers.
 pub fn plain(alloc: Global, content: Octets) -> Answer
@@ -39,7 +39,7 @@ pub fn refusal(alloc: Global, ename: &str, evalue: &str, ids: &Ids) -> Result<An
 }
 
 /// How many octets the buffers have together, or the greatest number where that is less.
-fn octets_of(buffers: &Buffers) -> usize
+pub(crate) fn octets_of(buffers: &Buffers) -> usize
     ensures { result ≡ min (sum (map length buffers.now)) (2 ^ 64 - 1) }
 {
     let mut total: usize = 0;
@@ -59,10 +59,18 @@ pub fn is_too_long(answer: &Answer) -> bool
 }
 
 /// Whether a channel is the hub's.
-fn is_hub(channel: Channel) -> bool
+pub(crate) fn is_hub(channel: Channel) -> bool
     ensures { result ≡ is_hub channel }
 {
     matches!(channel, Channel::Hub)
+}
+
+/// The refusal of an answer that is too long.
+pub(crate) fn too_long(alloc: Global) -> Result<Answer, AllocError>
+    ensures { IfOk result (λ a. a ≡ refusal (codes "ReplyTooLong") [] []) }
+{
+    let refused = refusal(alloc, "ReplyTooLong", "", &Sequence::new(alloc))?;
+    Ok(refused)
 }
 
 /// The answer, which on the hub's channel gives way to a refusal where it passes a limit.
@@ -70,7 +78,7 @@ pub fn limited(alloc: Global, channel: Channel, answer: Answer) -> Result<Answer
     ensures { IfOk result (λ a. a ≡ limited channel answer) }
 {
     if is_hub(channel) && is_too_long(&answer) {
-        let refused = refusal(alloc, "ReplyTooLong", "", &Sequence::new(alloc))?;
+        let refused = too_long(alloc)?;
         return Ok(refused);
     }
     Ok(answer)

@@ -1,17 +1,21 @@
 //! The answer that tells what settled tasks left.
 
-ghost use Rattle.std.specs.Prelude.{◌≡◌, ◌+◌, ◌<◌, ◌^◌, ◌++◌, ◌∷◌, [], List, Bool, false, length, not, filter, filter_map, flat_map, codes, decimal, IfOk, OnOk, string_bytes};
+ghost use Rattle.std.specs.Prelude.{◌≡◌, ◌+◌, ◌<◌, ◌^◌, ◌++◌, ◌∷◌, ◌&&◌, [], List, Bool, false, length, not, filter, filter_map, flat_map, codes, decimal, IfOk, OnOk, string_bytes};
 ghost use Rattle.std.specs.Option.{option_copied, option_and_then, option_to_list};
 ghost use Rattle.cluster_types.specs.Verdicts.{verdict_name, cause_name};
 ghost use Rattle.cluster_types.specs.declared.record.Record.{Record};
 ghost use Rattle.message_defs.specs.Texts.{settled_member, engine_or_null, result_content, texts_list, Settled};
 ghost use Rattle.cluster_defs.specs.Words.{Id, once};
+ghost use Rattle.cluster_defs.specs.Queries.{is_hub, limited};
 ghost use Rattle.cluster_defs.specs.RecordAnswers.{record_in, left_in, all_left, result_in, results_in, settled_in};
 ghost use Rattle.jupyter_header.specs.Comma.{comma};
 ghost use Rattle.hub_queries.specs.Results.{written, head_text};
+ghost use Rattle.hub_queries.specs.Weights.{is_heavy};
 
-use crate::limits::refusal;
+use crate::limits::{is_hub, limited, refusal, too_long};
+use crate::weights::is_heavy;
 use cluster_defs::answer::Answer;
+use cluster_types::config::Channel;
 use cluster_types::copying::TryCopy;
 use cluster_types::message::{Buffers, Ids, Message};
 use cluster_types::octets::Octets;
@@ -244,51 +248,91 @@ fn joined(
     })
 }
 
+/// Whether the outcomes of these tasks were asked for, and pass a limit of an answer on this channel by themselves.
+fn passes_limits<R: Records>(
+    channel: Channel,
+    table: &R,
+    status_only: bool,
+    completed: &Ids,
+) -> bool
+    ensures { result ≡ (is_hub channel && is_heavy (all_left (R.records table.now) status_only completed.now)) }
+{
+    if status_only {
+        return false;
+    }
+    is_hub(channel) && is_heavy(table, completed)
+}
+
+/// The answer on ids that are known and not purged, off the settled ones and the other ones.
+fn joined_answer<R: Records>(
+    alloc: Global,
+    channel: Channel,
+    table: &R,
+    status_only: bool,
+    pending: &Ids,
+    completed: &Ids,
+) -> Result<Answer, AllocError>
+    ensures { IfOk result (λ a. a ≡ limited channel (record { content = result_content pending.now completed.now (all_left (R.records table.now) status_only completed.now); buffers = flat_map (λ r. r.outcome.buffers) (all_left (R.records table.now) status_only completed.now) })) }
+{
+    if passes_limits(channel, table, status_only, completed) {
+        let refused = too_long(alloc)?;
+        return Ok(refused);
+    }
+    let results = asked_of(alloc, table, status_only, completed)?;
+    let whole = joined(alloc, pending, completed, results)?;
+    let answer = limited(alloc, channel, whole)?;
+    Ok(answer)
+}
+
 /// The answer on ids that are known and not purged.
 fn results_answer<R: Records>(
     alloc: Global,
+    channel: Channel,
     table: &R,
     ids: &Ids,
     status_only: bool,
 ) -> Result<Answer, AllocError>
-    ensures { IfOk result (λ a. a ≡ results_in (R.records table.now) ids.now (all_left (R.records table.now) status_only (filter (λ id. settled_in (record_in (R.records table.now) id)) ids.now))) }
+    ensures { IfOk result (λ a. a ≡ limited channel (results_in (R.records table.now) ids.now (all_left (R.records table.now) status_only (filter (λ id. settled_in (record_in (R.records table.now) id)) ids.now)))) }
 {
     let pending = ids_that(alloc, table, Standing::Inflight, ids)?;
     let completed = ids_that(alloc, table, Standing::Settled, ids)?;
-    let results = asked_of(alloc, table, status_only, &completed)?;
-    let answer = joined(alloc, &pending, &completed, results)?;
+    let answer = joined_answer(alloc, channel, table, status_only, &pending, &completed)?;
     Ok(answer)
 }
 
 /// The answer on ids without repeats.
 fn distinct_answer<R: Records>(
     alloc: Global,
+    channel: Channel,
     table: &R,
     ids: &Ids,
     status_only: bool,
 ) -> Result<Answer, AllocError>
-    ensures { IfOk result (λ a. a ≡ result_in (R.records table.now) ids.now status_only) }
+    ensures { IfOk result (λ a. a ≡ limited channel (result_in (R.records table.now) ids.now status_only)) }
 {
     let gone = ids_that(alloc, table, Standing::Gone, ids)?;
     if !gone.is_empty() {
-        let refused = refusal(alloc, "UnknownIds", "", &gone)?;
+        let whole = refusal(alloc, "UnknownIds", "", &gone)?;
+        let refused = limited(alloc, channel, whole)?;
         return Ok(refused);
     }
-    let answer = results_answer(alloc, table, ids, status_only)?;
+    let answer = results_answer(alloc, channel, table, ids, status_only)?;
     Ok(answer)
 }
 
-/// The answer that tells which of the ids are settled and, unless the status alone is asked, what they left. An id that
-/// repeats counts once, at its first place.
+/// The answer, within the limits of its channel, that tells which of the ids are settled and, unless the status alone
+/// is asked, what they left. An id that repeats counts once, at its first place. Where the outcomes pass a limit by
+/// themselves, none of them is copied.
 pub fn result_answer<R: Records>(
     alloc: Global,
+    channel: Channel,
     table: &R,
     ids: &Ids,
     status_only: bool,
 ) -> Result<Answer, AllocError>
-    ensures { IfOk result (λ a. a ≡ result_in (R.records table.now) (once ids.now) status_only) }
+    ensures { IfOk result (λ a. a ≡ limited channel (result_in (R.records table.now) (once ids.now) status_only)) }
 {
     let distinct = once(alloc, ids)?;
-    let answer = distinct_answer(alloc, table, &distinct, status_only)?;
+    let answer = distinct_answer(alloc, channel, table, &distinct, status_only)?;
     Ok(answer)
 }
