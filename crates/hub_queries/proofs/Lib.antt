@@ -1,0 +1,6 @@
+pub mod Ascents
+pub mod Numbers
+pub mod Parts
+pub mod RowSteps
+pub mod Weighing
+pub mod Wheres

@@ -1,0 +1,6 @@
+pub mod Ascending
+pub mod Kinds
+pub mod Results
+pub mod Rows
+pub mod Tallies
+pub mod Weights

@@ -1,0 +1,109 @@
+//! The answer to a question.
+
+ghost use Rattle.std.specs.Prelude.{◌≡◌, [], codes, map, IfOk};
+ghost use Rattle.message_defs.specs.Texts.{ok_content};
+ghost use Rattle.cluster_defs.specs.Queries.{plain, refusal, bad_name, limited};
+ghost use Rattle.cluster_defs.specs.RecordAnswers.{answer_in};
+ghost use Rattle.cluster_defs.specs.declared.answer.Answer.{Answer};
+ghost use Rattle.hub_queries.specs.Ascending.{Ascends};
+
+use crate::engines::LiveEngines;
+use crate::limits::{limited, plain, refusal};
+use crate::queues::{connection_answer, history_answer, queues_answer};
+use crate::results::result_answer;
+use cluster_defs::answer::Answer;
+use cluster_types::config::Channel;
+use cluster_types::event::Query;
+use cluster_types::octets::Octets;
+use cluster_types::record::Records;
+use cluster_types::sequence::Sequence;
+use cluster_types::text::Text;
+use std::alloc::{AllocError, Global};
+
+/// The name of the refusal of a request that doesn't read.
+fn bad_name(channel: Channel) -> &'static str
+    ensures { result.now ≡ bad_name channel }
+{
+    match channel {
+        Channel::Task => "BadMetadata",
+        Channel::Hub | Channel::Mux | Channel::Engine => "BadContent",
+    }
+}
+
+/// The answer without a word more.
+#[tactic(auto, unfolding(message_defs::specs::Texts::ok_content))]
+pub fn ok_answer(alloc: Global) -> Result<Answer, AllocError>
+    ensures { IfOk result (λ a. a ≡ plain ok_content) }
+{
+    let content = Octets::new(alloc, b"{\"status\":\"ok\"}")?;
+    Ok(plain(alloc, content))
+}
+
+/// The refusal of a request that the hub doesn't know.
+fn unknown_request(alloc: Global, msg_type: &Text) -> Result<Answer, AllocError>
+    ensures { IfOk result (λ a. a ≡ refusal (codes "UnknownRequest") msg_type.now []) }
+{
+    let refused = refusal(
+        alloc,
+        "UnknownRequest",
+        msg_type.as_str(),
+        &Sequence::new(alloc),
+    )?;
+    Ok(refused)
+}
+
+/// The refusal of a request that doesn't read, with the field at fault.
+fn bad_request(alloc: Global, channel: Channel, field: &Text) -> Result<Answer, AllocError>
+    ensures { IfOk result (λ a. a ≡ refusal (bad_name channel) field.now []) }
+{
+    let refused = refusal(
+        alloc,
+        bad_name(channel),
+        field.as_str(),
+        &Sequence::new(alloc),
+    )?;
+    Ok(refused)
+}
+
+/// The answer that was made, within the limits of its channel.
+fn within(
+    alloc: Global,
+    channel: Channel,
+    made: Result<Answer, AllocError>,
+) -> Result<Answer, AllocError>
+    ensures { (whole : Answer) → IfOk made (λ a. a ≡ whole) → IfOk result (λ a. a ≡ limited channel whole) }
+{
+    let whole = made?;
+    let answer = limited(alloc, channel, whole)?;
+    Ok(answer)
+}
+
+/// The answer to a question that came on a channel in a message of a type, off the records of all tasks and the live
+/// engines. On the hub's channel an answer past a limit gives way to a refusal.
+pub fn answer<R: Records>(
+    alloc: Global,
+    table: &R,
+    live: &LiveEngines,
+    channel: Channel,
+    query: &Query,
+    msg_type: &Text,
+) -> Result<Answer, AllocError>
+    requires { Ascends (map (λ e. e.0) live.now) }
+    ensures { IfOk result (λ a. a ≡ answer_in (R.records table.now) live.now channel query.now msg_type.now) }
+{
+    match query {
+        Query::Connection => within(alloc, channel, connection_answer(alloc, live)),
+        Query::Queue { targets, verbose } => within(
+            alloc,
+            channel,
+            queues_answer(alloc, table, live, targets, *verbose),
+        ),
+        Query::Result { ids, status_only } => {
+            result_answer(alloc, channel, table, ids, *status_only)
+        }
+        Query::History => within(alloc, channel, history_answer(alloc, table)),
+        Query::Shutdown => within(alloc, channel, ok_answer(alloc)),
+        Query::Unknown => within(alloc, channel, unknown_request(alloc, msg_type)),
+        Query::Bad { field } => within(alloc, channel, bad_request(alloc, channel, field)),
+    }
+}
