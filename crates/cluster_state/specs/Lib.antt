@@ -1,2 +1,2 @@
+pub mod Plain
 pub mod Seen
-pub mod Stands

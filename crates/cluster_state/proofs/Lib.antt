@@ -1,0 +1,5 @@
+pub mod Blank
+pub mod Decisions
+pub mod Inputs
+pub mod Lists
+pub mod Pieces
