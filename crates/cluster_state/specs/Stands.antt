@@ -1,5 +1,5 @@
 -- The data stands for a history: it holds all that is read off it.
-use Rattle.std.specs.Prelude.{◌≡◌, ℕ, List, map, Option, None, if◌then◌else◌}
+use Rattle.std.specs.Prelude.{◌≡◌, List, map, None, if◌then◌else◌}
 use Rattle.cluster_defs.specs.Words.{Id}
 use Rattle.cluster_defs.specs.Facts.{Facts, is_settled}
 use Rattle.cluster_defs.specs.Histories.{History, facts, Legal}
