@@ -6,3 +6,4 @@ pub mod Inputs
 pub mod Lists
 pub mod Messages
 pub mod Pieces
+pub mod Places

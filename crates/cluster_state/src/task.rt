@@ -4,6 +4,7 @@ ghost use Rattle.std.specs.Prelude.{◌≡◌, Some, None, IfOk, OnOk};
 ghost use Rattle.std.specs.Option.{option_copied};
 ghost use Rattle.cluster_types.specs.declared.record.Record.{Record as RecordType};
 ghost use Rattle.cluster_state.specs.Seen.{request_as, body_as, attempts_as, ending_as, settled_as, begun, attempted, handed_to, ended_on, lost_all, replied_with, settled_with, purged_out};
+ghost use Rattle.cluster_state.specs.Places.{IsSame};
 
 use crate::attempts::{Attempts, Ending, engine_of, runs};
 use crate::request::{Body, Request};
@@ -140,7 +141,8 @@ impl Task {
 
     /// Ends an attempt with its engine.
     pub fn end_on(&mut self, engine: u32) -> Result<(), AllocError>
-        ensures { OnOk result (self.new ≡ ended_on engine self.old) }
+        ensures ok { OnOk result (self.new ≡ ended_on engine self.old) }
+        ensures same { IsSame self.old self.new }
     {
         self.attempts.end(engine)?;
         self.note_attempts();
@@ -149,7 +151,8 @@ impl Task {
 
     /// Ends an attempt by an Open.
     pub fn lose(&mut self) -> Result<(), AllocError>
-        ensures { OnOk result (self.new ≡ lost_all self.old) }
+        ensures ok { OnOk result (self.new ≡ lost_all self.old) }
+        ensures same { IsSame self.old self.new }
     {
         self.attempts.lose()?;
         self.note_attempts();
@@ -163,7 +166,8 @@ impl Task {
         how: Ending,
         reply: Message,
     ) -> Result<(), AllocError>
-        ensures { OnOk result (self.new ≡ replied_with header.now (ending_as how) reply self.old) }
+        ensures ok { OnOk result (self.new ≡ replied_with header.now (ending_as how) reply self.old) }
+        ensures same { IsSame self.old self.new }
     {
         self.attempts.take_reply(header, how)?;
         self.note_attempts();
