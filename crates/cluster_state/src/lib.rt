@@ -2,6 +2,8 @@
 #![tactic(auto)]
 
 pub mod attempts;
+pub mod engines;
+pub mod outcomes;
 pub mod request;
 pub mod state;
 pub mod task;
