@@ -36,7 +36,7 @@ pub struct State {
     /// How many beats an engine may miss.
     pub misses: u32,
     /// The greatest moment of the Opens, Beats and Times, in milliseconds.
-    pub now: u64,
+    pub clock: u64,
     /// The moment of the last input, in milliseconds.
     pub moment: u64,
     /// The word that the next hand-out draws by.
@@ -80,7 +80,7 @@ impl State {
             scheme: Scheme::LeastLoad,
             hwm: 0,
             misses: 0,
-            now: 0,
+            clock: 0,
             moment: 0,
             word: 0,
             beats: 0,
@@ -113,7 +113,7 @@ impl State {
         self.scheme = scheme;
         self.hwm = hwm;
         self.misses = misses;
-        self.now = self.now.max(moment);
+        self.clock = self.clock.max(moment);
         self.moment = moment;
         self.word = 0;
         self.beats = 0;
@@ -185,7 +185,7 @@ impl State {
     pub fn pass(&mut self, moment: u64)
         ensures { plain self.new ≡ passed moment (plain self.old) }
     {
-        self.now = self.now.max(moment);
+        self.clock = self.clock.max(moment);
     }
 
     /// Makes an engine.
