@@ -9,3 +9,4 @@ pub mod Lists
 pub mod Messages
 pub mod Pieces
 pub mod Places
+pub mod Purging

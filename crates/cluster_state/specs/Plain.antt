@@ -1,5 +1,6 @@
 -- The data of a cluster, as lists, and how the entries change it.
-use Rattle.std.specs.Prelude.{ℕ, max, ◌+◌, ◌==◌, List, [], ◌∷◌, ◌++◌, length, map, Option, Some, None, Bool, true, false, not, if◌then◌else◌, filter, find, option_map}
+use Rattle.std.specs.Prelude.{ℕ, max, ◌+◌, ◌==◌, ◌&&◌, ◌||◌, List, [], ◌∷◌, ◌++◌, length, map, Option, Some, None, Bool, true, false, not, if◌then◌else◌, filter, find, option_map}
+use Rattle.std.specs.List.{list_any}
 use Rattle.std.specs.Option.{option_and_then}
 use Rattle.cluster_types.specs.declared.config.Channel.{Channel}
 use Rattle.cluster_types.specs.declared.config.Scheme.{Scheme}
@@ -11,12 +12,12 @@ use Rattle.cluster_types.specs.declared.verdict.Cause.{Cause}
 use Rattle.cluster_types.specs.declared.verdict.Cause.TheVariants.{Reply}
 use Rattle.cluster_defs.specs.declared.connection.Connection.{Connection}
 use Rattle.cluster_defs.specs.declared.engine.Engine.{Engine}
-use Rattle.cluster_defs.specs.Words.{Id}
+use Rattle.cluster_defs.specs.Words.{Id, is_listed}
 use Rattle.cluster_defs.specs.Connections.{with_connection, without_connection}
 use Rattle.cluster_defs.specs.Engines.{Engines, joined, left, echoed, without_left, with_engine, with_mark}
 use Rattle.cluster_defs.specs.Tasks.{Ending, ending, counts, Task, Settled, settled_as, new_task}
 use Rattle.cluster_defs.specs.Requests.{Request, Body, body_of, parts_of}
-use Rattle.cluster_defs.specs.Facts.{Facts, is_direct_id}
+use Rattle.cluster_defs.specs.Facts.{Facts, is_settled, is_direct_id}
 use Rattle.cluster_defs.specs.Acceptance.{Demand, accepted, request_made}
 use Rattle.cluster_defs.specs.Purges.{Copy, purged_by, copied_by, resubmitted}
 use Rattle.cluster_defs.specs.Steps.{moved, next_word}
@@ -192,7 +193,11 @@ abbrev pub accepted_by : Option Demand → (Demand → Request) → Body → Pla
 accepted_by None request body p = p
 accepted_by (Some d) request body p = record p { tasks = p.tasks ++ begun_task d.submission.id (length p.tasks + 1) (request d) body ∷ [] }
 
--- the ids that a Purge drops, where it is accepted
+-- whether all of some ids may be dropped: each is known, not purged and settled
+abbrev pub may_drop : Facts → List Id → Bool
+may_drop f ids = not (list_any (λ id. not (is_listed id f.known) || f.purged id) ids) && not (list_any (λ id. not (is_settled f id)) ids)
+
+-- the tasks, once some ids are dropped
 abbrev pub purged_tasks : List Id → List Seen → List Seen
 purged_tasks [] ts = ts
 purged_tasks (id ∷ ids) ts = purged_tasks ids (changed id purged_out ts)

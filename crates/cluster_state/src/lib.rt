@@ -5,6 +5,7 @@ pub mod acceptance;
 pub mod attempts;
 pub mod engines;
 pub mod outcomes;
+pub mod purges;
 pub mod replies;
 pub mod request;
 pub mod state;
