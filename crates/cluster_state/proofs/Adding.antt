@@ -32,7 +32,7 @@ use Rattle.cluster_state.proofs.Lists.{map_listed}
 use Rattle.cluster_state.proofs.Pieces.{seen_from, look_is}
 use Rattle.cluster_state.proofs.Blank.{Blank, blank}
 use Rattle.cluster_state.proofs.Exact.{unsettled, unpurged}
-use Rattle.cluster_state.proofs.Messages.{noted_is, or_false}
+use Rattle.cluster_state.proofs.Told.{noted_is, or_false}
 
 -- PLACES
 

@@ -6,7 +6,7 @@ pub mod Exact
 pub mod Inputs
 pub mod Known
 pub mod Lists
-pub mod Messages
 pub mod Pieces
 pub mod Places
 pub mod Purging
+pub mod Told

@@ -1,5 +1,5 @@
 -- The data of a cluster, as lists, and how the entries change it.
-use Rattle.std.specs.Prelude.{ℕ, max, ◌+◌, ◌==◌, ◌&&◌, ◌||◌, List, [], ◌∷◌, ◌++◌, length, map, Option, Some, None, Bool, true, false, not, if◌then◌else◌, filter, find, option_map}
+use Rattle.std.specs.Prelude.{ℕ, max, nat_lt, ◌+◌, ◌==◌, ◌&&◌, ◌||◌, List, [], ◌∷◌, ◌++◌, length, map, Option, Some, None, Bool, true, false, not, if◌then◌else◌, filter, find, option_map}
 use Rattle.std.specs.List.{list_any}
 use Rattle.std.specs.Option.{option_and_then}
 use Rattle.cluster_types.specs.declared.config.Channel.{Channel}
@@ -18,7 +18,7 @@ use Rattle.cluster_defs.specs.Engines.{Engines, joined, left, echoed, without_le
 use Rattle.cluster_defs.specs.Tasks.{Ending, ending, counts, Task, Settled, settled_as, new_task}
 use Rattle.cluster_defs.specs.Requests.{Request, Body, body_of, parts_of}
 use Rattle.cluster_defs.specs.Facts.{Facts, is_settled, is_direct_id}
-use Rattle.cluster_defs.specs.Acceptance.{Demand, accepted, request_made}
+use Rattle.cluster_defs.specs.Acceptance.{Demand, most_ids, accepted, request_made}
 use Rattle.cluster_defs.specs.Purges.{Copy, purged_by, copied_by, resubmitted}
 use Rattle.cluster_defs.specs.Steps.{moved, next_word}
 use Rattle.cluster_defs.specs.Outcomes.{made_outcome}
@@ -215,14 +215,20 @@ copy_of again number new (Some t) = copy_with (again new) number new t.request t
     copy_with again number new (Some request) (Some body) = begun_task new number (again request) body ∷ []
     copy_with again number new _ _ = []
 
--- the tasks with the copies that a Resubmit makes, with the requests changed so
-abbrev pub copied_tasks : (Id → Request → Request) → List Copy → List Seen → List Seen
-copied_tasks again [] ts = ts
-copied_tasks again (c ∷ copies) ts = copied_tasks again copies (ts ++ copy_of again (length ts + 1) c.new (seen_in ts c.old))
+-- the copies that a Resubmit makes of some tasks, from a number on, with the requests changed so
+abbrev pub copies_in : (Id → Request → Request) → ℕ → List Copy → List Seen → List Seen
+copies_in again number [] ts = []
+copies_in again number (c ∷ copies) ts = copy_of again number c.new (seen_in ts c.old) ++ copies_in again (number + 1) copies ts
 
 abbrev pub copied_out : (Id → Request → Request) → Option (List Copy) → Plain → Plain
 copied_out again None p = p
-copied_out again (Some copies) p = record p { tasks = copied_tasks again copies p.tasks }
+copied_out again (Some copies) p = record p { tasks = p.tasks ++ copies_in again (length p.tasks + 1) copies p.tasks }
+
+-- whether all of some ids may be copied: each is known, not purged and settled, and there is room
+abbrev pub may_copy : Facts → List Id → Bool
+may_copy f ids =
+    not (list_any (λ id. not (is_listed id f.known)) ids) && not (list_any (λ id. f.purged id) ids)
+    && not (list_any (λ id. not (is_settled f id)) ids) && not (nat_lt most_ids (length f.known + length ids))
 
 -- a message with this meaning, where these facts stand
 abbrev pub told : Facts → ℕ → ℕ → Message → Event → Plain → Plain

@@ -3,7 +3,9 @@
 
 pub mod acceptance;
 pub mod attempts;
+pub mod copies;
 pub mod engines;
+pub mod messages;
 pub mod outcomes;
 pub mod purges;
 pub mod replies;

@@ -87,7 +87,7 @@ impl State {
         ids.iter().any(|id| self.is_gone(id))
     }
 
-    fn names_unsettled(&self, ids: &[Text]) -> bool
+    pub(crate) fn names_unsettled(&self, ids: &[Text]) -> bool
         ensures { result ≡ list_any (λ id. not (is_settled (facts_in (plain self.now)) id)) ids.now }
     {
         ids.iter().any(|id| !self.is_settled(id))
