@@ -1,7 +1,10 @@
 pub mod Accepting
 pub mod Adding
 pub mod Blank
+pub mod Changes
+pub mod Copying
 pub mod Decisions
+pub mod Dropping
 pub mod Exact
 pub mod Inputs
 pub mod Known
