@@ -49,3 +49,9 @@ made_is f ids =
 pub made_in : (p : Plain) (ids : List Id) → made (resubmitting (facts_in p) ids) ≡ (if may_copy (facts_in p) ids then Some (copies_from (length p.tasks + 1) ids) else None)
 made_in p ids =
     made_is (facts_in p) ids ∙ ap (λ n. if may_copy (facts_in p) ids then Some (copies_from (n + 1) ids) else None) (length-map p.tasks (λ (t : Seen). t.row.id))
+
+pub refused : (p : Plain) (ids : List Id) → may_copy (facts_in p) ids ≡ false → made (resubmitting (facts_in p) ids) ≡ None
+refused p ids off = made_in p ids ∙ ap (λ b. if b then Some (copies_from (length p.tasks + 1) ids) else None) off
+
+pub accepted : (p : Plain) (ids : List Id) → may_copy (facts_in p) ids ≡ true → made (resubmitting (facts_in p) ids) ≡ Some (copies_from (length p.tasks + 1) ids)
+accepted p ids on = made_in p ids ∙ ap (λ b. if b then Some (copies_from (length p.tasks + 1) ids) else None) on

@@ -9,6 +9,7 @@ pub mod Exact
 pub mod Inputs
 pub mod Known
 pub mod Lists
+pub mod Multiplying
 pub mod Pieces
 pub mod Places
 pub mod Purging

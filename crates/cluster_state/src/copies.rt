@@ -152,7 +152,6 @@ impl State {
     }
 
     /// Takes a resubmission, where it is accepted, and tells whether it is.
-    #[tactic(auto, using(crate::proofs::Copying::made_in))]
     pub fn take_resubmit(&mut self, moment: u64, ids: &Ids) -> Result<bool, AllocError>
         requires { moment ≤ 253402300799999 }
         ensures told { IfOk result (λ b. b ≡ is_some (copied_by (facts_in (plain self.old)) (Some (Event.Resubmit ids.now)))) }
