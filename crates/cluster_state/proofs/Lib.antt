@@ -13,4 +13,5 @@ pub mod Multiplying
 pub mod Pieces
 pub mod Places
 pub mod Purging
+pub mod Steps
 pub mod Told
