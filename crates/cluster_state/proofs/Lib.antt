@@ -5,6 +5,7 @@ pub mod Changes
 pub mod Copying
 pub mod Decisions
 pub mod Dropping
+pub mod Ending
 pub mod Exact
 pub mod Inputs
 pub mod Known
