@@ -1,6 +1,5 @@
 -- What is seen of a task: all that a history says of one id.
-use Rattle.std.specs.Prelude.{ℕ, suc, List, [], ◌∷◌, find, slice_get, Option, Some, None, Bool, true, false, if◌then◌else◌, bytes_eq, option_map}
-use Rattle.std.specs.Option.{is_some}
+use Rattle.std.specs.Prelude.{ℕ, suc, List, [], ◌∷◌, find, is_some, slice_get, Option, Some, None, Bool, true, false, if◌then◌else◌, bytes_eq, option_map}
 use Rattle.cluster_types.specs.declared.message.Message.{Message}
 use Rattle.cluster_types.specs.declared.record.Record.{Record}
 use Rattle.cluster_defs.specs.Words.{Id}
@@ -62,7 +61,7 @@ pub record Seen : Type 0 where
   pub request : Option RequestFacts
   pub body : Option BodyFacts
   pub attempts : TaskFacts
-  pub reply : Option Message  -- the last valid reply, until it is settled
+  pub reply : Option Message  -- the last valid reply
   pub settled : Option SettledFacts
 
 -- an accepted request that was not handed out yet
@@ -99,7 +98,6 @@ replied_with header how message t = record (attempted (took header how t.attempt
 -- once it is settled, with this outcome
 abbrev pub settled_with : SettledFacts → Option Message → Seen → Seen
 settled_with s outcome t = record t {
-  reply = None;
   settled = Some s;
   row = record t.row { settled = Some (s.verdict, s.cause); outcome = outcome };
 }

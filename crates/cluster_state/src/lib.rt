@@ -3,6 +3,5 @@
 
 pub mod attempts;
 pub mod request;
-pub mod state;
 pub mod task;
 pub mod tasks;

@@ -110,7 +110,7 @@ impl Task {
         &self.attempts
     }
 
-    /// The last valid reply, until the task is settled.
+    /// The last valid reply.
     pub fn reply(&self) -> Option<&Message>
         ensures { option_copied result ≡ self.now.reply }
     {
@@ -179,7 +179,6 @@ impl Task {
     pub fn settle(&mut self, settled: Settled, outcome: Option<Message>)
         ensures { self.new ≡ settled_with (settled_as settled) outcome self.old }
     {
-        self.reply = None;
         self.settled = Some(settled);
         self.row.settled = Some((settled.verdict, settled.cause));
         self.row.outcome = outcome;
