@@ -1,0 +1,1 @@
+//! Answers over a table of few records.

@@ -1,0 +1,1 @@
+//! Ids over a table of three records.
