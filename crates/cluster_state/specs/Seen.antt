@@ -1,5 +1,6 @@
 -- What is seen of a task: all that a history says of one id.
-use Rattle.std.specs.Prelude.{ℕ, suc, List, [], ◌∷◌, find, is_some, slice_get, Option, Some, None, Bool, true, false, if◌then◌else◌, bytes_eq, option_map}
+use Rattle.std.specs.Prelude.{ℕ, suc, List, [], ◌∷◌, find, slice_get, Option, Some, None, Bool, true, false, if◌then◌else◌, bytes_eq, option_map}
+use Rattle.std.specs.Option.{is_some}
 use Rattle.cluster_types.specs.declared.message.Message.{Message}
 use Rattle.cluster_types.specs.declared.record.Record.{Record}
 use Rattle.cluster_defs.specs.Words.{Id}
