@@ -3,5 +3,6 @@
 
 pub mod attempts;
 pub mod request;
+pub mod state;
 pub mod task;
 pub mod tasks;
