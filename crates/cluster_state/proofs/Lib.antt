@@ -1,8 +1,10 @@
+pub mod Accepting
 pub mod Adding
 pub mod Blank
 pub mod Decisions
 pub mod Exact
 pub mod Inputs
+pub mod Known
 pub mod Lists
 pub mod Messages
 pub mod Pieces

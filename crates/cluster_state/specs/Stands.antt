@@ -11,7 +11,7 @@ pub record Stands (s : State) (f : Facts) : Type 0 where
   pub scheme : s.scheme ≡ f.scheme
   pub hwm : s.hwm ≡ f.hwm
   pub misses : s.misses ≡ f.misses
-  pub now : s.now ≡ f.now
+  pub now : s.clock ≡ f.now
   pub moment : s.moment ≡ f.moment
   pub word : s.word ≡ f.word
   pub beats : s.beats ≡ f.beats
@@ -29,7 +29,7 @@ plain s = record {
   scheme = s.scheme;
   hwm = s.hwm;
   misses = s.misses;
-  now = s.now;
+  now = s.clock;
   moment = s.moment;
   word = s.word;
   beats = s.beats;

@@ -1,7 +1,11 @@
 //! What is known of a cluster after a history, as plain data, and how each further entry changes it.
 #![tactic(auto)]
 
+pub mod acceptance;
 pub mod attempts;
+pub mod engines;
+pub mod outcomes;
+pub mod replies;
 pub mod request;
 pub mod state;
 pub mod task;

@@ -1,8 +1,10 @@
 //! The ids of the records that pass a test, by number.
 
-ghost use Rattle.std.specs.Prelude.{◌≡◌, IfOk};
+ghost use Rattle.std.specs.Prelude.{◌≡◌, ◌+◌, ◌<◌, ◌^◌, ◌++◌, Bool, List, length, IfOk, OnOk};
+ghost use Rattle.std.specs.Option.{option_copied};
 ghost use Rattle.cluster_defs.specs.RecordAnswers.{ids_where};
-ghost use Rattle.hub_queries.specs.Kinds.{is_kind};
+ghost use Rattle.cluster_defs.specs.Words.{Id};
+ghost use Rattle.hub_queries.specs.Kinds.{is_kind, id_if};
 ghost use Rattle.hub_queries.specs.Tallies.{tallied};
 
 use crate::tally::Tally;
@@ -26,4 +28,37 @@ fn is_kind(kind: Kind, task: &Record) -> bool
         Kind::Kept => !task.purged,
         Kind::Waiting => task.settled.is_none() && !task.running && !task.direct,
     }
+}
+
+/// Adds the id of a record that is of a kind.
+fn add_kind(
+    tally: &mut Tally,
+    alloc: Global,
+    kind: Kind,
+    task: Option<&Record>,
+) -> Result<(), AllocError>
+    ensures { (verbose : Bool) (ids : List Id) → length ids + 1 < 2 ^ 64 → tally.old ≡ tallied verbose ids → OnOk result (tally.new ≡ tallied verbose (ids ++ id_if (is_kind kind) (option_copied task.entry))) }
+{
+    let Some(task) = task else {
+        return Ok(());
+    };
+    let wanted = is_kind(kind, task);
+    tally.add_if(alloc, wanted, &task.id)?;
+    Ok(())
+}
+
+/// The ids of all records of a kind, by number.
+pub fn tally_of<R: Records>(
+    alloc: Global,
+    table: &R,
+    kind: Kind,
+    verbose: bool,
+) -> Result<Tally, AllocError>
+    ensures { IfOk result (λ t. t ≡ tallied verbose (ids_where (λ r. is_kind kind r) (R.records table.now))) }
+{
+    let mut tally = Tally::new(alloc, verbose);
+    for place in 0..table.count() {
+        add_kind(&mut tally, alloc, kind, table.at(place))?;
+    }
+    Ok(tally)
 }

@@ -1,0 +1,4 @@
+pub mod Ascents
+pub mod Numbers
+pub mod RowSteps
+pub mod Wheres
