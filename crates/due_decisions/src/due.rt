@@ -14,7 +14,7 @@ use load_schemes::chooser::Chooser;
 use std::alloc::{AllocError, Global};
 
 fn hand_step(alloc: Global, state: &State, chooser: &Chooser) -> Result<Option<Entry>, AllocError>
-    ensures { IfOk result (λ d. d ≡ hand_then (plain state.entry.now)) }
+    ensures { IfOk result (λ d. d ≡ hand_then (plain state.now)) }
 {
     let rooms = rooms_in(
         alloc,
@@ -35,7 +35,7 @@ fn hand_step(alloc: Global, state: &State, chooser: &Chooser) -> Result<Option<E
 }
 
 fn direct_step(alloc: Global, state: &State, chooser: &Chooser) -> Result<Option<Entry>, AllocError>
-    ensures { IfOk result (λ d. d ≡ direct_then (plain state.entry.now)) }
+    ensures { IfOk result (λ d. d ≡ direct_then (plain state.now)) }
 {
     match direct_due(&state.tasks)? {
         Some(hand) => Ok(Some(hand)),
@@ -47,9 +47,9 @@ fn direct_step(alloc: Global, state: &State, chooser: &Chooser) -> Result<Option
 }
 
 fn fail_step(alloc: Global, state: &State, chooser: &Chooser) -> Result<Option<Entry>, AllocError>
-    ensures { IfOk result (λ d. d ≡ fail_then (plain state.entry.now)) }
+    ensures { IfOk result (λ d. d ≡ fail_then (plain state.now)) }
 {
-    match fail_due(&state.tasks, &state.engines, state.now)? {
+    match fail_due(&state.tasks, &state.engines, state.clock)? {
         Some(settle) => Ok(Some(settle)),
         None => {
             let hand = direct_step(alloc, state, chooser)?;
@@ -59,7 +59,7 @@ fn fail_step(alloc: Global, state: &State, chooser: &Chooser) -> Result<Option<E
 }
 
 fn settle_step(alloc: Global, state: &State, chooser: &Chooser) -> Result<Option<Entry>, AllocError>
-    ensures { IfOk result (λ d. d ≡ settle_then (plain state.entry.now)) }
+    ensures { IfOk result (λ d. d ≡ settle_then (plain state.now)) }
 {
     match settle_due(&state.tasks)? {
         Some(settle) => Ok(Some(settle)),
@@ -71,7 +71,7 @@ fn settle_step(alloc: Global, state: &State, chooser: &Chooser) -> Result<Option
 }
 
 fn lose_step(alloc: Global, state: &State, chooser: &Chooser) -> Result<Option<Entry>, AllocError>
-    ensures { IfOk result (λ d. d ≡ due_in (plain state.entry.now)) }
+    ensures { IfOk result (λ d. d ≡ due_in (plain state.now)) }
 {
     match lose_due(&state.engines, state.misses, state.beats) {
         Some(loss) => Ok(Some(loss)),
@@ -85,7 +85,7 @@ fn lose_step(alloc: Global, state: &State, chooser: &Chooser) -> Result<Option<E
 /// The one decision that is due, over data that stand for a legal history. It looks at the unsettled tasks and the live
 /// engines alone, each of a task's dependencies by its id.
 pub fn due(alloc: Global, state: &State, chooser: &Chooser) -> Result<Option<Entry>, AllocError>
-    ensures { IfOk result (λ d. (history : History) → Knows state.entry.now history → d ≡ due (facts history)) }
+    ensures { IfOk result (λ d. (history : History) → Knows state.now history → d ≡ due (facts history)) }
 {
     let found = lose_step(alloc, state, chooser)?;
     Ok(found)
