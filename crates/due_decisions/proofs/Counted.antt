@@ -11,7 +11,7 @@ use Rattle.cluster_state.specs.Seen.{Seen, open_places, holds_at}
 use Rattle.due_decisions.specs.declared.rooms.Room.{Room}
 use Rattle.due_decisions.specs.Table.{alone, loads, noted, noted_at, tally, load_in}
 use Rattle.due_decisions.proofs.Lists.{map_alike, map_map, map_self}
-use Rattle.due_decisions.proofs.Places.{count_open}
+use Rattle.due_decisions.proofs.Unsettled.{count_open}
 
 idle_at : (n : ℕ) (a : Attempt) (b c : Bool) → runs a ≡ false → (b && (runs_at n a && c)) ≡ false
 idle_at n (Running m) b c h = cc

@@ -1,6 +1,6 @@
 pub mod Counted
 pub mod Lists
-pub mod Places
+pub mod OpenTasks
 pub mod Stand
-pub mod Tests
+pub mod Unsettled
 pub mod Whole

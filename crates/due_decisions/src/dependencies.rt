@@ -52,16 +52,7 @@ pub fn is_asked(dep: &Dep, settled: Option<Settled>) -> bool
 fn is_other_kind(dep: &Dep, settled: Option<Settled>) -> bool
     ensures { result ≡ other_kind dep.now (option_map settled_as settled) }
 {
-    match settled {
-        Some(settled) => {
-            if settled.verdict.completed() {
-                !dep.success
-            } else {
-                !dep.failure
-            }
-        }
-        None => false,
-    }
+    settled.is_some() && !is_asked(dep, settled)
 }
 
 fn is_asked_of(dep: &Dep, tasks: &Tasks, id: &Text) -> bool

@@ -6,8 +6,10 @@ ghost use Rattle.cluster_defs.specs.Scheduling.{due};
 ghost use Rattle.cluster_state.specs.Stands.{plain, Knows};
 ghost use Rattle.due_decisions.specs.Table.{hand_then, direct_then, fail_then, settle_then, due_in};
 
-use crate::items::{direct_due, fail_due, hand_due, lose_due, settle_due};
+use crate::handing::{direct_due, hand_due};
+use crate::losing::lose_due;
 use crate::rooms::rooms_in;
+use crate::settling::{fail_due, settle_due};
 use cluster_state::state::State;
 use cluster_types::entry::Entry;
 use load_schemes::chooser::Chooser;

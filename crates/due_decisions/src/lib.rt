@@ -4,5 +4,10 @@
 mod dependencies;
 pub mod due;
 mod failing;
-mod items;
+mod handing;
+mod losing;
+mod places;
 mod rooms;
+mod settling;
+#[cfg(test)]
+mod tests;

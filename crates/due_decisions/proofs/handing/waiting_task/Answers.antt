@@ -3,9 +3,9 @@ use Rattle.std.specs.Prelude.{slice_get}
 use Rattle.std.specs.Option.{option_and_then}
 use Rattle.std.specs.List.{list_any}
 use Rattle.due_decisions.specs.Table.{fits}
-use Rattle.due_decisions.proofs.Places.{find_open}
-use Rattle.due_decisions.proofs.Tests.{fits_closed, none_fit}
-use Rattle.due_decisions.proofs.items.waiting_task.Goals as goal
+use Rattle.due_decisions.proofs.Unsettled.{find_open}
+use Rattle.due_decisions.proofs.OpenTasks.{fits_closed, none_fit}
+use Rattle.due_decisions.proofs.handing.waiting_task.Goals as goal
 
 pub returns-else-is_empty : goal.returns-else-is_empty
 returns-else-is_empty c =

@@ -1,8 +1,8 @@
 use Rattle.std.proofs.Common.{ap, sym, ◌∙◌, ◌&&◌}
 use Rattle.std.specs.List.{list_any}
 use Rattle.due_decisions.specs.Table.{takes}
-use Rattle.due_decisions.proofs.Tests.{fits_some}
-use Rattle.due_decisions.proofs.items.may_run.Goals as goal
+use Rattle.due_decisions.proofs.OpenTasks.{fits_some}
+use Rattle.due_decisions.proofs.handing.may_run.Goals as goal
 
 pub returns-else-is_ready : goal.returns-else-is_ready
 returns-else-is_ready c =

@@ -2,9 +2,9 @@ use Rattle.std.proofs.Common.{ap, ◌∙◌}
 use Rattle.std.specs.Prelude.{slice_get}
 use Rattle.std.specs.Option.{option_and_then}
 use Rattle.due_decisions.specs.Table.{final_at}
-use Rattle.due_decisions.proofs.Places.{find_open}
-use Rattle.due_decisions.proofs.Tests.{final_closed}
-use Rattle.due_decisions.proofs.items.final_task.Goals as goal
+use Rattle.due_decisions.proofs.Unsettled.{find_open}
+use Rattle.due_decisions.proofs.OpenTasks.{final_closed}
+use Rattle.due_decisions.proofs.settling.final_task.Goals as goal
 
 pub returns : goal.returns
 returns c =

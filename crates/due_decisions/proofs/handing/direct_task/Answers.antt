@@ -3,9 +3,9 @@ use Rattle.std.specs.Prelude.{slice_get}
 use Rattle.std.specs.Option.{option_and_then, is_some}
 use Rattle.cluster_defs.specs.Scheduling.{ready_for}
 use Rattle.due_decisions.specs.Table.{alone}
-use Rattle.due_decisions.proofs.Places.{find_open}
-use Rattle.due_decisions.proofs.Tests.{direct_closed}
-use Rattle.due_decisions.proofs.items.direct_task.Goals as goal
+use Rattle.due_decisions.proofs.Unsettled.{find_open}
+use Rattle.due_decisions.proofs.OpenTasks.{direct_closed}
+use Rattle.due_decisions.proofs.handing.direct_task.Goals as goal
 
 pub returns : goal.returns
 returns c =

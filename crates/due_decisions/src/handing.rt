@@ -1,204 +1,24 @@
-//! Each kind of decision, where it is due.
+//! Direct requests that wait for their engine, and Submits that may run.
 
-ghost use Rattle.std.specs.Prelude.{◌≡◌, nat_lt, find, slice_get, option_map, filter, map, IfOk};
+ghost use Rattle.std.specs.Prelude.{◌≡◌, find, slice_get, option_map, map, IfOk};
 ghost use Rattle.std.specs.List.{list_any};
-ghost use Rattle.std.specs.Option.{option_copied, option_and_then, is_some};
-ghost use Rattle.cluster_defs.specs.Engines.{missed};
-ghost use Rattle.cluster_defs.specs.Tasks.{is_never};
-ghost use Rattle.cluster_defs.specs.Scheduling.{lose_due, verdict_at, verdict, ready_for};
+ghost use Rattle.std.specs.Option.{option_copied, is_some};
+ghost use Rattle.cluster_defs.specs.Scheduling.{ready_for};
 ghost use Rattle.cluster_state.specs.Seen.{open_places, holds_at};
-ghost use Rattle.due_decisions.specs.Table.{alone, beating, final_at, settle_of, settle_in, failing_in, fail_of, fail_in, direct_of, direct_in, ready, takes, fits, rooms_for, picked, hand_of, hand_in};
+ghost use Rattle.due_decisions.specs.Table.{alone, direct_of, direct_in, ready, takes, fits, rooms_for, picked, hand_of, hand_in};
 
 use crate::dependencies::{is_met, is_met_on};
-use crate::failing::{failing, is_excluded, is_target, rests};
+use crate::failing::{is_excluded, is_target, rests};
+use crate::places::task_at;
 use crate::rooms::Room;
-use cluster_defs::attempt::Attempt;
-use cluster_defs::engine::Engine;
 use cluster_state::attempts::is_never;
 use cluster_state::task::Task;
 use cluster_state::tasks::Tasks;
 use cluster_types::config::Scheme;
 use cluster_types::copying::TryCopy;
 use cluster_types::entry::Entry;
-use cluster_types::verdict::{Cause, Verdict};
 use load_schemes::chooser::Chooser;
 use std::alloc::{AllocError, Global};
-
-// AN ENGINE THAT MISSED TOO MANY BEATS
-
-/// How many beats an engine has missed.
-fn missed(beats: u64, engine: &Engine) -> u64
-    ensures { result ≡ missed beats engine.now }
-{
-    beats.saturating_sub(engine.mark)
-}
-
-fn is_missing(misses: u32, beats: u64, engine: &Engine) -> bool
-    ensures { result ≡ nat_lt misses (missed beats engine.now) }
-{
-    u64::from(misses) < missed(beats, engine)
-}
-
-fn missing_engine(engines: &[Engine], misses: u32, beats: u64) -> Option<&Engine>
-    ensures { option_copied result ≡ find (λ e. nat_lt misses (missed beats e)) engines.now }
-{
-    engines.iter().find(|e| is_missing(misses, beats, e))
-}
-
-/// The loss of the lowest engine that missed more beats than it may.
-pub fn lose_due(engines: &[Engine], misses: u32, beats: u64) -> Option<Entry>
-    ensures { result ≡ lose_due (beating engines.now misses beats) }
-{
-    match missing_engine(engines, misses, beats) {
-        Some(engine) => Some(Entry::Lose {
-            engine: engine.number,
-        }),
-        None => None,
-    }
-}
-
-// A TASK WHOSE ATTEMPTS ARE OVER
-
-/// The task at a place.
-fn task_at(tasks: &Tasks, place: Option<usize>) -> Option<&Task>
-    ensures { option_copied result ≡ option_and_then (slice_get tasks.now) place }
-{
-    match place {
-        Some(place) => tasks.as_slice().get(place),
-        None => None,
-    }
-}
-
-/// The verdict and cause that the last attempt leads to, where no retry is left or one is.
-fn verdict_at(over: bool, attempt: Attempt) -> Option<(Verdict, Cause)>
-    ensures { result ≡ verdict_at over attempt }
-{
-    match attempt {
-        Attempt::EndedOk { engine: _ } => Some((Verdict::Completed, Cause::Reply)),
-        Attempt::EndedBadly { engine: _ } if over => Some((Verdict::Failed, Cause::Reply)),
-        Attempt::Lost { engine: _ } if over => Some((Verdict::Failed, Cause::EngineError)),
-        _ => None,
-    }
-}
-
-/// The verdict and cause of a task whose attempts are over.
-fn verdict(task: &Task) -> Option<(Verdict, Cause)>
-    ensures { result ≡ verdict (alone task.now) task.now.row.id }
-{
-    let over = u64::from(task.request().retries) < task.attempts().spent;
-    verdict_at(over, task.attempts().last)
-}
-
-fn is_final(task: &Task) -> bool
-    ensures { result ≡ final_at task.now }
-{
-    verdict(task).is_some() && task.settled().is_none()
-}
-
-fn is_final_at(tasks: &[Task], place: usize) -> bool
-    ensures { result ≡ holds_at final_at tasks.now place }
-{
-    match tasks.get(place) {
-        Some(task) => is_final(task),
-        None => false,
-    }
-}
-
-fn final_place(tasks: &Tasks) -> Option<usize>
-    ensures { result ≡ find (holds_at final_at tasks.now) (open_places tasks.now) }
-{
-    tasks
-        .unsettled()
-        .iter()
-        .copied()
-        .find(|p| is_final_at(tasks.as_slice(), *p))
-}
-
-fn final_task(tasks: &Tasks) -> Option<&Task>
-    ensures { option_copied result ≡ find final_at tasks.now }
-{
-    task_at(tasks, final_place(tasks))
-}
-
-fn settle_of(task: &Task) -> Result<Option<Entry>, AllocError>
-    ensures { IfOk result (λ d. d ≡ settle_of task.now) }
-{
-    match verdict(task) {
-        Some((verdict, cause)) => Ok(Some(Entry::Settle {
-            id: task.id().copy()?,
-            verdict,
-            cause,
-        })),
-        None => Ok(None),
-    }
-}
-
-/// The settle of the lowest task whose attempts are over.
-pub fn settle_due(tasks: &Tasks) -> Result<Option<Entry>, AllocError>
-    ensures { IfOk result (λ d. d ≡ settle_in tasks.now) }
-{
-    match final_task(tasks) {
-        Some(task) => settle_of(task),
-        None => Ok(None),
-    }
-}
-
-// A TASK THAT IS INVALID, DEAD OR TIMED OUT
-
-fn is_failing_at(tasks: &Tasks, engines: &[Engine], now: u64, place: usize) -> bool
-    ensures { result ≡ holds_at (λ t. is_some (failing_in tasks.now engines.now now t)) tasks.now place }
-{
-    match tasks.as_slice().get(place) {
-        Some(task) => failing(tasks, engines, now, task).is_some(),
-        None => false,
-    }
-}
-
-fn failing_place(tasks: &Tasks, engines: &[Engine], now: u64) -> Option<usize>
-    ensures { result ≡ find (holds_at (λ t. is_some (failing_in tasks.now engines.now now t)) tasks.now) (open_places tasks.now) }
-{
-    tasks
-        .unsettled()
-        .iter()
-        .copied()
-        .find(|p| is_failing_at(tasks, engines, now, *p))
-}
-
-fn failing_task<'a>(tasks: &'a Tasks, engines: &[Engine], now: u64) -> Option<&'a Task>
-    ensures { option_copied result ≡ find (λ t. is_some (failing_in tasks.now engines.now now t)) tasks.now }
-{
-    task_at(tasks, failing_place(tasks, engines, now))
-}
-
-fn fail_of(
-    tasks: &Tasks,
-    engines: &[Engine],
-    now: u64,
-    task: &Task,
-) -> Result<Option<Entry>, AllocError>
-    ensures { IfOk result (λ d. d ≡ fail_of tasks.now engines.now now task.now) }
-{
-    match failing(tasks, engines, now, task) {
-        Some(cause) => Ok(Some(Entry::Settle {
-            id: task.id().copy()?,
-            verdict: Verdict::Failed,
-            cause,
-        })),
-        None => Ok(None),
-    }
-}
-
-/// The settle of the lowest Submit that fails without an attempt.
-pub fn fail_due(tasks: &Tasks, engines: &[Engine], now: u64) -> Result<Option<Entry>, AllocError>
-    ensures { IfOk result (λ d. d ≡ fail_in tasks.now engines.now now) }
-{
-    match failing_task(tasks, engines, now) {
-        Some(task) => fail_of(tasks, engines, now, task),
-        None => Ok(None),
-    }
-}
-
-// A DIRECT REQUEST
 
 /// The engine of an unsettled direct request without an attempt.
 fn ready_for(task: &Task) -> Option<u32>
@@ -257,8 +77,6 @@ pub fn direct_due(tasks: &Tasks) -> Result<Option<Entry>, AllocError>
         None => Ok(None),
     }
 }
-
-// A SUBMIT THAT MAY RUN
 
 /// Whether a task is a Submit that waits, with attempts left and what it waits for met.
 fn is_ready(tasks: &Tasks, task: &Task) -> bool
