@@ -18,10 +18,13 @@ pub struct Rows<'a> {
 }
 
 impl<'a> Rows<'a> {
+    ghost use Rattle.cluster_outs.specs.Rows.{rows};
+
     /// Those of the tasks of a state.
+    #[tactic(auto, using(crate::proofs::Telling::rows_sound))]
     pub fn new(state: &'a State) -> Rows<'a>
         requires { Reached (plain state.now) }
-        ensures { Rows.Records.records result ≡ map (λ t. t.row) state.now.tasks }
+        ensures { rows result ≡ map (λ t. t.row) state.now.tasks }
     {
         Rows {
             tasks: &state.tasks,
