@@ -47,13 +47,17 @@ use Rattle.hub_queries.specs.Ascending.{Below, Ascends}
 use Rattle.cluster_outs.specs.Asked.{asked_type, asked_live}
 use Rattle.cluster_outs.specs.Reached.{Reached, IsNext}
 use Rattle.cluster_outs.specs.Repeats.{is_again}
+use Rattle.cluster_outs.specs.Memory.{is_memory}
+use Rattle.resubmission.specs.declared.plan.ResubmitRefusal.{ResubmitRefusal}
+use Rattle.resubmission.specs.declared.plan.ResubmitRefusal.TheVariants.{OutOfMemory}
+use Rattle.std.proofs.lemmas.Bool.{both_ways}
 
 -- WHAT THE DATA STAND FOR
 
 pub facts_are : (p : Plain) (r : Reached p) → facts_in p ≡ facts r.history
 facts_are p r = ap facts_in r.is ∙ exact r.history r.legal
 
-pub reached : (p : Plain) (e : Entry) → IsNext p e → Reached p
+abbrev pub reached : (p : Plain) (e : Entry) → IsNext p e → Reached p
 reached p e n = record { history = n.history; legal = n.legal.1; is = n.is }
 
 pub settles_open : (p : Plain) (id : Id) (v : Verdict) (c : Cause) → IsNext p (Settle id v c) → is_settled (facts_in p) id ≡ false
@@ -245,3 +249,8 @@ refused_sends f opens at conn moment kind parent target id (Again false) h = ref
 refused_sends f opens at conn moment kind parent target id NoSuchEngine h = refl
 refused_sends f opens at conn moment kind parent target id Full h = refl
 refused_sends f opens at conn moment kind parent target id Accepted h = refl
+
+-- MEMORY
+
+pub has_memory : (e : ResubmitRefusal) → is_memory e ≡ false → e ≡ OutOfMemory → ⊥
+has_memory e off is = both_ways (is_memory e) off (ap is_memory is)

@@ -1,6 +1,6 @@
 //! Answers as they are sent.
 
-ghost use Rattle.std.specs.Prelude.{◌≡◌, IfOk};
+ghost use Rattle.std.specs.Prelude.{◌≡◌, ◌∷◌, [], Some, IfOk};
 ghost use Rattle.cluster_defs.specs.Outs.{answer_out};
 
 use crate::beats::answer_id;
@@ -24,6 +24,28 @@ pub struct Slip {
     pub moment: u64,
 }
 
+/// An answer in a message of a type, under the header of the message that it answers.
+fn made(
+    alloc: Global,
+    slip: Slip,
+    msg_type: Text,
+    parent: &Octets,
+    answer: Answer,
+) -> Result<Out, AllocError>
+    ensures { IfOk result (λ o. o ∷ [] ≡ answer_out slip.opens slip.place slip.conn slip.moment msg_type parent.now (Some answer)) }
+{
+    let Answer { content, buffers } = answer;
+    Ok(Out::Made {
+        conn: slip.conn,
+        moment: slip.moment,
+        msg_id: answer_id(alloc, slip.opens, slip.place)?,
+        msg_type,
+        parent: parent.copy()?,
+        content,
+        buffers,
+    })
+}
+
 /// An answer, where there is one, in a message of a type, under the header of the message that it answers.
 pub fn answered(
     alloc: Global,
@@ -36,16 +58,7 @@ pub fn answered(
 {
     let mut outs = Outs::new(alloc);
     if let Some(answer) = answer {
-        let Answer { content, buffers } = answer;
-        outs.push(Out::Made {
-            conn: slip.conn,
-            moment: slip.moment,
-            msg_id: answer_id(alloc, slip.opens, slip.place)?,
-            msg_type,
-            parent: parent.copy()?,
-            content,
-            buffers,
-        })?;
+        outs.push(made(alloc, slip, msg_type, parent, answer)?)?;
     }
     Ok(outs)
 }

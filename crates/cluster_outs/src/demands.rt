@@ -84,7 +84,7 @@ fn copied(message: &Option<Message>) -> Result<Option<Message>, AllocError>
 }
 
 /// The outcome of an id that isn't purged.
-#[tactic(auto, using(crate::proofs::Telling::outcome_seen, crate::proofs::Telling::outcome_none))]
+#[tactic(auto, using(crate::proofs::Telling::outcome_none))]
 fn outcome_of(state: &State, id: &Text) -> Result<Option<Message>, AllocError>
     requires reached { Reached (plain state.now) }
     requires unpurged { (facts_in (plain state.now)).purged id.now ≡ false }

@@ -1,15 +1,17 @@
 //! What messages send.
 
-ghost use Rattle.std.specs.Prelude.{◌≡◌, ◌++◌, [], IfOk, Some, codes, decimal};
+ghost use Rattle.std.specs.Prelude.{◌≡◌, ◌⊎◌, ◌++◌, [], IfOk, Some, codes, decimal};
 ghost use Rattle.message_defs.specs.Texts.{ok_content, join_content};
 ghost use Rattle.cluster_types.specs.declared.event.Event.{Event};
 ghost use Rattle.cluster_defs.specs.Words.{once};
 ghost use Rattle.cluster_defs.specs.Engines.{joining, left};
-ghost use Rattle.cluster_defs.specs.Purges.{purge_list, purging, resubmitting};
+ghost use Rattle.cluster_defs.specs.Purges.{purge_list, purging, Resubmitting, resubmitting};
 ghost use Rattle.cluster_defs.specs.Queries.{plain as plain_answer, refusal, limited, join_answer, leave_answer, purge_answer, resubmit_answer, answer_type, answer_event};
 ghost use Rattle.cluster_defs.specs.Outs.{answer_out, repeated};
 ghost use Rattle.cluster_state.specs.Plain.{facts_in};
 ghost use Rattle.cluster_state.specs.Stands.{plain};
+ghost use Rattle.resubmission.specs.Plans.{refusal_of};
+ghost use Rattle.cluster_outs.specs.Memory.{is_memory};
 ghost use Rattle.cluster_outs.specs.Reached.{Reached};
 
 use crate::answers::{Slip, answered};
@@ -98,7 +100,6 @@ fn leave_on(alloc: Global, state: &State, conn: u32) -> Result<Answer, AllocErro
 }
 
 /// What a purge is answered.
-#[tactic(auto, using(crate::proofs::Telling::purge_told))]
 fn purge_told(
     alloc: Global,
     state: &State,
@@ -115,8 +116,32 @@ fn purge_told(
     Ok(answer)
 }
 
+/// Whether there was no memory.
+fn is_memory(refused: &ResubmitRefusal) -> bool
+    ensures { result ≡ is_memory refused.now }
+{
+    match refused {
+        ResubmitRefusal::OutOfMemory => true,
+        _ => false,
+    }
+}
+
+/// The refusal of a resubmission, or that there was no memory.
+fn refused_or_memory(
+    alloc: Global,
+    channel: Channel,
+    refused: &ResubmitRefusal,
+) -> Result<Answer, AllocError>
+    ensures { (what : Resubmitting) → (refused.now ≡ ResubmitRefusal.OutOfMemory) ⊎ (refusal_of what ≡ Some refused.now) → IfOk result (λ a. a ≡ limited channel (resubmit_answer what)) }
+{
+    if is_memory(refused) {
+        return Err(AllocError);
+    }
+    let answer = refused_answer(alloc, channel, refused)?;
+    Ok(answer)
+}
+
 /// What a resubmission is answered.
-#[tactic(auto, using(crate::proofs::Telling::resubmit_told))]
 fn resubmit_told(
     alloc: Global,
     state: &State,
@@ -129,8 +154,7 @@ fn resubmit_told(
     let rows = Rows::new(state);
     match plan(alloc, &rows, ids, MOST_IDS) {
         Ok(renamed) => renamed_answer(alloc, channel, &renamed),
-        Err(ResubmitRefusal::OutOfMemory) => Err(AllocError),
-        Err(refused) => refused_answer(alloc, channel, &refused),
+        Err(refused) => refused_or_memory(alloc, channel, &refused),
     }
 }
 

@@ -110,7 +110,6 @@ fn query_type(
 }
 
 /// The answer to a question, of the type of its message where the answer tells that.
-#[tactic(auto, using(crate::proofs::Telling::asked_answer, crate::proofs::Telling::asked_ascends))]
 fn query_answer(
     alloc: Global,
     state: &State,

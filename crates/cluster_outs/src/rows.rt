@@ -21,7 +21,6 @@ impl<'a> Rows<'a> {
     ghost use Rattle.cluster_outs.specs.Rows.{rows};
 
     /// Those of the tasks of a state.
-    #[tactic(auto, using(crate::proofs::Telling::rows_sound))]
     pub fn new(state: &'a State) -> Rows<'a>
         requires { Reached (plain state.now) }
         ensures { rows result ≡ map (λ t. t.row) state.now.tasks }
