@@ -1,7 +1,7 @@
 //! Copies of tasks, which a resubmission makes.
 
-ghost use Rattle.std.specs.Prelude.{◌≡◌, ◌≤◌, ◌+◌, ◌++◌, ◌∷◌, not, [], map, length, is_some, IfOk, OnOk, Some, None};
-ghost use Rattle.std.specs.List.{list_any, IsAmong};
+ghost use Rattle.std.specs.Prelude.{◌≡◌, ◌≤◌, ◌+◌, ◌++◌, ◌∷◌, not, [], map, length, is_some, IfOk, OnOk, Some, None, true};
+ghost use Rattle.std.specs.List.{list_any};
 ghost use Rattle.std.specs.Prelude.{nat_lt};
 ghost use Rattle.cluster_defs.specs.Acceptance.{most_ids};
 ghost use Rattle.cluster_defs.specs.Words.{is_listed, once};
@@ -9,7 +9,7 @@ ghost use Rattle.cluster_defs.specs.Purges.{copies_from, copied_by, resubmitted}
 ghost use Rattle.cluster_types.specs.declared.event.Event.{Event};
 ghost use Rattle.message_defs.specs.Texts.{resubmit_id, resubmit_header};
 ghost use Rattle.edges.specs.Date.{date_of};
-ghost use Rattle.cluster_state.specs.Seen.{request_as, body_as, begun, seen_in};
+ghost use Rattle.cluster_state.specs.Seen.{request_as, body_as, begun, seen_in, all_open};
 ghost use Rattle.cluster_state.specs.Plain.{facts_in, may_copy, copy_of, copies_in, copied_out};
 ghost use Rattle.cluster_state.specs.Stands.{plain};
 
@@ -59,7 +59,7 @@ fn copy_header(alloc: Global, id: &Text, request: &Request, moment: u64) -> Resu
 }
 
 fn push_each(tasks: &mut Tasks, copies: Vec<Task>) -> Result<(), AllocError>
-    requires { (t : _) → IsAmong copies.items t → t.settled ≡ None }
+    requires { all_open copies.items ≡ true }
     ensures { OnOk result (tasks.new ≡ tasks.old ++ copies.items) }
 {
     for task in copies {
@@ -132,5 +132,37 @@ impl State {
         let id = copy_id(self.allocator(), number)?;
         let request = self.request_again(moment, &id, task.request())?;
         Task::new(self.allocator(), &id, number, request, task.body().copy()?)
+    }
+
+    /// The copies of tasks, numbered from a number on.
+    fn copies(&self, moment: u64, ids: &[Text]) -> Result<Vec<Task>, AllocError>
+        requires { moment ≤ 253402300799999 }
+        ensures copies { IfOk result (λ v. v.items ≡ copies_in (resubmitted (facts_in (plain self.now)) moment) (length self.now.tasks + 1) (copies_from (length self.now.tasks + 1) ids.now) self.now.tasks) }
+        ensures fresh { IfOk result (λ v. all_open v.items ≡ true) }
+    {
+        let mut copies = Vec::new(self.allocator());
+        let mut number = one_more(self.tasks.len() as u64)?;
+        for id in ids {
+            if let Some(task) = self.tasks.find(id) {
+                copies.push(self.copy_task(moment, number, task)?)?;
+            }
+            number = one_more(number)?;
+        }
+        Ok(copies)
+    }
+
+    /// Takes a resubmission, where it is accepted, and tells whether it is.
+    pub fn take_resubmit(&mut self, moment: u64, ids: &Ids) -> Result<bool, AllocError>
+        requires { moment ≤ 253402300799999 }
+        ensures told { IfOk result (λ b. b ≡ is_some (copied_by (facts_in (plain self.old)) (Some (Event.Resubmit ids.now)))) }
+        ensures after { OnOk result (plain self.new ≡ copied_out (resubmitted (facts_in (plain self.old)) moment) (copied_by (facts_in (plain self.old)) (Some (Event.Resubmit ids.now))) (plain self.old)) }
+    {
+        let list = once(self.allocator(), ids)?;
+        if !self.may_copy(list.as_slice()) {
+            return Ok(false);
+        }
+        let copies = self.copies(moment, list.as_slice())?;
+        push_each(&mut self.tasks, copies)?;
+        Ok(true)
     }
 }

@@ -5,6 +5,7 @@ pub mod acceptance;
 pub mod attempts;
 pub mod copies;
 pub mod engines;
+pub mod entries;
 pub mod messages;
 pub mod outcomes;
 pub mod purges;

@@ -3,12 +3,15 @@
 ghost use Rattle.std.specs.Prelude.{◌≡◌, ◌≤◌, is_some, IfOk, OnOk, Some, None};
 ghost use Rattle.cluster_defs.specs.Engines.{joined, left, echoed};
 ghost use Rattle.cluster_types.specs.declared.event.Event.{Event};
-ghost use Rattle.cluster_state.specs.Plain.{facts_in, engine_ended, joined_by, echoed_by};
+ghost use Rattle.cluster_defs.specs.Steps.{changes};
+ghost use Rattle.cluster_state.specs.Plain.{facts_in, engine_ended, joined_by, echoed_by, told, noted};
 ghost use Rattle.cluster_state.specs.Stands.{plain};
 
 use crate::engines::{joining, number_on, raises_some};
 use crate::state::State;
 use cluster_defs::engine::Joining;
+use cluster_types::event::Event;
+use cluster_types::message::Message;
 use cluster_types::text::Text;
 use std::alloc::{AllocError, Global};
 
@@ -49,5 +52,58 @@ impl State {
             self.mark(conn, beat);
         }
         raises
+    }
+
+    /// Takes what a message means, and tells whether it changes anything.
+    #[tactic(auto, using(crate::proofs::Changes::changes_submit, crate::proofs::Changes::changes_direct, crate::proofs::Changes::changes_join, crate::proofs::Changes::changes_leave, crate::proofs::Changes::changes_pong, crate::proofs::Changes::changes_purge, crate::proofs::Changes::changes_resubmit))]
+    pub fn take_event(
+        &mut self,
+        conn: u32,
+        moment: u64,
+        message: &Message,
+        event: &Event,
+    ) -> Result<bool, AllocError>
+        requires { moment ≤ 253402300799999 }
+        ensures told { IfOk result (λ b. b ≡ changes (facts_in (plain self.old)) conn message.now (Some event.now)) }
+        ensures after { OnOk result (plain self.new ≡ told (facts_in (plain self.old)) conn moment message.now event.now (plain self.old)) }
+    {
+        match event {
+            Event::Submit(submission) => {
+                self.take_demand(conn, moment, message, false, submission)
+            }
+            Event::Direct(submission) => self.take_demand(conn, moment, message, true, submission),
+            Event::Reply {
+                task,
+                header_id,
+                ok,
+                declined,
+            } => self.take_reply(conn, task, header_id, *ok, *declined, message),
+            Event::Join { uuid } => self.take_join(conn, uuid),
+            Event::Leave => self.take_leave(conn),
+            Event::Pong { beat } => Ok(self.take_pong(conn, *beat)),
+            Event::Purge { all, ids } => self.take_purge(*all, ids),
+            Event::Resubmit { ids } => self.take_resubmit(moment, ids),
+            Event::Ask(_) => Ok(false),
+        }
+    }
+
+    /// Takes a message with what it means, and tells whether it is kept.
+    pub fn take_message(
+        &mut self,
+        conn: u32,
+        moment: u64,
+        word: u64,
+        message: &Message,
+        event: &Event,
+    ) -> Result<bool, AllocError>
+        requires { moment ≤ 253402300799999 }
+        ensures told { IfOk result (λ b. b ≡ changes (facts_in (plain self.old)) conn message.now (Some event.now)) }
+        ensures after { OnOk result (plain self.new ≡ noted (changes (facts_in (plain self.old)) conn message.now (Some event.now)) moment word (told (facts_in (plain self.old)) conn moment message.now event.now (plain self.old))) }
+    {
+        let kept = self.take_event(conn, moment, message, event)?;
+        if kept {
+            self.note_input(moment, word);
+        }
+        Ok(kept)
     }
 }
