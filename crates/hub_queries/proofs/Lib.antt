@@ -1,4 +1,5 @@
 pub mod Ascents
 pub mod Numbers
+pub mod Parts
 pub mod RowSteps
 pub mod Wheres

@@ -30,7 +30,7 @@ impl Model for Tally {
 }
 
 /// Appends the comma that stands before the item at a place.
-pub(crate) fn push_comma(text: &mut String, place: usize) -> Result<(), AllocError>
+pub fn push_comma(text: &mut String, place: usize) -> Result<(), AllocError>
     ensures { OnOk result (string_bytes text.new ≡ string_bytes text.old ++ comma place) }
 {
     if place == 0 {

@@ -1,6 +1,8 @@
-//! What a resubmission of listed tasks comes to: a new id for each, or a refusal of all.
+//! What a purge and a resubmission of listed tasks come to, all or none, and how they are answered.
 #![tactic(auto)]
 
+pub mod answers;
 pub mod plan;
+pub mod purge;
 #[cfg(test)]
 mod tests;

@@ -1,1 +1,2 @@
 pub mod Onces
+pub mod Pushes

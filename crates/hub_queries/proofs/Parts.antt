@@ -1,0 +1,63 @@
+-- Lists of parts that are written one after another.
+use Rattle.std.proofs.Common.{◌≡◌, ◌<◌, ◌≤◌, ◌+◌, ◌==◌, ℕ, suc, List, [], ◌∷◌, ◌++◌, length, take, map, get_or, flat_map, filter_map, find, not, nat_eq, false, arith, refl, sym, ap, ◌∙◌, append_assoc, append-nil, length-take-le, Option, Some, None}
+use Rattle.std.specs.List.{list_any, cons_option}
+use Rattle.std.specs.Option.{option_to_list}
+use Rattle.std.proofs.lemmas.List.{take_more, map-append, length-map}
+use Rattle.std.proofs.lemmas.List.Concat.{flat_map-append}
+use Rattle.std.proofs.lemmas.List.Elements.{filter_map-append}
+use Rattle.message_defs.specs.Texts.{parted}
+use Rattle.cluster_defs.specs.RecordAnswers.{lives_in}
+use Rattle.jupyter_header.specs.Comma.{comma}
+
+pub parted_more : (pieces : List (List ℕ)) (piece : List ℕ) → parted (pieces ++ piece ∷ []) ≡ parted pieces ++ (comma (length pieces) ++ piece)
+parted_more [] piece = append-nil piece
+parted_more (first ∷ rest) piece =
+    let some : (suc (length rest) == 0) ≡ false = grind arith in
+    let more : flat_map (λ p. 44 ∷ p) (rest ++ piece ∷ []) ≡ flat_map (λ p. 44 ∷ p) rest ++ (44 ∷ piece) =
+    flat_map-append (λ p. 44 ∷ p) rest (piece ∷ []) ∙ ap (λ z. flat_map (λ p. 44 ∷ p) rest ++ z) (append-nil (44 ∷ piece)) in
+    rw some (ap (λ z. first ++ z) more ∙ sym (append_assoc first (flat_map (λ p. 44 ∷ p) rest) (44 ∷ piece)))
+
+-- one more member of a list that is parted by commas
+pub members_more : {X : Type 0} (f : X → List ℕ) (xs : List X) (place : ℕ) (x : X) → place < length xs → x ≡ get_or xs place x
+    → parted (map f (take (place + 1) xs)) ≡ parted (map f (take place xs)) ++ (comma place ++ f x)
+members_more f xs place x inside is =
+    let one : take (place + 1) xs ≡ take place xs ++ x ∷ [] = take_more xs place x inside ∙ ap (λ z. take place xs ++ z ∷ []) (sym is) in
+    let long : length (map f (take place xs)) ≡ place = length-map (take place xs) f ∙ length-take-le place xs (omega arith) in
+    ap (λ z. parted (map f z)) one ∙ ap parted (map-append f (take place xs) (x ∷ []))
+    ∙ parted_more (map f (take place xs)) (f x) ∙ ap (λ n. parted (map f (take place xs)) ++ (comma n ++ f x)) long
+
+-- one more item that a function may leave out
+kept_one : {Y : Type 0} (o : Option Y) → cons_option o [] ≡ option_to_list o
+kept_one None = refl
+kept_one (Some y) = refl
+
+pub filter_map_more : {X Y : Type 0} (h : X → Option Y) (xs : List X) (x : X) → filter_map h (xs ++ x ∷ []) ≡ filter_map h xs ++ option_to_list (h x)
+filter_map_more h xs x = filter_map-append h xs (x ∷ []) ∙ ap (λ z. filter_map h xs ++ z) (kept_one (h x))
+
+short_one : {Y : Type 0} (o : Option Y) (ys : List Y) (n : ℕ) → length ys ≤ n → length (cons_option o ys) ≤ suc n
+short_one None ys n h = omega (arith, h)
+short_one (Some y) ys n h = omega (arith, h)
+
+pub filter_map_short : {X Y : Type 0} (h : X → Option Y) (xs : List X) → length (filter_map h xs) ≤ length xs
+filter_map_short h [] = omega arith
+filter_map_short h (x ∷ xs) = short_one (h x) (filter_map h xs) (length xs) (filter_map_short h xs)
+
+-- members with a comma before each
+pub flat_of_map : {X Y : Type 0} (g : Y → List ℕ) (f : X → Y) (xs : List X) → flat_map (λ p. 44 ∷ p) (map g (map f xs)) ≡ flat_map (λ x. 44 ∷ g (f x)) xs
+flat_of_map g f [] = refl
+flat_of_map g f (x ∷ xs) = ap (λ z. 44 ∷ (g (f x) ++ z)) (flat_of_map g f xs)
+
+pub flat_more : {X : Type 0} (f : X → List ℕ) (xs : List X) (place : ℕ) (x : X) → place < length xs → get_or xs place x ≡ x
+    → flat_map f (take (place + 1) xs) ≡ flat_map f (take place xs) ++ f x
+flat_more f xs place x inside is =
+    ap (flat_map f) (take_more xs place x inside ∙ ap (λ z. take place xs ++ z ∷ []) is)
+    ∙ flat_map-append f (take place xs) (x ∷ []) ∙ ap (λ z. flat_map f (take place xs) ++ z) (append-nil (f x))
+
+-- whether an engine is live, by the numbers of the live ones
+lives_map : (live : List (ℕ × List ℕ)) (n : ℕ) → list_any (λ m. nat_eq m n) (map (λ e. e.0) live) ≡ lives_in live n
+lives_map [] n = refl
+lives_map (e ∷ live) n = rw (lives_map live n) refl
+
+pub missing_same : (live : List (ℕ × List ℕ)) (targets : List ℕ)
+    → find (λ n. not (list_any (λ m. nat_eq m n) (map (λ e. e.0) live))) targets ≡ find (λ n. not (lives_in live n)) targets
+missing_same live targets = λ i. find (λ n. not (lives_map live n i)) targets
