@@ -1,0 +1,6 @@
+pub mod Asked
+pub mod Greater
+pub mod Memory
+pub mod Reached
+pub mod Repeats
+pub mod Rows

@@ -1,0 +1,107 @@
+//! What each entry sends.
+
+ghost use Rattle.std.specs.Prelude.{◌≡◌, ◌≤◌, ◌+◌, IfOk, map};
+ghost use Rattle.std.specs.Option.{option_copied};
+ghost use Rattle.cluster_defs.specs.Connections.{connection_on};
+ghost use Rattle.cluster_defs.specs.Histories.{History, Legal, facts};
+ghost use Rattle.cluster_defs.specs.Outs.{beat_out, message_outs, outs_as};
+ghost use Rattle.cluster_state.specs.Plain.{facts_in, plain_of};
+ghost use Rattle.cluster_state.specs.Stands.{plain};
+ghost use Rattle.cluster_outs.specs.Reached.{Reached, IsNext};
+
+use crate::answers::Slip;
+use crate::beats::beat_outs;
+use crate::messages::event_outs;
+use crate::passes::{hand_outs, settle_outs};
+use cluster_state::acceptance::connection_on;
+use cluster_state::attempts::one_more;
+use cluster_state::state::State;
+use cluster_types::entry::{Entry, Input};
+use cluster_types::event::Event;
+use cluster_types::message::Message;
+use cluster_types::out::Outs;
+use std::alloc::{AllocError, Global};
+
+/// What a message on a connection sends, at a place after the last Open.
+fn message_outs(
+    alloc: Global,
+    place: u64,
+    state: &State,
+    conn: u32,
+    moment: u64,
+    message: &Message,
+    event: &Option<Event>,
+) -> Result<Outs, AllocError>
+    requires { Reached (plain state.now) }
+    ensures { IfOk result (λ outs. outs ≡ message_outs place (facts_in (plain state.now)) conn moment message.now (connection_on state.now.connections.items conn) event.now) }
+{
+    let Some(connection) = connection_on(&state.connections, conn) else {
+        return Ok(Outs::new(alloc));
+    };
+    let Some(event) = event else {
+        return Ok(Outs::new(alloc));
+    };
+    let slip = Slip {
+        opens: state.opens,
+        place,
+        conn,
+        moment,
+    };
+    let outs = event_outs(alloc, slip, state, connection.channel, message, event)?;
+    Ok(outs)
+}
+
+/// What a beat sends.
+fn beat_round(alloc: Global, place: u64, state: &State, moment: u64) -> Result<Outs, AllocError>
+    ensures { IfOk result (λ outs. outs ≡ map (beat_out state.now.opens place moment (state.now.beats + 1)) state.now.engines.items) }
+{
+    let beat = one_more(state.beats)?;
+    let outs = beat_outs(alloc, state.opens, place, moment, beat, &state.engines)?;
+    Ok(outs)
+}
+
+/// What an input sends.
+fn input_outs(
+    alloc: Global,
+    place: u64,
+    state: &State,
+    input: &Input,
+    event: &Option<Event>,
+) -> Result<Outs, AllocError>
+    requires { Reached (plain state.now) }
+    ensures { IfOk result (λ outs. outs ≡ outs_as place (facts_in (plain state.now)) (Entry.Input input.now) event.now) }
+{
+    match input {
+        Input::Beat { moment, word: _ } => beat_round(alloc, place, state, *moment),
+        Input::In {
+            conn,
+            moment,
+            word: _,
+            message,
+        } => message_outs(alloc, place, state, *conn, *moment, message, event),
+        _ => Ok(Outs::new(alloc)),
+    }
+}
+
+/// What an entry at a place after the last Open sends, where it may stand next after what the state stands for. `event`
+/// is what the message of an input means, where it isn't junk. The moment of the last input has to be one before the year
+/// 10000.
+#[tactic(auto, using(crate::proofs::Telling::reached, crate::proofs::Telling::settles_open))]
+pub fn outs(
+    alloc: Global,
+    place: u64,
+    state: &State,
+    entry: &Entry,
+    event: &Option<Event>,
+) -> Result<Outs, AllocError>
+    requires next { IsNext (plain state.now) entry.now }
+    requires moment { state.now.moment ≤ 253402300799999 }
+    ensures data { IfOk result (λ outs. outs ≡ outs_as place (facts_in (plain state.now)) entry.now event.now) }
+{
+    match entry {
+        Entry::Input(input) => input_outs(alloc, place, state, input, event),
+        Entry::Hand { id, engine } => hand_outs(alloc, state, id, *engine),
+        Entry::Settle { id, verdict, cause } => settle_outs(alloc, state, id, *verdict, *cause),
+        Entry::Lose { engine: _ } => Ok(Outs::new(alloc)),
+    }
+}

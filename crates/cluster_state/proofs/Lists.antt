@@ -1,0 +1,53 @@
+-- Lists of what is seen, where one id or all of them change.
+use Rattle.std.proofs.Common.{◌≡◌, ℕ, List, [], ◌∷◌, map, Bool, true, false, cond, ◌||◌, refl, sym, ap, ◌∙◌, subst, bytes_eq}
+use Rattle.std.proofs.lemmas.Bool.{false_from_ne_true, both_ways}
+use Rattle.cluster_defs.specs.Words.{Id, is_listed}
+use Rattle.cluster_defs.specs.Facts.{Facts}
+use Rattle.cluster_defs.specs.Laws.{EachOnce}
+use Rattle.cluster_defs.proofs.Options.{same_id, id_self}
+use Rattle.cluster_state.specs.Seen.{Seen, changed}
+use Rattle.cluster_state.specs.Plain.{look}
+
+pub turned : (i j : Id) → bytes_eq i j ≡ false → bytes_eq j i ≡ false
+turned i j off = false_from_ne_true _ (λ on. both_ways (bytes_eq i j) off (subst (λ x. bytes_eq x j ≡ true) (same_id j i on) (id_self j)))
+
+pub or_right : (a b : Bool) → b ≡ true → (a || b) ≡ true
+or_right true b h = refl
+or_right false b h = h
+
+pub or_left : (a b : Bool) → a ≡ true → (a || b) ≡ true
+or_left true b h = refl
+or_left false b h = cc
+
+-- all listed ids look the same
+pub map_listed : (a b : Id → Seen) (ids : List Id) → ((i : Id) → is_listed i ids ≡ true → a i ≡ b i) → map a ids ≡ map b ids
+map_listed a b [] h = refl
+map_listed a b (i ∷ ids) h =
+    rw (h i (or_left _ _ (id_self i)), map_listed a b ids (λ j on. h j (or_right _ _ on))) refl
+
+pub map_all : (a b : Id → Seen) (ids : List Id) → ((i : Id) → a i ≡ b i) → map a ids ≡ map b ids
+map_all a b ids h = map_listed a b ids (λ i _. h i)
+
+pub map_twice : (g : Seen → Seen) (a : Id → Seen) (ids : List Id) → map g (map a ids) ≡ map (λ i. g (a i)) ids
+map_twice g a [] = refl
+map_twice g a (i ∷ ids) = ap (λ ts. g (a i) ∷ ts) (map_twice g a ids)
+
+-- an id that isn't listed is none of those that are
+other : (id i : Id) (ids : List Id) → is_listed id ids ≡ false → is_listed i ids ≡ true → bytes_eq id i ≡ false
+other id i ids off on =
+    false_from_ne_true _ (λ same. both_ways (is_listed id ids) off (subst (λ j. is_listed j ids ≡ true) (sym (same_id id i same)) on))
+
+-- what changes of one id alone
+pub changed_one : (f g : Facts) (change : Seen → Seen) (id : Id) (ids : List Id) → EachOnce ids →
+    ((i : Id) → bytes_eq id i ≡ false → look g i ≡ look f i) → look g id ≡ change (look f id) →
+    map (look g) ids ≡ changed id change (map (look f) ids)
+changed_one f g change id [] once same here = refl
+changed_one f g change id (i ∷ ids) once same here =
+    elim (bytes_eq i id) as (λ b. bytes_eq i id ≡ b → (look g i ∷ map (look g) ids) ≡ cond b (change (look f i) ∷ map (look f) ids) (look f i ∷ changed id change (map (look f) ids))) [
+      | true ↦ λ on.
+          let is : i ≡ id = same_id i id on in
+          let head : look g i ≡ change (look f i) = subst (λ j. look g j ≡ change (look f j)) (sym is) here in
+          let rest : map (look g) ids ≡ map (look f) ids = map_listed (look g) (look f) ids (λ j listed. same j (subst (λ k. bytes_eq k j ≡ false) is (other i j ids once.0 listed))) in
+          rw (head, rest) refl
+      | false ↦ λ off. rw (same i (turned i id off), changed_one f g change id ids once.1 same here) refl
+    ] refl

@@ -1,0 +1,7 @@
+use Rattle.std.proofs.Common.{rules, ◌≡◌, sym, ap, ◌∙◌}
+use Rattle.std.specs.Option.{is_some, option_copied}
+use Rattle.cluster_state.proofs.Known.{known_is, some_copied}
+use Rattle.cluster_state.proofs.acceptance.is_known.Goals as goal
+
+pub returns : goal.returns
+returns c = c.is_some.ensures ∙ some_copied c.find.result ∙ ap is_some c.find.ensures ∙ sym (known_is c.args.id.now c.args.tasks.now)

@@ -1,0 +1,10 @@
+use Rattle.std.proofs.Common.{◌≡◌, take}
+use Rattle.cluster_state.specs.Seen.{lost_all}
+use Rattle.cluster_state.specs.Places.{Alike, at_places}
+use Rattle.cluster_state.proofs.tasks.lose_each.Given as goal
+
+abbrev pub invariant-loop-place : goal.invariant-loop-place
+invariant-loop-place l = record {
+  ok : l.tasks ≡ at_places (lost_all) (take l.place-index l.places) l.fn.tasks;
+  same : Alike l.fn.tasks l.tasks;
+}

@@ -1,0 +1,149 @@
+-- What is seen of a task: all that a history says of one id.
+use Rattle.std.specs.Prelude.{ℕ, suc, List, [], ◌∷◌, find, slice_get, Option, Some, None, Bool, true, false, if◌then◌else◌, bytes_eq, option_map}
+use Rattle.std.specs.List.{list_all}
+use Rattle.std.specs.Option.{is_some, is_none}
+use Rattle.cluster_types.specs.declared.message.Message.{Message}
+use Rattle.cluster_types.specs.declared.record.Record.{Record}
+use Rattle.cluster_defs.specs.Words.{Id}
+use Rattle.cluster_defs.specs.Connections.{Peer}
+use Rattle.cluster_defs.specs.Tasks.{Task as TaskFacts, new_task, engine_of, runs, handed, lost, after_end, took, Settled as SettledFacts, Ending as EndingFacts, Well as EndsWell, Badly as EndsBadly, Declines as Declined}
+use Rattle.cluster_defs.specs.Requests.{Request as RequestFacts, Body as BodyFacts, is_direct}
+use Rattle.cluster_state.specs.declared.request.Owner.{Owner}
+use Rattle.cluster_state.specs.declared.request.Request.{Request}
+use Rattle.cluster_state.specs.declared.request.Body.{Body}
+use Rattle.cluster_state.specs.declared.task.Settled.{Settled}
+use Rattle.cluster_state.specs.declared.attempts.Attempts.{Attempts}
+use Rattle.cluster_state.specs.declared.attempts.Ending.{Ending}
+use Rattle.cluster_state.specs.declared.attempts.Ending.TheVariants.{Well, Badly, Declines}
+
+-- THE DATA, AS THE DEFINITIONS SPEAK OF IT
+
+abbrev pub owner_as : Owner → Peer
+owner_as o = record { channel = o.channel; identity = o.identity }
+
+abbrev pub request_as : Request → RequestFacts
+request_as r = record {
+  owner = option_map owner_as r.owner;
+  direct_to = r.direct_to;
+  target = r.target;
+  msg_type = r.msg_type;
+  session = r.session;
+  username = r.username;
+  header = r.header;
+  parent = r.parent;
+  metadata = r.metadata;
+  after = r.after;
+  follow = r.follow;
+  listed = r.listed;
+  targets = r.targets;
+  accepted_at = r.accepted_at;
+  timeout = r.timeout;
+  retries = r.retries;
+  invalid = r.invalid;
+}
+
+abbrev pub body_as : Body → BodyFacts
+body_as b = record { content = b.content; buffers = b.buffers }
+
+abbrev pub attempts_as : Attempts → TaskFacts
+attempts_as a = record { last = a.last; spent = a.spent; excluded = a.excluded.items; heard = a.heard.items }
+
+abbrev pub ending_as : Ending → EndingFacts
+ending_as Well = EndsWell
+ending_as Badly = EndsBadly
+ending_as Declines = Declined
+
+abbrev pub settled_as : Settled → SettledFacts
+settled_as s = record { verdict = s.verdict; cause = s.cause; engine = s.engine; moment = s.moment }
+
+-- WHAT IS SEEN OF A TASK
+
+pub record Seen : Type 0 where
+  pub row : Record  -- as questions are answered off it
+  pub request : Option RequestFacts
+  pub body : Option BodyFacts
+  pub attempts : TaskFacts
+  pub reply : Option Message  -- the last valid reply
+  pub settled : Option SettledFacts
+
+-- an accepted request that was not handed out yet
+abbrev pub begun : Id → ℕ → RequestFacts → BodyFacts → Seen
+begun id number request body = record {
+  row = record { id = id; number = number; direct = is_direct request; engine = None; running = false; settled = None; purged = false; outcome = None };
+  request = Some request;
+  body = Some body;
+  attempts = new_task;
+  reply = None;
+  settled = None;
+}
+
+-- once these are its attempts
+abbrev pub attempted : TaskFacts → Seen → Seen
+attempted attempts t = record t { attempts = attempts; row = record t.row { engine = engine_of attempts.last; running = runs attempts.last } }
+
+-- once it is handed to an engine
+abbrev pub handed_to : ℕ → Seen → Seen
+handed_to engine t = attempted (handed engine t.attempts) t
+
+-- once an engine ended
+abbrev pub ended_on : ℕ → Seen → Seen
+ended_on engine t = attempted (after_end (Some engine) t.attempts) t
+
+-- once all engines ended, by an Open
+abbrev pub lost_all : Seen → Seen
+lost_all t = attempted (lost t.attempts.last t.attempts) t
+
+-- once a valid reply came, with this header id
+abbrev pub replied_with : List ℕ → EndingFacts → Message → Seen → Seen
+replied_with header how message t = record (attempted (took header how t.attempts.last t.attempts) t) { reply = Some message }
+
+-- once it is settled, with this outcome
+abbrev pub settled_with : SettledFacts → Option Message → Seen → Seen
+settled_with s outcome t = record t {
+  settled = Some s;
+  row = record t.row { settled = Some (s.verdict, s.cause); outcome = outcome };
+}
+
+-- once it is purged
+abbrev pub purged_out : Seen → Seen
+purged_out t = record t { row = record t.row { purged = true; outcome = None } }
+
+-- ONE OF THE TASKS
+
+-- the place of an id
+abbrev pub place_in : Id → List Seen → Option ℕ
+place_in id [] = None
+place_in id (t ∷ ts) = if bytes_eq t.row.id id then Some 0 else option_map suc (place_in id ts)
+
+-- what is seen of an id
+abbrev pub seen_in : List Seen → Id → Option Seen
+seen_in ts id = find (λ t. bytes_eq t.row.id id) ts
+
+-- the tasks, once the one of an id is changed
+abbrev pub changed : Id → (Seen → Seen) → List Seen → List Seen
+changed id change [] = []
+changed id change (t ∷ ts) = if bytes_eq t.row.id id then change t ∷ ts else t ∷ changed id change ts
+
+-- the places of the tasks that aren't settled, ascending, from a place on
+abbrev pub places_from : ℕ → List Seen → List ℕ
+places_from at [] = []
+places_from at (t ∷ ts) = if is_some t.settled then places_from (suc at) ts else at ∷ places_from (suc at) ts
+
+abbrev pub open_places : List Seen → List ℕ
+open_places = places_from 0
+
+-- what is so of the task at a place
+abbrev pub holds_at : (Seen → Bool) → List Seen → ℕ → Bool
+holds_at test ts place = holds (slice_get ts place)
+  where
+    holds : Option Seen → Bool
+    holds None = false
+    holds (Some t) = test t
+
+-- a change of a task that isn't settled
+abbrev pub on_unsettled : (Seen → Seen) → Seen → Seen
+on_unsettled change t = if is_some t.settled then t else change t
+
+-- whether none of some tasks is settled
+abbrev pub all_open : List Seen → Bool
+all_open = list_all (λ t. is_none t.settled)

@@ -1,0 +1,307 @@
+//! Requests for tasks: which are accepted, and what they make.
+
+ghost use Rattle.std.specs.Prelude.{◌≡◌, ◌+◌, ◌++◌, ◌∷◌, ◌||◌, ◌&&◌, not, [], map, filter, length, is_none, IfOk, OnOk, Some, None, option_map, bytes_eq, take};
+ghost use Rattle.std.specs.Option.{option_copied};
+ghost use Rattle.std.specs.List.{list_any};
+ghost use Rattle.cluster_defs.specs.Words.{is_listed, same_lists, alike, begins_with};
+ghost use Rattle.cluster_types.specs.declared.event.Submission.{Submission};
+ghost use Rattle.cluster_defs.specs.Connections.{connection_on, peer_on};
+ghost use Rattle.cluster_defs.specs.Engines.{engine_named};
+ghost use Rattle.cluster_defs.specs.Requests.{targets_of, is_invalid, body_of};
+ghost use Rattle.cluster_defs.specs.Acceptance.{Demand, acceptance, acceptance_new, is_same, is_accepted, accepted_as, no_dependency, request_plain, request_submit, request_direct, request_made, reserved_front};
+ghost use Rattle.cluster_state.specs.Seen.{Seen, owner_as, request_as, body_as, begun};
+ghost use Rattle.cluster_state.specs.Plain.{facts_in, accepted_by};
+ghost use Rattle.cluster_state.specs.Stands.{plain};
+
+use crate::attempts::one_more;
+use crate::engines::engine_named;
+use crate::request::{Body, Owner, Request};
+use crate::state::State;
+use crate::task::Task;
+use crate::tasks::Tasks;
+use cluster_defs::acceptance::Acceptance;
+use cluster_defs::connection::Connection;
+use cluster_defs::engine::Engine;
+use cluster_types::copying::TryCopy;
+use cluster_types::event::{Dep, Submission};
+use cluster_types::message::{Engines, Ids, Message};
+use cluster_types::octets::Octets;
+use cluster_types::text::Text;
+use std::alloc::{AllocError, Global};
+
+/// How many ids a database may know.
+const MOST_IDS: usize = 2_000_000;
+
+/// The live connection of a number.
+pub fn connection_on(live: &[Connection], conn: u32) -> Option<&Connection>
+    ensures { option_copied result ≡ connection_on live.now conn }
+{
+    live.iter().find(|c| c.number == conn)
+}
+
+/// Who speaks on a connection.
+fn owner_on(live: &[Connection], conn: u32) -> Result<Option<Owner>, AllocError>
+    ensures { IfOk result (λ o. option_map owner_as o ≡ peer_on live.now conn) }
+{
+    match connection_on(live, conn) {
+        Some(connection) => Ok(Some(Owner {
+            channel: connection.channel,
+            identity: connection.identity.copy()?,
+        })),
+        None => Ok(None),
+    }
+}
+
+/// Whether an id is among those that the controller gives itself.
+#[tactic(auto, unfolding(cluster_defs::specs::Acceptance::reserved_front))]
+fn is_reserved(id: &Text) -> bool
+    ensures { result ≡ begins_with reserved_front id.now }
+{
+    id.as_slice().starts_with(b"resubmit:")
+}
+
+fn is_listed(id: &Text, ids: &[Text]) -> bool
+    ensures { result ≡ is_listed id.now ids.now }
+{
+    ids.iter().any(|i| i.is(id))
+}
+
+/// Whether two lists of buffers are the same.
+fn same_buffers(a: &[Octets], b: &[Octets]) -> bool
+    ensures { result ≡ same_lists a.now b.now }
+{
+    if a.len() != b.len() {
+        return false;
+    }
+    for place in 0..a.len() {
+        if !a[place].is(&b[place]) {
+            return false;
+        }
+    }
+    true
+}
+
+fn alike(a: bool, b: bool) -> bool
+    ensures { result ≡ alike a b }
+{
+    if a { b } else { !b }
+}
+
+/// Whether a request is the one that made a task: the same kind, target, type, metadata, content and buffers.
+fn is_same(direct: bool, submission: &Submission, message: &Message, task: &Task) -> bool
+    ensures { result ≡ is_same (record { direct = direct; submission = submission.now }) message.now task.now.request task.now.body }
+{
+    let request = task.request();
+    let body = task.body();
+    alike(direct, request.direct_to.is_some())
+        && request.target.is(&message.target)
+        && request.msg_type.is(&submission.msg_type)
+        && request.metadata.is(&message.metadata)
+        && body.content.is(&message.content)
+        && same_buffers(body.buffers.as_slice(), message.buffers.as_slice())
+}
+
+/// The numbers of the engines whose uuid is listed.
+pub fn targets_of(alloc: Global, live: &[Engine], uuids: &[Text]) -> Result<Engines, AllocError>
+    ensures { IfOk result (λ t. t ≡ targets_of live.now uuids.now) }
+{
+    let mut targets = Engines::new(alloc);
+    for engine in live {
+        if is_listed(&engine.uuid, uuids) {
+            targets.push(engine.number)?;
+        }
+    }
+    Ok(targets)
+}
+
+/// Whether an id is known.
+pub fn is_known(tasks: &Tasks, id: &Text) -> bool
+    ensures { result ≡ is_listed id.now (map (λ t. t.row.id) tasks.now) }
+{
+    tasks.find(id).is_some()
+}
+
+/// Whether a list names an id itself, or one that isn't known.
+fn names_unknown(tasks: &Tasks, id: &Text, ids: &[Text]) -> bool
+    ensures { result ≡ list_any (λ i. bytes_eq i id.now || not (is_listed i (map (λ t. t.row.id) tasks.now))) ids.now }
+{
+    ids.iter().any(|i| i.is(id) || !is_known(tasks, i))
+}
+
+/// Whether a dependency names the task's own id, or one that isn't known.
+pub fn is_invalid(tasks: &Tasks, id: &Text, after: &Dep, follow: &Dep) -> bool
+    ensures { result ≡ is_invalid (map (λ t. t.row.id) tasks.now) id.now after.now follow.now }
+{
+    names_unknown(tasks, id, after.ids.as_slice()) || names_unknown(tasks, id, follow.ids.as_slice())
+}
+
+/// The empty dependency.
+fn no_dependency(alloc: Global) -> Dep
+    ensures { result ≡ no_dependency }
+{
+    Dep {
+        ids: Ids::new(alloc),
+        all: true,
+        success: true,
+        failure: false,
+    }
+}
+
+/// The body of a request.
+fn body_of(message: &Message) -> Result<Body, AllocError>
+    ensures { IfOk result (λ b. body_as b ≡ body_of message.now) }
+{
+    Ok(Body {
+        content: message.content.copy()?,
+        buffers: message.buffers.copy()?,
+    })
+}
+
+impl State {
+    /// Of an id that isn't known.
+    fn acceptance_new(&self, direct: bool, message: &Message) -> Acceptance
+        ensures { (submission : Submission) → result ≡ acceptance_new (facts_in (plain self.now)) (record { direct = direct; submission = submission }) message.now }
+    {
+        if direct && engine_named(&self.engines, message.target.as_slice()).is_none() {
+            Acceptance::NoSuchEngine
+        } else if self.tasks.len() >= MOST_IDS {
+            Acceptance::Full
+        } else {
+            Acceptance::Accepted
+        }
+    }
+
+    /// The first case that fits a request for a task, direct or not.
+    pub fn acceptance(&self, direct: bool, submission: &Submission, message: &Message) -> Acceptance
+        ensures { result ≡ acceptance (facts_in (plain self.now)) (record { direct = direct; submission = submission.now }) message.now }
+    {
+        if is_reserved(&submission.id) {
+            return Acceptance::Reserved;
+        }
+        match self.tasks.find(&submission.id) {
+            Some(task) if task.row().purged => Acceptance::Purged,
+            Some(task) => Acceptance::Again {
+                repeat: is_same(direct, submission, message, task),
+            },
+            None => self.acceptance_new(direct, message),
+        }
+    }
+
+    /// What both kinds of requests have.
+    fn request_plain(
+        &self,
+        conn: u32,
+        moment: u64,
+        message: &Message,
+        submission: &Submission,
+    ) -> Result<Request, AllocError>
+        ensures { IfOk result (λ r. request_as r ≡ request_plain (facts_in (plain self.now)) conn moment message.now submission.now) }
+    {
+        let alloc = self.allocator();
+        Ok(Request {
+            owner: owner_on(&self.connections, conn)?,
+            direct_to: None,
+            target: message.target.copy()?,
+            msg_type: submission.msg_type.copy()?,
+            session: submission.session.copy()?,
+            username: submission.username.copy()?,
+            header: message.header.copy()?,
+            parent: message.parent.copy()?,
+            metadata: message.metadata.copy()?,
+            after: no_dependency(alloc),
+            follow: no_dependency(alloc),
+            listed: Ids::new(alloc),
+            targets: Engines::new(alloc),
+            accepted_at: moment,
+            timeout: 0,
+            retries: 0,
+            invalid: false,
+        })
+    }
+
+    fn request_submit(
+        &self,
+        conn: u32,
+        moment: u64,
+        message: &Message,
+        submission: &Submission,
+    ) -> Result<Request, AllocError>
+        ensures { IfOk result (λ r. request_as r ≡ request_submit (facts_in (plain self.now)) conn moment message.now submission.now) }
+    {
+        let mut request = self.request_plain(conn, moment, message, submission)?;
+        request.after = submission.after.copy()?;
+        request.follow = submission.follow.copy()?;
+        request.listed = submission.targets.copy()?;
+        request.targets = targets_of(self.allocator(), &self.engines, submission.targets.as_slice())?;
+        request.timeout = submission.timeout;
+        request.retries = submission.retries;
+        request.invalid = is_invalid(&self.tasks, &submission.id, &submission.after, &submission.follow);
+        Ok(request)
+    }
+
+    fn request_direct(
+        &self,
+        conn: u32,
+        moment: u64,
+        message: &Message,
+        submission: &Submission,
+    ) -> Result<Request, AllocError>
+        ensures { IfOk result (λ r. request_as r ≡ request_direct (facts_in (plain self.now)) conn moment message.now submission.now) }
+    {
+        let mut request = self.request_plain(conn, moment, message, submission)?;
+        request.direct_to = match engine_named(&self.engines, message.target.as_slice()) {
+            Some(engine) => Some(engine.number),
+            None => None,
+        };
+        Ok(request)
+    }
+
+    fn request_made(
+        &self,
+        conn: u32,
+        moment: u64,
+        message: &Message,
+        direct: bool,
+        submission: &Submission,
+    ) -> Result<Request, AllocError>
+        ensures { IfOk result (λ r. request_as r ≡ request_made (facts_in (plain self.now)) conn moment message.now (record { direct = direct; submission = submission.now })) }
+    {
+        if direct {
+            let request = self.request_direct(conn, moment, message, submission)?;
+            Ok(request)
+        } else {
+            let request = self.request_submit(conn, moment, message, submission)?;
+            Ok(request)
+        }
+    }
+
+    /// Adds a task under the next number.
+    pub fn begin(&mut self, id: &Text, request: Request, body: Body) -> Result<(), AllocError>
+        ensures { OnOk result (plain self.new ≡ record (plain self.old) { tasks = self.old.tasks ++ begun id.now (length self.old.tasks + 1) (request_as request) (body_as body) ∷ [] }) }
+    {
+        let number = one_more(self.tasks.len() as u64)?;
+        let task = Task::new(self.allocator(), id, number, request, body)?;
+        self.tasks.push(task)
+    }
+
+    /// Takes a request for a task, where it is accepted, and tells whether it is.
+    pub fn take_demand(
+        &mut self,
+        conn: u32,
+        moment: u64,
+        message: &Message,
+        direct: bool,
+        submission: &Submission,
+    ) -> Result<bool, AllocError>
+        ensures told { IfOk result (λ b. b ≡ is_accepted (acceptance (facts_in (plain self.old)) (record { direct = direct; submission = submission.now }) message.now)) }
+        ensures after { OnOk result (plain self.new ≡ accepted_by (accepted_as (facts_in (plain self.old)) message.now (record { direct = direct; submission = submission.now })) (request_made (facts_in (plain self.old)) conn moment message.now) (body_of message.now) (plain self.old)) }
+    {
+        if self.acceptance(direct, submission, message) != Acceptance::Accepted {
+            return Ok(false);
+        }
+        let request = self.request_made(conn, moment, message, direct, submission)?;
+        let body = body_of(message)?;
+        self.begin(&submission.id, request, body)?;
+        Ok(true)
+    }
+}

@@ -1,0 +1,16 @@
+//! What is known of a cluster after a history, as plain data, and how each further entry changes it.
+#![tactic(auto)]
+
+pub mod acceptance;
+pub mod attempts;
+pub mod copies;
+pub mod engines;
+pub mod entries;
+pub mod messages;
+pub mod outcomes;
+pub mod purges;
+pub mod replies;
+pub mod request;
+pub mod state;
+pub mod task;
+pub mod tasks;

@@ -1,0 +1,118 @@
+//! Replies to tasks.
+
+ghost use Rattle.std.specs.Prelude.{◌≡◌, IfOk, OnOk, Some, None};
+ghost use Rattle.cluster_defs.specs.Words.{is_number};
+ghost use Rattle.cluster_defs.specs.Tasks.{home, counts, ending};
+ghost use Rattle.cluster_defs.specs.Requests.{parts_of};
+ghost use Rattle.cluster_defs.specs.Facts.{is_direct_id};
+ghost use Rattle.cluster_state.specs.Seen.{attempts_as, ending_as};
+ghost use Rattle.cluster_state.specs.Plain.{facts_in, replied_by};
+ghost use Rattle.cluster_state.specs.Stands.{plain};
+
+use crate::attempts::{Attempts, Ending};
+use crate::engines::conn_of;
+use crate::state::State;
+use cluster_defs::attempt::Attempt;
+use cluster_defs::engine::Engine;
+use cluster_types::copying::TryCopy;
+use cluster_types::message::Message;
+use cluster_types::octets::Octets;
+use cluster_types::text::Text;
+use std::alloc::{AllocError, Global};
+
+/// The connection of the engine of a current attempt.
+fn home(live: &[Engine], attempt: Attempt) -> Option<u32>
+    ensures { result ≡ home live.now attempt }
+{
+    match attempt {
+        Attempt::Running { engine } => conn_of(live, engine),
+        _ => None,
+    }
+}
+
+fn is_home(live: &[Engine], conn: u32, attempt: Attempt) -> bool
+    ensures { result ≡ is_number conn (home live.now attempt) }
+{
+    match home(live, attempt) {
+        Some(at) => at == conn,
+        None => false,
+    }
+}
+
+/// Whether a reply on a connection is valid for a task with these attempts.
+fn counts(live: &[Engine], conn: u32, header: &Text, attempts: &Attempts) -> bool
+    ensures { result ≡ counts live.now conn header.now (attempts_as attempts.now) }
+{
+    is_home(live, conn, attempts.last) && !attempts.has_heard(header)
+}
+
+/// How a valid reply ends an attempt.
+fn ending(direct: bool, ok: bool, declined: bool) -> Ending
+    ensures { ending_as result ≡ ending direct ok declined }
+{
+    if declined {
+        if direct { Ending::Badly } else { Ending::Declines }
+    } else if ok {
+        Ending::Well
+    } else {
+        Ending::Badly
+    }
+}
+
+/// The parts of a message as they came, without identity frames.
+fn parts_of(alloc: Global, message: &Message) -> Result<Message, AllocError>
+    ensures { IfOk result (λ m. m ≡ parts_of message.now) }
+{
+    Ok(Message {
+        target: Octets::new(alloc, b"")?,
+        header: message.header.copy()?,
+        parent: message.parent.copy()?,
+        metadata: message.metadata.copy()?,
+        content: message.content.copy()?,
+        buffers: message.buffers.copy()?,
+    })
+}
+
+impl State {
+    /// Whether a reply on a connection is valid for the task that it names.
+    fn counts(&self, conn: u32, name: &Text, header: &Text) -> bool
+        ensures { result ≡ counts self.now.engines.items conn header.now ((facts_in (plain self.now)).task name.now) }
+    {
+        match self.tasks.find(name) {
+            Some(task) => counts(&self.engines, conn, header, task.attempts()),
+            None => false,
+        }
+    }
+
+    /// Whether an id is that of a direct request.
+    pub fn is_direct(&self, id: &Text) -> bool
+        ensures { result ≡ is_direct_id (facts_in (plain self.now)) id.now }
+    {
+        match self.tasks.find(id) {
+            Some(task) => task.request().direct_to.is_some(),
+            None => false,
+        }
+    }
+
+    /// Takes a reply, where it is valid, and tells whether it is.
+    pub fn take_reply(
+        &mut self,
+        conn: u32,
+        name: &Text,
+        header: &Text,
+        ok: bool,
+        declined: bool,
+        message: &Message,
+    ) -> Result<bool, AllocError>
+        ensures told { IfOk result (λ b. b ≡ counts self.old.engines.items conn header.now ((facts_in (plain self.old)).task name.now)) }
+        ensures after { OnOk result (plain self.new ≡ replied_by (counts self.old.engines.items conn header.now ((facts_in (plain self.old)).task name.now)) name.now header.now (ending (is_direct_id (facts_in (plain self.old)) name.now) ok declined) (parts_of message.now) (plain self.old)) }
+    {
+        if !self.counts(conn, name, header) {
+            return Ok(false);
+        }
+        let how = ending(self.is_direct(name), ok, declined);
+        let reply = parts_of(self.allocator(), message)?;
+        self.tasks.take_reply(name, header, how, reply)?;
+        Ok(true)
+    }
+}

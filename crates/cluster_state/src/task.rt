@@ -1,0 +1,194 @@
+//! Tasks: all that is known of an id that was accepted.
+
+ghost use Rattle.std.specs.Prelude.{◌≡◌, Some, None, IfOk, OnOk};
+ghost use Rattle.std.specs.Option.{option_copied};
+ghost use Rattle.cluster_types.specs.declared.record.Record.{Record as RecordType};
+ghost use Rattle.cluster_state.specs.Seen.{request_as, body_as, attempts_as, ending_as, settled_as, begun, attempted, handed_to, ended_on, lost_all, replied_with, settled_with, purged_out};
+ghost use Rattle.cluster_state.specs.Places.{IsSame};
+
+use crate::attempts::{Attempts, Ending, engine_of, runs};
+use crate::request::{Body, Request};
+use cluster_types::copying::TryCopy;
+use cluster_types::message::Message;
+use cluster_types::record::Record;
+use cluster_types::text::Text;
+use cluster_types::verdict::{Cause, Verdict};
+use std::alloc::{AllocError, Global};
+use std::marker::Model;
+
+/// How a task was settled.
+#[derive(Clone, Copy, Debug, PartialEq, Eq)]
+pub struct Settled {
+    pub verdict: Verdict,
+    pub cause: Cause,
+    /// The engine of the last attempt, where there was one.
+    pub engine: Option<u32>,
+    /// The moment of the last input before, in milliseconds.
+    pub moment: u64,
+}
+
+/// A task, which contracts see as all that a history says of its id.
+#[derive(Debug, Drop)]
+pub struct Task {
+    row: Record,
+    request: Request,
+    body: Body,
+    attempts: Attempts,
+    reply: Option<Message>,
+    settled: Option<Settled>,
+}
+
+impl Model for Task {
+    ghost use Rattle.std.specs.Prelude.{Some, option_map};
+    ghost use Rattle.cluster_state.specs.Seen.{Seen, request_as, body_as, attempts_as, settled_as};
+
+    ghost Value = { Seen };
+
+    ghost view = { λ t. record { row = t.row; request = Some (request_as t.request); body = Some (body_as t.body); attempts = attempts_as t.attempts; reply = t.reply; settled = option_map settled_as t.settled } };
+}
+
+impl Task {
+    ghost use Rattle.std.specs.Prelude.{option_map};
+
+    /// A task that was just accepted.
+    pub fn new(
+        alloc: Global,
+        id: &Text,
+        number: u64,
+        request: Request,
+        body: Body,
+    ) -> Result<Task, AllocError>
+        ensures { IfOk result (λ t. t ≡ begun id.now number (request_as request) (body_as body)) }
+    {
+        Ok(Task {
+            row: Record {
+                id: id.copy()?,
+                number,
+                direct: request.direct_to.is_some(),
+                engine: None,
+                running: false,
+                settled: None,
+                purged: false,
+                outcome: None,
+            },
+            request,
+            body,
+            attempts: Attempts::new(alloc),
+            reply: None,
+            settled: None,
+        })
+    }
+
+    /// The row that questions are answered off.
+    pub fn row(&self) -> &Record
+        ensures { result.now ≡ self.now.row }
+    {
+        &self.row
+    }
+
+    pub fn id(&self) -> &Text
+        ensures { result.now ≡ self.now.row.id }
+    {
+        &self.row.id
+    }
+
+    pub fn request(&self) -> &Request
+        ensures { self.now.request ≡ Some (request_as result.now) }
+    {
+        &self.request
+    }
+
+    pub fn body(&self) -> &Body
+        ensures { self.now.body ≡ Some (body_as result.now) }
+    {
+        &self.body
+    }
+
+    pub fn attempts(&self) -> &Attempts
+        ensures { self.now.attempts ≡ attempts_as result.now }
+    {
+        &self.attempts
+    }
+
+    /// The last valid reply.
+    pub fn reply(&self) -> Option<&Message>
+        ensures { option_copied result ≡ self.now.reply }
+    {
+        self.reply.as_ref()
+    }
+
+    pub fn settled(&self) -> Option<Settled>
+        ensures { option_map settled_as result ≡ self.now.settled }
+    {
+        self.settled
+    }
+
+    /// Notes the last attempt in the record.
+    fn note_attempts(&mut self)
+        ensures { self.new ≡ attempted self.old.attempts self.old }
+    {
+        self.row.engine = engine_of(self.attempts.last);
+        self.row.running = runs(self.attempts.last);
+    }
+
+    /// Begins an attempt on an engine.
+    pub fn hand(&mut self, engine: u32)
+        ensures { self.new ≡ handed_to engine self.old }
+    {
+        self.attempts.hand(engine);
+        self.note_attempts();
+    }
+
+    /// Ends an attempt with its engine.
+    pub fn end_on(&mut self, engine: u32) -> Result<(), AllocError>
+        ensures ok { OnOk result (self.new ≡ ended_on engine self.old) }
+        ensures same { IsSame self.old self.new }
+    {
+        self.attempts.end(engine)?;
+        self.note_attempts();
+        Ok(())
+    }
+
+    /// Ends an attempt by an Open.
+    pub fn lose(&mut self) -> Result<(), AllocError>
+        ensures ok { OnOk result (self.new ≡ lost_all self.old) }
+        ensures same { IsSame self.old self.new }
+    {
+        self.attempts.lose()?;
+        self.note_attempts();
+        Ok(())
+    }
+
+    /// Takes a valid reply, with its header id.
+    pub fn take_reply(
+        &mut self,
+        header: &Text,
+        how: Ending,
+        reply: Message,
+    ) -> Result<(), AllocError>
+        ensures ok { OnOk result (self.new ≡ replied_with header.now (ending_as how) reply self.old) }
+        ensures same { IsSame self.old self.new }
+    {
+        self.attempts.take_reply(header, how)?;
+        self.note_attempts();
+        self.reply = Some(reply);
+        Ok(())
+    }
+
+    /// Settles it.
+    pub fn settle(&mut self, settled: Settled, outcome: Option<Message>)
+        ensures { self.new ≡ settled_with (settled_as settled) outcome self.old }
+    {
+        self.settled = Some(settled);
+        self.row.settled = Some((settled.verdict, settled.cause));
+        self.row.outcome = outcome;
+    }
+
+    /// Lets its outcome go.
+    pub fn purge(&mut self)
+        ensures { self.new ≡ purged_out self.old }
+    {
+        self.row.purged = true;
+        self.row.outcome = None;
+    }
+}

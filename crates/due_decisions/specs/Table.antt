@@ -1,0 +1,148 @@
+-- What is due, read off the table of all tasks.
+use Rattle.std.specs.Prelude.{ℕ, nat_lt, nat_le, ◌+◌, ◌==◌, List, [], map, slice_get, Option, Some, None, Bool, false, not, ◌&&◌, ◌||◌, if◌then◌else◌, filter, find, count_by, option_map}
+use Rattle.std.specs.List.{list_any}
+use Rattle.std.specs.Option.{is_some, option_and_then}
+use Rattle.cluster_types.specs.declared.config.Scheme.{Scheme}
+use Rattle.cluster_types.specs.declared.verdict.Verdict.TheVariants.{Failed}
+use Rattle.cluster_types.specs.declared.verdict.Cause.{Cause}
+use Rattle.cluster_types.specs.declared.entry.Entry.{Entry}
+use Rattle.cluster_types.specs.declared.entry.Entry.TheVariants.{Settle}
+use Rattle.cluster_defs.specs.declared.engine.Engine.{Engine}
+use Rattle.cluster_defs.specs.Words.{Id, or_else}
+use Rattle.cluster_defs.specs.Engines.{lists_number}
+use Rattle.cluster_defs.specs.Tasks.{Task, Settled, runs_at}
+use Rattle.cluster_defs.specs.Dependencies.{met, on_engine}
+use Rattle.cluster_defs.specs.Requests.{Request, is_direct, is_target}
+use Rattle.cluster_defs.specs.Facts.{Facts, nothing_yet, is_direct_id}
+use Rattle.cluster_defs.specs.Scheduling.{lose_due, verdict, is_final, settle_as, rests, failing_as, ready_for, hand_to, may_run_as, excludes, pick}
+use Rattle.cluster_state.specs.Seen.{Seen, seen_in, holds_at}
+use Rattle.cluster_state.specs.Plain.{Plain}
+use Rattle.due_decisions.specs.declared.rooms.Room.{Room}
+
+-- FACTS OF A PART OF THE DATA
+
+-- how the ids of a table were settled
+abbrev pub settled_in : List Seen → Id → Option Settled
+settled_in ts id = option_and_then (λ t. t.settled) (seen_in ts id)
+
+-- what one task tells
+abbrev pub alone : Seen → Facts
+alone t = record nothing_yet { request_of = λ id. t.request; task = λ id. t.attempts; settled = λ id. t.settled }
+
+-- the attempts of one task, the live engines and how all tasks were settled
+abbrev pub among : List Seen → List Engine → ℕ → Task → Facts
+among ts live now a = record nothing_yet { now = now; engines = record { live = live; next = 0 }; task = λ id. a; settled = settled_in ts }
+
+-- (a) LOSE
+
+abbrev pub beating : List Engine → ℕ → ℕ → Facts
+beating live misses beats = record nothing_yet { misses = misses; beats = beats; engines = record { live = live; next = 0 } }
+
+-- (b) SETTLE A FINAL TASK
+
+abbrev pub final_at : Seen → Bool
+final_at t = is_final (alone t) t.row.id
+
+abbrev pub settle_of : Seen → Option Entry
+settle_of t = settle_as t.row.id (verdict (alone t) t.row.id)
+
+abbrev pub settle_in : List Seen → Option Entry
+settle_in ts = option_and_then settle_of (find final_at ts)
+
+-- (c) FAIL A TASK
+
+abbrev pub failing_in : List Seen → List Engine → ℕ → Seen → Option Cause
+failing_in ts live now t = if rests (alone t) t.row.id then failing_as (among ts live now t.attempts) t.row.id t.request else None
+
+abbrev pub fail_of : List Seen → List Engine → ℕ → Seen → Option Entry
+fail_of ts live now t = option_map (λ cause. Settle t.row.id Failed cause) (failing_in ts live now t)
+
+abbrev pub fail_in : List Seen → List Engine → ℕ → Option Entry
+fail_in ts live now = option_and_then (fail_of ts live now) (find (λ t. is_some (failing_in ts live now t)) ts)
+
+-- (d) HAND A DIRECT REQUEST
+
+abbrev pub direct_of : Seen → Option Entry
+direct_of t = hand_to t.row.id (ready_for (alone t) t.row.id)
+
+abbrev pub direct_in : List Seen → Option Entry
+direct_in ts = option_and_then direct_of (find (λ t. is_some (ready_for (alone t) t.row.id)) ts)
+
+-- (e) HAND A SUBMIT
+
+-- whether a task is a Submit that runs on an engine
+abbrev pub loads : ℕ → Seen → Bool
+loads n t = not (is_some t.settled) && (runs_at n t.attempts.last && not (is_direct_id (alone t) t.row.id))
+
+abbrev pub load_in : List Seen → ℕ → ℕ
+load_in ts n = count_by (loads n) ts
+
+abbrev pub has_room : ℕ → ℕ → Bool
+has_room hwm load = hwm == 0 || nat_lt load hwm
+
+-- the live engines with room, in ascending order of last use
+abbrev pub rooms_in : List Seen → List Engine → ℕ → List ℕ → List Room
+rooms_in ts live hwm by_use =
+    filter (λ r. has_room hwm r.load) (map (λ n. record { engine = n; load = load_in ts n }) (filter (λ n. lists_number n live) by_use))
+
+-- one Submit more on the engines where it runs
+abbrev pub noted : Seen → Room → Room
+noted t r = if loads r.engine t then record r { load = r.load + 1 } else r
+
+-- the task at a place
+abbrev pub noted_at : List Seen → ℕ → Room → Room
+noted_at ts place r = if holds_at (loads r.engine) ts place then record r { load = r.load + 1 } else r
+
+-- the tasks at some places
+abbrev pub tally : List Seen → List ℕ → Room → Room
+tally ts places r = record r { load = r.load + count_by (holds_at (loads r.engine) ts) places }
+
+-- a Submit that waits, with attempts left and what it waits for met
+abbrev pub ready_as : List Seen → Task → Option Request → Bool
+ready_as ts a None = false
+ready_as ts a (Some r) = not (is_direct r) && nat_le a.spent r.retries && met r.after (settled_in ts)
+
+abbrev pub ready : List Seen → Seen → Bool
+ready ts t = rests (alone t) t.row.id && ready_as ts t.attempts t.request
+
+-- an engine where what it follows is met, that is a target and didn't decline it
+abbrev pub takes_as : List Seen → ℕ → Option Request → Bool
+takes_as ts n None = false
+takes_as ts n (Some r) = met r.follow (λ i. on_engine n (settled_in ts i)) && is_target n r
+
+abbrev pub takes : List Seen → Seen → ℕ → Bool
+takes ts t n = takes_as ts n t.request && not (excludes (alone t) t.row.id n)
+
+-- whether a task may run on an engine that is live and has room
+abbrev pub fits : List Seen → Seen → ℕ → Bool
+fits ts t n = rests (alone t) t.row.id && may_run_as (among ts [] 0 t.attempts) t.row.id n t.request && not (excludes (alone t) t.row.id n)
+
+abbrev pub rooms_for : List Seen → List Room → Seen → List Room
+rooms_for ts rooms t = filter (λ r. fits ts t r.engine) rooms
+
+-- the engine that is picked of some
+abbrev pub picked : Scheme → ℕ → List Room → Option ℕ
+picked scheme word rooms = option_map (λ r. r.engine) (slice_get rooms (pick scheme (map (λ r. r.load) rooms) word))
+
+abbrev pub hand_of : List Seen → List Room → Scheme → ℕ → Seen → Option Entry
+hand_of ts rooms scheme word t = hand_to t.row.id (picked scheme word (rooms_for ts rooms t))
+
+abbrev pub hand_in : List Seen → List Room → Scheme → ℕ → Option Entry
+hand_in ts rooms scheme word = option_and_then (hand_of ts rooms scheme word) (find (λ t. list_any (λ r. fits ts t r.engine) rooms) ts)
+
+-- ALL, IN THEIR ORDER
+
+abbrev pub hand_then : Plain → Option Entry
+hand_then p = hand_in p.tasks (rooms_in p.tasks p.engines.live p.hwm p.by_use) p.scheme p.word
+
+abbrev pub direct_then : Plain → Option Entry
+direct_then p = or_else (direct_in p.tasks) (hand_then p)
+
+abbrev pub fail_then : Plain → Option Entry
+fail_then p = or_else (fail_in p.tasks p.engines.live p.now) (direct_then p)
+
+abbrev pub settle_then : Plain → Option Entry
+settle_then p = or_else (settle_in p.tasks) (fail_then p)
+
+abbrev pub due_in : Plain → Option Entry
+due_in p = or_else (lose_due (beating p.engines.live p.misses p.beats)) (settle_then p)

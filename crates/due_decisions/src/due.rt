@@ -1,0 +1,94 @@
+//! The decision that is due.
+
+ghost use Rattle.std.specs.Prelude.{◌≡◌, IfOk};
+ghost use Rattle.cluster_defs.specs.Histories.{History, facts};
+ghost use Rattle.cluster_defs.specs.Scheduling.{due};
+ghost use Rattle.cluster_state.specs.Stands.{plain, Knows};
+ghost use Rattle.due_decisions.specs.Table.{hand_then, direct_then, fail_then, settle_then, due_in};
+
+use crate::handing::{direct_due, hand_due};
+use crate::losing::lose_due;
+use crate::rooms::rooms_in;
+use crate::settling::{fail_due, settle_due};
+use cluster_state::state::State;
+use cluster_types::entry::Entry;
+use load_schemes::chooser::Chooser;
+use std::alloc::{AllocError, Global};
+
+fn hand_step(alloc: Global, state: &State, chooser: &Chooser) -> Result<Option<Entry>, AllocError>
+    ensures { IfOk result (λ d. d ≡ hand_then (plain state.now)) }
+{
+    let rooms = rooms_in(
+        alloc,
+        &state.tasks,
+        &state.engines,
+        state.hwm,
+        &state.by_use,
+    )?;
+    let hand = hand_due(
+        alloc,
+        &state.tasks,
+        &rooms,
+        chooser,
+        state.scheme,
+        state.word,
+    )?;
+    Ok(hand)
+}
+
+fn direct_step(alloc: Global, state: &State, chooser: &Chooser) -> Result<Option<Entry>, AllocError>
+    ensures { IfOk result (λ d. d ≡ direct_then (plain state.now)) }
+{
+    match direct_due(&state.tasks)? {
+        Some(hand) => Ok(Some(hand)),
+        None => {
+            let hand = hand_step(alloc, state, chooser)?;
+            Ok(hand)
+        }
+    }
+}
+
+fn fail_step(alloc: Global, state: &State, chooser: &Chooser) -> Result<Option<Entry>, AllocError>
+    ensures { IfOk result (λ d. d ≡ fail_then (plain state.now)) }
+{
+    match fail_due(&state.tasks, &state.engines, state.clock)? {
+        Some(settle) => Ok(Some(settle)),
+        None => {
+            let hand = direct_step(alloc, state, chooser)?;
+            Ok(hand)
+        }
+    }
+}
+
+fn settle_step(alloc: Global, state: &State, chooser: &Chooser) -> Result<Option<Entry>, AllocError>
+    ensures { IfOk result (λ d. d ≡ settle_then (plain state.now)) }
+{
+    match settle_due(&state.tasks)? {
+        Some(settle) => Ok(Some(settle)),
+        None => {
+            let later = fail_step(alloc, state, chooser)?;
+            Ok(later)
+        }
+    }
+}
+
+fn lose_step(alloc: Global, state: &State, chooser: &Chooser) -> Result<Option<Entry>, AllocError>
+    ensures { IfOk result (λ d. d ≡ due_in (plain state.now)) }
+{
+    match lose_due(&state.engines, state.misses, state.beats) {
+        Some(loss) => Ok(Some(loss)),
+        None => {
+            let later = settle_step(alloc, state, chooser)?;
+            Ok(later)
+        }
+    }
+}
+
+/// The one decision that is due, over data that stand for a legal history. It looks at the unsettled tasks and the live
+/// engines alone, each of a task's dependencies by its id.
+pub fn due(alloc: Global, state: &State, chooser: &Chooser) -> Result<Option<Entry>, AllocError>
+    ensures { IfOk result (λ d. (history : History) → Knows state.now history → d ≡ due (facts history)) }
+{
+    let found = lose_step(alloc, state, chooser)?;
+    Ok(found)
+}

@@ -1,0 +1,232 @@
+//! Direct requests that wait for their engine, and Submits that may run.
+
+ghost use Rattle.std.specs.Prelude.{◌≡◌, find, slice_get, option_map, map, IfOk};
+ghost use Rattle.std.specs.List.{list_any};
+ghost use Rattle.std.specs.Option.{option_copied, is_some};
+ghost use Rattle.cluster_defs.specs.Scheduling.{ready_for};
+ghost use Rattle.cluster_state.specs.Seen.{open_places, holds_at};
+ghost use Rattle.due_decisions.specs.Table.{alone, direct_of, direct_in, ready, takes, fits, rooms_for, picked, hand_of, hand_in};
+
+use crate::dependencies::{is_met, is_met_on};
+use crate::failing::{is_excluded, is_target, rests};
+use crate::places::task_at;
+use crate::rooms::Room;
+use cluster_state::attempts::is_never;
+use cluster_state::task::Task;
+use cluster_state::tasks::Tasks;
+use cluster_types::config::Scheme;
+use cluster_types::copying::TryCopy;
+use cluster_types::entry::Entry;
+use load_schemes::chooser::Chooser;
+use std::alloc::{AllocError, Global};
+
+/// The engine of an unsettled direct request without an attempt.
+fn ready_for(task: &Task) -> Option<u32>
+    ensures { result ≡ ready_for (alone task.now) task.now.row.id }
+{
+    if task.settled().is_none() && is_never(task.attempts().last) {
+        task.request().direct_to
+    } else {
+        None
+    }
+}
+
+fn is_direct_at(tasks: &[Task], place: usize) -> bool
+    ensures { result ≡ holds_at (λ t. is_some (ready_for (alone t) t.row.id)) tasks.now place }
+{
+    match tasks.get(place) {
+        Some(task) => ready_for(task).is_some(),
+        None => false,
+    }
+}
+
+fn direct_place(tasks: &Tasks) -> Option<usize>
+    ensures { result ≡ find (holds_at (λ t. is_some (ready_for (alone t) t.row.id)) tasks.now) (open_places tasks.now) }
+{
+    tasks
+        .unsettled()
+        .iter()
+        .copied()
+        .find(|p| is_direct_at(tasks.as_slice(), *p))
+}
+
+fn direct_task(tasks: &Tasks) -> Option<&Task>
+    ensures { option_copied result ≡ find (λ t. is_some (ready_for (alone t) t.row.id)) tasks.now }
+{
+    task_at(tasks, direct_place(tasks))
+}
+
+fn direct_of(task: &Task) -> Result<Option<Entry>, AllocError>
+    ensures { IfOk result (λ d. d ≡ direct_of task.now) }
+{
+    match ready_for(task) {
+        Some(engine) => Ok(Some(Entry::Hand {
+            id: task.id().copy()?,
+            engine,
+        })),
+        None => Ok(None),
+    }
+}
+
+/// The hand-out of the lowest direct request without an attempt.
+pub fn direct_due(tasks: &Tasks) -> Result<Option<Entry>, AllocError>
+    ensures { IfOk result (λ d. d ≡ direct_in tasks.now) }
+{
+    match direct_task(tasks) {
+        Some(task) => direct_of(task),
+        None => Ok(None),
+    }
+}
+
+/// Whether a task is a Submit that waits, with attempts left and what it waits for met.
+fn is_ready(tasks: &Tasks, task: &Task) -> bool
+    ensures { result ≡ ready tasks.now task.now }
+{
+    rests(task)
+        && task.request().direct_to.is_none()
+        && task.attempts().spent <= u64::from(task.request().retries)
+        && is_met(&task.request().after, tasks)
+}
+
+/// Whether a task may run on an engine, as far as the two go together.
+fn takes(tasks: &Tasks, task: &Task, engine: u32) -> bool
+    ensures { result ≡ takes tasks.now task.now engine }
+{
+    is_met_on(&task.request().follow, tasks, engine)
+        && is_target(task.request(), engine)
+        && !is_excluded(task.attempts(), engine)
+}
+
+fn any_takes(tasks: &Tasks, rooms: &[Room], task: &Task) -> bool
+    ensures { result ≡ list_any (λ r. takes tasks.now task.now r.engine) rooms.now }
+{
+    rooms.iter().any(|r| takes(tasks, task, r.engine))
+}
+
+fn may_run(tasks: &Tasks, rooms: &[Room], task: &Task) -> bool
+    ensures { result ≡ list_any (λ r. fits tasks.now task.now r.engine) rooms.now }
+{
+    is_ready(tasks, task) && any_takes(tasks, rooms, task)
+}
+
+fn may_run_at(tasks: &Tasks, rooms: &[Room], place: usize) -> bool
+    ensures { result ≡ holds_at (λ t. list_any (λ r. fits tasks.now t r.engine) rooms.now) tasks.now place }
+{
+    match tasks.as_slice().get(place) {
+        Some(task) => may_run(tasks, rooms, task),
+        None => false,
+    }
+}
+
+fn waiting_place(tasks: &Tasks, rooms: &[Room]) -> Option<usize>
+    ensures { result ≡ find (holds_at (λ t. list_any (λ r. fits tasks.now t r.engine) rooms.now) tasks.now) (open_places tasks.now) }
+{
+    tasks
+        .unsettled()
+        .iter()
+        .copied()
+        .find(|p| may_run_at(tasks, rooms, *p))
+}
+
+fn waiting_task<'a>(tasks: &'a Tasks, rooms: &[Room]) -> Option<&'a Task>
+    ensures { option_copied result ≡ find (λ t. list_any (λ r. fits tasks.now t r.engine) rooms.now) tasks.now }
+{
+    if rooms.is_empty() {
+        None
+    } else {
+        task_at(tasks, waiting_place(tasks, rooms))
+    }
+}
+
+fn is_fitting(tasks: &Tasks, task: &Task, engine: u32) -> bool
+    ensures { result ≡ fits tasks.now task.now engine }
+{
+    is_ready(tasks, task) && takes(tasks, task, engine)
+}
+
+/// The rooms where a task may run.
+fn rooms_for(
+    alloc: Global,
+    tasks: &Tasks,
+    rooms: &[Room],
+    task: &Task,
+) -> Result<Vec<Room>, AllocError>
+    ensures { IfOk result (λ v. v.items ≡ rooms_for tasks.now rooms.now task.now) }
+{
+    rooms
+        .iter()
+        .filter(|r| is_fitting(tasks, task, r.engine))
+        .copied()
+        .collect(alloc)
+}
+
+fn loads_of(alloc: Global, rooms: &[Room]) -> Result<Vec<u32>, AllocError>
+    ensures { IfOk result (λ v. v.items ≡ map (λ r. r.load) rooms.now) }
+{
+    rooms.iter().map(|r| r.load).collect(alloc)
+}
+
+fn engine_at(rooms: &[Room], place: usize) -> Option<u32>
+    ensures { result ≡ option_map (λ r. r.engine) (slice_get rooms.now place) }
+{
+    match rooms.get(place) {
+        Some(room) => Some(room.engine),
+        None => None,
+    }
+}
+
+/// The engine that is picked of some.
+fn picked(
+    alloc: Global,
+    chooser: &Chooser,
+    scheme: Scheme,
+    word: u64,
+    rooms: &[Room],
+) -> Result<Option<u32>, AllocError>
+    ensures { IfOk result (λ n. n ≡ picked scheme word rooms.now) }
+{
+    if rooms.is_empty() {
+        return Ok(None);
+    }
+    let loads = loads_of(alloc, rooms)?;
+    let place = chooser.choose(scheme, &loads, word);
+    Ok(engine_at(rooms, place))
+}
+
+fn hand_of(
+    alloc: Global,
+    tasks: &Tasks,
+    rooms: &[Room],
+    chooser: &Chooser,
+    scheme: Scheme,
+    word: u64,
+    task: &Task,
+) -> Result<Option<Entry>, AllocError>
+    ensures { IfOk result (λ d. d ≡ hand_of tasks.now rooms.now scheme word task.now) }
+{
+    let fitting = rooms_for(alloc, tasks, rooms, task)?;
+    match picked(alloc, chooser, scheme, word, &fitting)? {
+        Some(engine) => Ok(Some(Entry::Hand {
+            id: task.id().copy()?,
+            engine,
+        })),
+        None => Ok(None),
+    }
+}
+
+/// The hand-out of the lowest Submit that may run, to the engine that is picked of these.
+pub fn hand_due(
+    alloc: Global,
+    tasks: &Tasks,
+    rooms: &[Room],
+    chooser: &Chooser,
+    scheme: Scheme,
+    word: u64,
+) -> Result<Option<Entry>, AllocError>
+    ensures { IfOk result (λ d. d ≡ hand_in tasks.now rooms.now scheme word) }
+{
+    match waiting_task(tasks, rooms) {
+        Some(task) => hand_of(alloc, tasks, rooms, chooser, scheme, word, task),
+        None => Ok(None),
+    }
+}

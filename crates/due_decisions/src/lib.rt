@@ -1,0 +1,13 @@
+//! The one decision that is due, worked out over the data of a cluster.
+#![tactic(auto)]
+
+mod dependencies;
+pub mod due;
+mod failing;
+mod handing;
+mod losing;
+mod places;
+mod rooms;
+mod settling;
+#[cfg(test)]
+mod tests;
