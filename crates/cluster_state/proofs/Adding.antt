@@ -32,7 +32,7 @@ use Rattle.cluster_state.proofs.Lists.{map_listed}
 use Rattle.cluster_state.proofs.Pieces.{seen_from, look_is}
 use Rattle.cluster_state.proofs.Blank.{Blank, blank}
 use Rattle.cluster_state.proofs.Exact.{unsettled, unpurged}
-use Rattle.cluster_state.proofs.Messages.{noted_is, or_false}
+use Rattle.cluster_state.proofs.Told.{noted_is, or_false}
 
 -- PLACES
 
@@ -164,3 +164,23 @@ accepted_tasks h conn moment word m event (Some d) legal is =
     let tasks : map (look g) (f.known ++ d.submission.id ∷ []) ≡ map (look f) f.known ++ begun d.submission.id (length (map (look f) f.known) + 1) (request_made f conn moment m d) (body_of m) ∷ [] =
         map-append (look g) f.known (d.submission.id ∷ []) ∙ rw (front, new_look h conn moment word m event d legal off, count) refl in
     rw tasks refl
+
+pub submit_plain : (h : History) (conn moment word : ℕ) (m : Message) (s : Submission) → Legal h →
+    plain_of (step (facts h) (Input (In conn moment word m)) (Some (Submit s))) ≡ noted (changes (facts h) conn m (Some (Submit s))) moment word (told (facts h) conn moment m (Submit s) (plain_of (facts h)))
+submit_plain h conn moment word m s legal =
+    let f = facts h in
+    let o = accepted f m (Some (Submit s)) in
+    let b = changes f conn m (Some (Submit s)) in
+    ap plain_of (submit_step f conn moment word m s)
+    ∙ noted_is b moment word (record (plain_of f) { tasks = map (look (after_accepted f conn moment word m (Some (Submit s)) o)) (f.known ++ accepted_id o) })
+    ∙ ap (noted b moment word) (accepted_tasks h conn moment word m (Some (Submit s)) o legal refl)
+
+pub direct_plain : (h : History) (conn moment word : ℕ) (m : Message) (s : Submission) → Legal h →
+    plain_of (step (facts h) (Input (In conn moment word m)) (Some (Direct s))) ≡ noted (changes (facts h) conn m (Some (Direct s))) moment word (told (facts h) conn moment m (Direct s) (plain_of (facts h)))
+direct_plain h conn moment word m s legal =
+    let f = facts h in
+    let o = accepted f m (Some (Direct s)) in
+    let b = changes f conn m (Some (Direct s)) in
+    ap plain_of (direct_step f conn moment word m s)
+    ∙ noted_is b moment word (record (plain_of f) { tasks = map (look (after_accepted f conn moment word m (Some (Direct s)) o)) (f.known ++ accepted_id o) })
+    ∙ ap (noted b moment word) (accepted_tasks h conn moment word m (Some (Direct s)) o legal refl)

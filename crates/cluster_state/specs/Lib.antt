@@ -1,4 +1,5 @@
 pub mod Places
 pub mod Plain
 pub mod Seen
+pub mod Settling
 pub mod Stands

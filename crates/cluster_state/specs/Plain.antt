@@ -1,25 +1,29 @@
 -- The data of a cluster, as lists, and how the entries change it.
-use Rattle.std.specs.Prelude.{ℕ, max, ◌+◌, ◌==◌, List, [], ◌∷◌, ◌++◌, length, map, Option, Some, None, Bool, true, false, not, if◌then◌else◌, filter, find, option_map}
+use Rattle.std.specs.Prelude.{ℕ, ⊤, ◌≤◌, max, nat_lt, ◌+◌, ◌==◌, ◌&&◌, ◌||◌, List, [], ◌∷◌, ◌++◌, length, map, Option, Some, None, Bool, true, false, not, if◌then◌else◌, filter, find, option_map}
+use Rattle.std.specs.List.{list_any}
 use Rattle.std.specs.Option.{option_and_then}
 use Rattle.cluster_types.specs.declared.config.Channel.{Channel}
 use Rattle.cluster_types.specs.declared.config.Scheme.{Scheme}
 use Rattle.cluster_types.specs.declared.message.Message.{Message}
 use Rattle.cluster_types.specs.declared.event.Event.{Event}
 use Rattle.cluster_types.specs.declared.event.Event.TheVariants.{Submit, Direct, Reply as ReplyEvent, Join, Leave, Pong, Purge, Resubmit, Ask}
+use Rattle.cluster_types.specs.declared.entry.Input.TheVariants.{Open, Up, Down, In, Beat, Time}
+use Rattle.cluster_types.specs.declared.entry.Entry.{Entry}
+use Rattle.cluster_types.specs.declared.entry.Entry.TheVariants.{Input, Hand, Settle, Lose}
 use Rattle.cluster_types.specs.declared.verdict.Verdict.{Verdict}
 use Rattle.cluster_types.specs.declared.verdict.Cause.{Cause}
 use Rattle.cluster_types.specs.declared.verdict.Cause.TheVariants.{Reply}
 use Rattle.cluster_defs.specs.declared.connection.Connection.{Connection}
 use Rattle.cluster_defs.specs.declared.engine.Engine.{Engine}
-use Rattle.cluster_defs.specs.Words.{Id}
+use Rattle.cluster_defs.specs.Words.{Id, is_listed}
 use Rattle.cluster_defs.specs.Connections.{with_connection, without_connection}
-use Rattle.cluster_defs.specs.Engines.{Engines, joined, left, echoed, without_left, with_engine, with_mark}
+use Rattle.cluster_defs.specs.Engines.{Engines, engine_on, joined, left, echoed, without_left, with_engine, with_mark}
 use Rattle.cluster_defs.specs.Tasks.{Ending, ending, counts, Task, Settled, settled_as, new_task}
 use Rattle.cluster_defs.specs.Requests.{Request, Body, body_of, parts_of}
-use Rattle.cluster_defs.specs.Facts.{Facts, is_direct_id}
-use Rattle.cluster_defs.specs.Acceptance.{Demand, accepted, request_made}
+use Rattle.cluster_defs.specs.Facts.{Facts, is_settled, is_direct_id}
+use Rattle.cluster_defs.specs.Acceptance.{Demand, most_ids, accepted, request_made}
 use Rattle.cluster_defs.specs.Purges.{Copy, purged_by, copied_by, resubmitted}
-use Rattle.cluster_defs.specs.Steps.{moved, next_word}
+use Rattle.cluster_defs.specs.Steps.{changes, moved, next_word}
 use Rattle.cluster_defs.specs.Outcomes.{made_outcome}
 use Rattle.cluster_defs.specs.TaskRecords.{record_of}
 use Rattle.cluster_state.specs.Seen.{Seen, begun as begun_task, handed_to, ended_on, lost_all, replied_with, settled_with, purged_out, seen_in, changed, on_unsettled}
@@ -192,7 +196,11 @@ abbrev pub accepted_by : Option Demand → (Demand → Request) → Body → Pla
 accepted_by None request body p = p
 accepted_by (Some d) request body p = record p { tasks = p.tasks ++ begun_task d.submission.id (length p.tasks + 1) (request d) body ∷ [] }
 
--- the ids that a Purge drops, where it is accepted
+-- whether all of some ids may be dropped: each is known, not purged and settled
+abbrev pub may_drop : Facts → List Id → Bool
+may_drop f ids = not (list_any (λ id. not (is_listed id f.known) || f.purged id) ids) && not (list_any (λ id. not (is_settled f id)) ids)
+
+-- the tasks, once some ids are dropped
 abbrev pub purged_tasks : List Id → List Seen → List Seen
 purged_tasks [] ts = ts
 purged_tasks (id ∷ ids) ts = purged_tasks ids (changed id purged_out ts)
@@ -210,14 +218,20 @@ copy_of again number new (Some t) = copy_with (again new) number new t.request t
     copy_with again number new (Some request) (Some body) = begun_task new number (again request) body ∷ []
     copy_with again number new _ _ = []
 
--- the tasks with the copies that a Resubmit makes, with the requests changed so
-abbrev pub copied_tasks : (Id → Request → Request) → List Copy → List Seen → List Seen
-copied_tasks again [] ts = ts
-copied_tasks again (c ∷ copies) ts = copied_tasks again copies (ts ++ copy_of again (length ts + 1) c.new (seen_in ts c.old))
+-- the copies that a Resubmit makes of some tasks, from a number on, with the requests changed so
+abbrev pub copies_in : (Id → Request → Request) → ℕ → List Copy → List Seen → List Seen
+copies_in again number [] ts = []
+copies_in again number (c ∷ copies) ts = copy_of again number c.new (seen_in ts c.old) ++ copies_in again (number + 1) copies ts
 
 abbrev pub copied_out : (Id → Request → Request) → Option (List Copy) → Plain → Plain
 copied_out again None p = p
-copied_out again (Some copies) p = record p { tasks = copied_tasks again copies p.tasks }
+copied_out again (Some copies) p = record p { tasks = p.tasks ++ copies_in again (length p.tasks + 1) copies p.tasks }
+
+-- whether all of some ids may be copied: each is known, not purged and settled, and there is room
+abbrev pub may_copy : Facts → List Id → Bool
+may_copy f ids =
+    not (list_any (λ id. not (is_listed id f.known)) ids) && not (list_any (λ id. f.purged id) ids)
+    && not (list_any (λ id. not (is_settled f id)) ids) && not (nat_lt most_ids (length f.known + length ids))
 
 -- a message with this meaning, where these facts stand
 abbrev pub told : Facts → ℕ → ℕ → Message → Event → Plain → Plain
@@ -236,3 +250,26 @@ told f conn moment m (Ask query) p = p
 abbrev pub noted : Bool → ℕ → ℕ → Plain → Plain
 noted false moment word p = p
 noted true moment word p = input_at moment word p
+
+-- an entry with this meaning, where these facts stand
+abbrev pub after : Facts → Entry → Option Event → Plain → Plain
+after f (Input (Open moment scheme hwm misses)) event p = opened moment scheme hwm misses p
+after f (Input (Up conn channel moment word identity)) event p = came_up conn channel identity (input_at moment word p)
+after f (Input (Down conn moment word)) event p = engine_ended (option_map (λ e. e.number) (engine_on p.engines.live conn)) (went_down conn (input_at moment word p))
+after f (Input (In conn moment word message)) None p = p
+after f (Input (In conn moment word message)) (Some event) p = noted (changes f conn message (Some event)) moment word (told f conn moment message event p)
+after f (Input (Beat moment word)) event p = beaten (passed moment (input_at moment word p))
+after f (Input (Time moment word)) event p = passed moment (input_at moment word p)
+after f (Hand id engine) event p = handed_out id engine (is_direct_id f id) p
+after f (Settle id verdict cause) event p = settled_out id verdict cause p
+after f (Lose engine) event p = engine_ended (Some engine) p
+
+-- the moment of an entry, where it has one, is before the year 10000
+abbrev pub InTime : Entry → Type 0
+InTime (Input (Open moment scheme hwm misses)) = moment ≤ 253402300799999
+InTime (Input (Up conn channel moment word identity)) = moment ≤ 253402300799999
+InTime (Input (Down conn moment word)) = moment ≤ 253402300799999
+InTime (Input (In conn moment word message)) = moment ≤ 253402300799999
+InTime (Input (Beat moment word)) = moment ≤ 253402300799999
+InTime (Input (Time moment word)) = moment ≤ 253402300799999
+InTime _ = ⊤

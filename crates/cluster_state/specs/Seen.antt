@@ -1,6 +1,7 @@
 -- What is seen of a task: all that a history says of one id.
 use Rattle.std.specs.Prelude.{ℕ, suc, List, [], ◌∷◌, find, slice_get, Option, Some, None, Bool, true, false, if◌then◌else◌, bytes_eq, option_map}
-use Rattle.std.specs.Option.{is_some}
+use Rattle.std.specs.List.{list_all}
+use Rattle.std.specs.Option.{is_some, is_none}
 use Rattle.cluster_types.specs.declared.message.Message.{Message}
 use Rattle.cluster_types.specs.declared.record.Record.{Record}
 use Rattle.cluster_defs.specs.Words.{Id}
@@ -142,3 +143,7 @@ holds_at test ts place = holds (slice_get ts place)
 -- a change of a task that isn't settled
 abbrev pub on_unsettled : (Seen → Seen) → Seen → Seen
 on_unsettled change t = if is_some t.settled then t else change t
+
+-- whether none of some tasks is settled
+abbrev pub all_open : List Seen → Bool
+all_open = list_all (λ t. is_none t.settled)

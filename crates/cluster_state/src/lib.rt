@@ -3,8 +3,12 @@
 
 pub mod acceptance;
 pub mod attempts;
+pub mod copies;
 pub mod engines;
+pub mod entries;
+pub mod messages;
 pub mod outcomes;
+pub mod purges;
 pub mod replies;
 pub mod request;
 pub mod state;

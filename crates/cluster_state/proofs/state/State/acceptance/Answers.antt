@@ -7,11 +7,10 @@ use Rattle.cluster_state.proofs.state.State.acceptance.Goals as goal
 
 pub returns-in-Some-2 : goal.returns-in-Some-2
 returns-in-Some-2 c =
-    let unpurged : c.in-Some-2.task.now.row.purged ≡ false =
-        subst (λ t. t.now.row.purged ≡ false) c.in-Some-2.task-is (sym (ap (λ r. r.purged) c.row.ensures) ∙ c.if-row.false) in
+    let unpurged : c.in-Some.task.now.row.purged ≡ false = sym (ap (λ r. r.purged) c.row.ensures) ∙ c.if-row.false in
     ap Again c.is_same.ensures
-    ∙ sym (accepting_known (plain c.args.self.now) (record { direct = c.args.direct; submission = c.args.submission.now }) c.args.message.now c.in-Some-2.task.now
-        (sym c.is_reserved.ensures ∙ c.if-is_reserved.false) (sym c.find.ensures ∙ ap option_copied c.in-Some-2.is) unpurged)
+    ∙ sym (accepting_known (plain c.args.self.now) (record { direct = c.args.direct; submission = c.args.submission.now }) c.args.message.now c.in-Some.task.now
+        (sym c.is_reserved.ensures ∙ c.if-is_reserved.false) (sym c.find.ensures ∙ ap option_copied c.in-Some.is) unpurged)
 
 pub returns-in-None : goal.returns-in-None
 returns-in-None c =

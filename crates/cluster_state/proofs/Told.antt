@@ -76,7 +76,7 @@ noted_is false moment word p = refl
 
 -- ASK
 
-ask_plain : (f : Facts) (conn moment word : ℕ) (m : Message) (query : Query) →
+pub ask_plain : (f : Facts) (conn moment word : ℕ) (m : Message) (query : Query) →
     plain_of (step f (Input (In conn moment word m)) (Some (Ask query))) ≡ noted (changes f conn m (Some (Ask query))) moment word (told f conn moment m (Ask query) (plain_of f))
 ask_plain f conn moment word m query =
     let g = after_quiet f conn moment word m (Some (Ask query)) in
@@ -85,7 +85,7 @@ ask_plain f conn moment word m query =
 
 -- LEAVE
 
-leave_plain : (f : Facts) (conn moment word : ℕ) (m : Message) → Closed f →
+pub leave_plain : (f : Facts) (conn moment word : ℕ) (m : Message) → Closed f →
     plain_of (step f (Input (In conn moment word m)) (Some Leave)) ≡ noted (changes f conn m (Some Leave)) moment word (told f conn moment m Leave (plain_of f))
 leave_plain f conn moment word m is =
     let g = after_quiet f conn moment word m (Some Leave) in
@@ -96,7 +96,7 @@ leave_plain f conn moment word m is =
 
 -- PONG
 
-pong_plain : (f : Facts) (conn moment word : ℕ) (m : Message) (beat : ℕ) →
+pub pong_plain : (f : Facts) (conn moment word : ℕ) (m : Message) (beat : ℕ) →
     plain_of (step f (Input (In conn moment word m)) (Some (Pong beat))) ≡ noted (changes f conn m (Some (Pong beat))) moment word (told f conn moment m (Pong beat) (plain_of f))
 pong_plain f conn moment word m beat =
     let g = after_quiet f conn moment word m (Some (Pong beat)) in
@@ -111,7 +111,7 @@ joined_is : (f : Facts) (conn : ℕ) (o : Option (List ℕ)) →
 joined_is f conn None = refl
 joined_is f conn (Some uuid) = refl
 
-join_plain : (f : Facts) (conn moment word : ℕ) (m : Message) (uuid : List ℕ) →
+pub join_plain : (f : Facts) (conn moment word : ℕ) (m : Message) (uuid : List ℕ) →
     plain_of (step f (Input (In conn moment word m)) (Some (Join uuid))) ≡ noted (changes f conn m (Some (Join uuid))) moment word (told f conn moment m (Join uuid) (plain_of f))
 join_plain f conn moment word m uuid =
     let event = Some (Join uuid) in
@@ -173,7 +173,7 @@ reply_tasks f conn moment word m name header ok declined is once =
           rw tasks refl
     ] refl
 
-reply_plain : (f : Facts) (conn moment word : ℕ) (m : Message) (name : Id) (header : List ℕ) (ok declined : Bool) → Closed f → EachOnce f.known →
+pub reply_plain : (f : Facts) (conn moment word : ℕ) (m : Message) (name : Id) (header : List ℕ) (ok declined : Bool) → Closed f → EachOnce f.known →
     plain_of (step f (Input (In conn moment word m)) (Some (Reply name header ok declined)))
     ≡ noted (changes f conn m (Some (Reply name header ok declined))) moment word (told f conn moment m (Reply name header ok declined) (plain_of f))
 reply_plain f conn moment word m name header ok declined is once =

@@ -1,0 +1,3 @@
+//! The core of a controller: it takes inputs, makes the decisions that are due, and says what to send.
+#![tactic(auto)]
+
