@@ -1,6 +1,6 @@
 //! Decisions over small clusters.
 
-ghost use Rattle.std.specs.Prelude.{◌≡◌, ◌<◌, length, None};
+ghost use Rattle.std.specs.Prelude.{◌≡◌, ◌<◌, length, None, IfOk};
 ghost use Rattle.cluster_defs.specs.Scheduling.{pick};
 
 use crate::due::due;
@@ -70,18 +70,76 @@ fn request(alloc: Global, after: Dep, follow: Dep) -> Result<Request, AllocError
 
 /// A Submit that waits for nothing.
 fn plain(alloc: Global) -> Result<Request, AllocError> {
-    let plain = request(alloc, dep(alloc, false), dep(alloc, false))?;
-    Ok(plain)
+    request(alloc, dep(alloc, false), dep(alloc, false))
 }
 
-fn add(alloc: Global, tasks: &mut Tasks, id: &str, request: Request) -> Result<(), AllocError> {
-    let id = Text::new(alloc, id)?;
-    let body = Body {
+/// A Submit that waits for `x` and `y`.
+fn after_both(alloc: Global, failure: bool) -> Result<Request, AllocError> {
+    let after = on_both(alloc, failure)?;
+    request(alloc, after, dep(alloc, false))
+}
+
+/// A Submit that follows `x` and `y`.
+fn follows_both(alloc: Global) -> Result<Request, AllocError> {
+    let follow = on_both(alloc, false)?;
+    request(alloc, dep(alloc, false), follow)
+}
+
+fn invalid(alloc: Global) -> Result<Request, AllocError> {
+    let mut request = plain(alloc)?;
+    request.invalid = true;
+    Ok(request)
+}
+
+/// A Submit that waits for five seconds at most.
+fn impatient(alloc: Global) -> Result<Request, AllocError> {
+    let mut request = plain(alloc)?;
+    request.timeout = 5;
+    Ok(request)
+}
+
+/// A direct request to engine 0.
+fn direct(alloc: Global) -> Result<Request, AllocError> {
+    let mut request = plain(alloc)?;
+    request.direct_to = Some(0);
+    Ok(request)
+}
+
+fn no_body(alloc: Global) -> Result<Body, AllocError> {
+    Ok(Body {
         content: Octets::new(alloc, b"{}")?,
         buffers: Sequence::new(alloc),
-    };
-    let task = Task::new(alloc, &id, 1, request, body)?;
-    tasks.push(task)
+    })
+}
+
+/// A task that was just accepted.
+fn task_of(alloc: Global, id: &Text, request: Request) -> Result<Task, AllocError>
+    ensures { IfOk result (λ t. t.settled ≡ None) }
+{
+    let body = no_body(alloc)?;
+    let task = Task::new(alloc, id, 1, request, body)?;
+    Ok(task)
+}
+
+fn push(tasks: &mut Tasks, task: Result<Task, AllocError>) -> Result<(), AllocError>
+    requires { IfOk task (λ t. t.settled ≡ None) }
+{
+    match task {
+        Ok(task) => tasks.push(task),
+        Err(error) => Err(error),
+    }
+}
+
+/// Adds a task with a request, if there is memory for both.
+fn add(
+    alloc: Global,
+    tasks: &mut Tasks,
+    id: &str,
+    request: Result<Request, AllocError>,
+) -> Result<(), AllocError> {
+    let request = request?;
+    let id = Text::new(alloc, id)?;
+    push(tasks, task_of(alloc, &id, request))
 }
 
 /// Settles a task on an engine.
@@ -121,47 +179,145 @@ fn join(alloc: Global, state: &mut State, number: u32) -> Result<(), AllocError>
     Ok(())
 }
 
-/// A cluster of the engines 0 and 1, with the tasks `x` and `y` settled on them.
-fn with_both(alloc: Global, last: Verdict) -> Result<State, AllocError> {
+/// A cluster of the engines 0 and 1.
+fn two_engines(alloc: Global) -> Result<State, AllocError> {
     let mut state = State::new(alloc);
     join(alloc, &mut state, 0)?;
     join(alloc, &mut state, 1)?;
-    add(alloc, &mut state.tasks, "x", plain(alloc)?)?;
-    add(alloc, &mut state.tasks, "y", plain(alloc)?)?;
-    finish(alloc, &mut state.tasks, "x", Verdict::Completed, 0)?;
-    finish(alloc, &mut state.tasks, "y", last, 1)?;
     Ok(state)
 }
 
-fn is_hand(found: &Option<Entry>, name: &str, number: u32) -> bool {
-    match found {
-        Some(Entry::Hand { id, engine }) => id.as_str() == name && *engine == number,
-        _ => false,
-    }
+fn finish_both(alloc: Global, tasks: &mut Tasks, last: Verdict) -> Result<(), AllocError> {
+    add(alloc, tasks, "x", plain(alloc))?;
+    add(alloc, tasks, "y", plain(alloc))?;
+    finish(alloc, tasks, "x", Verdict::Completed, 0)?;
+    finish(alloc, tasks, "y", last, 1)
 }
 
-fn is_failure(found: &Option<Entry>, name: &str, by: Cause) -> bool {
+/// The same with `x` completed on engine 0, `y` settled on engine 1, and `a`.
+fn with_both(
+    alloc: Global,
+    last: Verdict,
+    request: Result<Request, AllocError>,
+) -> Result<State, AllocError> {
+    let mut state = two_engines(alloc)?;
+    finish_both(alloc, &mut state.tasks, last)?;
+    add(alloc, &mut state.tasks, "a", request)?;
+    Ok(state)
+}
+
+/// The two engines, where `a` runs on engine 0 and `b` waits.
+fn with_load(alloc: Global) -> Result<State, AllocError> {
+    let mut state = two_engines(alloc)?;
+    add(alloc, &mut state.tasks, "a", plain(alloc))?;
+    hand(alloc, &mut state.tasks, "a", 0)?;
+    add(alloc, &mut state.tasks, "b", plain(alloc))?;
+    Ok(state)
+}
+
+/// A cluster without engines, where `a` waits at a moment.
+fn with_one(
+    alloc: Global,
+    clock: u64,
+    request: Result<Request, AllocError>,
+) -> Result<State, AllocError> {
+    let mut state = State::new(alloc);
+    state.clock = clock;
+    add(alloc, &mut state.tasks, "a", request)?;
+    Ok(state)
+}
+
+/// Engine 0 after so many beats, of which it may miss one, and a direct request to it.
+fn with_beats(alloc: Global, beats: u64) -> Result<State, AllocError> {
+    let mut state = State::new(alloc);
+    state.misses = 1;
+    state.beats = beats;
+    join(alloc, &mut state, 0)?;
+    add(alloc, &mut state.tasks, "a", direct(alloc))?;
+    Ok(state)
+}
+
+/// What was decided, in a word.
+#[derive(Clone, Copy, Debug, PartialEq, Eq)]
+enum Outcome {
+    Nothing,
+    Handed(u32),
+    Failed(Cause),
+    Lost(u32),
+    Other,
+}
+
+fn told(found: &Option<Entry>, name: &str) -> Outcome {
     match found {
+        None => Outcome::Nothing,
+        Some(Entry::Lose { engine }) => Outcome::Lost(*engine),
+        Some(Entry::Hand { id, engine }) if id.as_str() == name => Outcome::Handed(*engine),
         Some(
             Entry::Settle {
                 id,
                 verdict: Verdict::Failed,
                 cause,
             },
-        ) => id.as_str() == name && *cause == by,
-        _ => false,
+        ) if id.as_str() == name => Outcome::Failed(*cause),
+        Some(_) => Outcome::Other,
     }
 }
 
-fn is_loss(found: &Option<Entry>, number: u32) -> bool {
-    match found {
-        Some(Entry::Lose { engine }) => *engine == number,
-        _ => false,
-    }
+/// What is decided over a state, of a task with this name.
+fn decided(
+    alloc: Global,
+    state: Result<State, AllocError>,
+    chooser: &Chooser,
+    name: &str,
+) -> Result<Outcome, AllocError> {
+    let state = state?;
+    let found = due(alloc, &state, chooser)?;
+    Ok(told(&found, name))
+}
+
+fn are_handed(alloc: Global, chooser: &Chooser) -> Result<bool, AllocError> {
+    let free = with_both(alloc, Verdict::Failed, plain(alloc));
+    let first = decided(alloc, free, chooser, "a")?;
+    let second = decided(alloc, with_load(alloc), chooser, "b")?;
+    Ok(first == Outcome::Handed(0) && second == Outcome::Handed(1))
+}
+
+fn waits_for_kinds(alloc: Global, chooser: &Chooser) -> Result<bool, AllocError> {
+    let either = with_both(alloc, Verdict::Failed, after_both(alloc, true));
+    let first = decided(alloc, either, chooser, "a")?;
+    let completed = with_both(alloc, Verdict::Failed, after_both(alloc, false));
+    let second = decided(alloc, completed, chooser, "a")?;
+    let impossible = Outcome::Failed(Cause::ImpossibleDependency);
+    Ok(first == Outcome::Handed(0) && second == impossible)
+}
+
+fn follows_one_engine(alloc: Global, chooser: &Chooser) -> Result<bool, AllocError> {
+    let apart = with_both(alloc, Verdict::Completed, follows_both(alloc));
+    let found = decided(alloc, apart, chooser, "a")?;
+    Ok(found == Outcome::Failed(Cause::ImpossibleDependency))
+}
+
+fn fails_invalid(alloc: Global, chooser: &Chooser) -> Result<bool, AllocError> {
+    let found = decided(alloc, with_one(alloc, 0, invalid(alloc)), chooser, "a")?;
+    Ok(found == Outcome::Failed(Cause::InvalidDependency))
+}
+
+fn fails_late(alloc: Global, chooser: &Chooser) -> Result<bool, AllocError> {
+    let early = with_one(alloc, 5999, impatient(alloc));
+    let before = decided(alloc, early, chooser, "a")?;
+    let late = with_one(alloc, 6000, impatient(alloc));
+    let after = decided(alloc, late, chooser, "a")?;
+    Ok(before == Outcome::Nothing && after == Outcome::Failed(Cause::TaskTimeout))
+}
+
+fn loses_after_beats(alloc: Global, chooser: &Chooser) -> Result<bool, AllocError> {
+    let before = decided(alloc, with_beats(alloc, 1), chooser, "a")?;
+    let after = decided(alloc, with_beats(alloc, 2), chooser, "a")?;
+    Ok(before == Outcome::Handed(0) && after == Outcome::Lost(0))
 }
 
 #[test]
-fn least_load_is_handed(rt: HostRuntime) -> Result<(), Fail> {
+fn worked_decisions(rt: HostRuntime) -> Result<(), Fail> {
     let alloc = rt.alloc();
     let choose: Choose = Box::new(
         alloc,
@@ -171,108 +327,11 @@ fn least_load_is_handed(rt: HostRuntime) -> Result<(), Fail> {
         { place_of(scheme, loads, word) },
     )?;
     let chooser = Chooser::new(choose);
-    let mut state = State::new(alloc);
-    join(alloc, &mut state, 0)?;
-    join(alloc, &mut state, 1)?;
-    add(alloc, &mut state.tasks, "a", plain(alloc)?)?;
-    assert!(rt; is_hand(&due(alloc, &state, &chooser)?, "a", 0));
-    hand(alloc, &mut state.tasks, "a", 0)?;
-    assert!(rt; due(alloc, &state, &chooser)?.is_none());
-    add(alloc, &mut state.tasks, "b", plain(alloc)?)?;
-    assert!(rt; is_hand(&due(alloc, &state, &chooser)?, "b", 1));
-    Ok(())
-}
-
-#[test]
-fn after_both_kinds(rt: HostRuntime) -> Result<(), Fail> {
-    let alloc = rt.alloc();
-    let choose: Choose = Box::new(
-        alloc,
-        |scheme: Scheme, loads: &[u32], word: u64| -> usize
-            requires { 0 < length loads.now }
-            ensures { result ≡ pick scheme loads.now word }
-        { place_of(scheme, loads, word) },
-    )?;
-    let chooser = Chooser::new(choose);
-    let mut state = with_both(alloc, Verdict::Failed)?;
-    let either = request(alloc, on_both(alloc, true)?, dep(alloc, false))?;
-    add(alloc, &mut state.tasks, "a", either)?;
-    assert!(rt; is_hand(&due(alloc, &state, &chooser)?, "a", 0));
-    let completed = request(alloc, on_both(alloc, false)?, dep(alloc, false))?;
-    add(alloc, &mut state.tasks, "b", completed)?;
-    let found = due(alloc, &state, &chooser)?;
-    assert!(rt; is_failure(&found, "b", Cause::ImpossibleDependency));
-    Ok(())
-}
-
-#[test]
-fn follow_two_engines(rt: HostRuntime) -> Result<(), Fail> {
-    let alloc = rt.alloc();
-    let choose: Choose = Box::new(
-        alloc,
-        |scheme: Scheme, loads: &[u32], word: u64| -> usize
-            requires { 0 < length loads.now }
-            ensures { result ≡ pick scheme loads.now word }
-        { place_of(scheme, loads, word) },
-    )?;
-    let chooser = Chooser::new(choose);
-    let mut state = with_both(alloc, Verdict::Completed)?;
-    let follow = request(alloc, dep(alloc, false), on_both(alloc, false)?)?;
-    add(alloc, &mut state.tasks, "a", follow)?;
-    let found = due(alloc, &state, &chooser)?;
-    assert!(rt; is_failure(&found, "a", Cause::ImpossibleDependency));
-    Ok(())
-}
-
-#[test]
-fn invalid_and_late(rt: HostRuntime) -> Result<(), Fail> {
-    let alloc = rt.alloc();
-    let choose: Choose = Box::new(
-        alloc,
-        |scheme: Scheme, loads: &[u32], word: u64| -> usize
-            requires { 0 < length loads.now }
-            ensures { result ≡ pick scheme loads.now word }
-        { place_of(scheme, loads, word) },
-    )?;
-    let chooser = Chooser::new(choose);
-    let mut state = State::new(alloc);
-    let mut late = plain(alloc)?;
-    late.timeout = 5;
-    add(alloc, &mut state.tasks, "a", late)?;
-    state.clock = 5999;
-    assert!(rt; due(alloc, &state, &chooser)?.is_none());
-    state.clock = 6000;
-    let found = due(alloc, &state, &chooser)?;
-    assert!(rt; is_failure(&found, "a", Cause::TaskTimeout));
-    state.clock = 0;
-    let mut invalid = plain(alloc)?;
-    invalid.invalid = true;
-    add(alloc, &mut state.tasks, "b", invalid)?;
-    let found = due(alloc, &state, &chooser)?;
-    assert!(rt; is_failure(&found, "b", Cause::InvalidDependency));
-    Ok(())
-}
-
-#[test]
-fn lost_and_direct(rt: HostRuntime) -> Result<(), Fail> {
-    let alloc = rt.alloc();
-    let choose: Choose = Box::new(
-        alloc,
-        |scheme: Scheme, loads: &[u32], word: u64| -> usize
-            requires { 0 < length loads.now }
-            ensures { result ≡ pick scheme loads.now word }
-        { place_of(scheme, loads, word) },
-    )?;
-    let chooser = Chooser::new(choose);
-    let mut state = State::new(alloc);
-    join(alloc, &mut state, 0)?;
-    let mut direct = plain(alloc)?;
-    direct.direct_to = Some(0);
-    add(alloc, &mut state.tasks, "a", direct)?;
-    state.misses = 1;
-    state.beats = 1;
-    assert!(rt; is_hand(&due(alloc, &state, &chooser)?, "a", 0));
-    state.beats = 2;
-    assert!(rt; is_loss(&due(alloc, &state, &chooser)?, 0));
+    assert!(rt; are_handed(alloc, &chooser)?);
+    assert!(rt; waits_for_kinds(alloc, &chooser)?);
+    assert!(rt; follows_one_engine(alloc, &chooser)?);
+    assert!(rt; fails_invalid(alloc, &chooser)?);
+    assert!(rt; fails_late(alloc, &chooser)?);
+    assert!(rt; loses_after_beats(alloc, &chooser)?);
     Ok(())
 }
