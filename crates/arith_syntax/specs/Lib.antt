@@ -1,0 +1,5 @@
+pub mod Grammar
+pub mod Lexical
+pub mod Reading
+pub mod Tree
+pub mod Written
