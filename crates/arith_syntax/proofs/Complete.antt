@@ -1,6 +1,7 @@
 -- What the grammar allows is read: the tokens of an expression are taken one by one, and give its instructions.
 use Rattle.std.proofs.Common.{◌≡◌, ℕ, suc, ◌+◌, ◌-◌, ◌^◌, ◌<◌, ◌≤◌, max, Bool, true, false, cond, List, [], ◌∷◌, ◌++◌, Option, Some, None, Result, Ok, Err, refl, sym, ap, subst, ◌∙◌, append_assoc, arith}
-use Rattle.std.specs.Prelude.{nat_le, nat_lt}
+use Rattle.std.specs.Prelude.{nat_le, nat_lt, map}
+use Rattle.std.specs.List.{filter, AllByRecursion}
 use Rattle.arith_syntax.specs.declared.operators.UnaryOperator.{UnaryOperator}
 use Rattle.arith_syntax.specs.declared.operators.UnaryOperator.TheVariants.{Plus, Minus, Complement, Not}
 use Rattle.arith_syntax.specs.declared.operators.BinaryOperator.{BinaryOperator}
@@ -14,6 +15,7 @@ use Rattle.arith_syntax.specs.declared.pending.Pending.TheVariants.{Parenthesis,
 use Rattle.arith_syntax.specs.declared.refusal.Fault.{Fault}
 use Rattle.arith_syntax.specs.declared.refusal.Fault.TheVariants.{NoToken, Misplaced, Nested, Large}
 use Rattle.arith_syntax.specs.Tree.{Tree, Constant, Variable, Parenthesized, Unary, Operation, Conditional, Assignment, level, level_of, IsExpression, nesting, tokens_of, sign}
+use Rattle.arith_syntax.specs.Grammar.{Fits, joined, is_some_part, IsProgram}
 use Rattle.arith_syntax.specs.Reading.{State, nothing_read, tightness, nests, depth_of, ending, close, Step, waiting, nested, operand, empty_expression, first_step, second_choice, parenthesized, expression_end, may_assign, assignment, next_step, step, steps, after, IsLooser}
 
 -- the instructions of an expression on top of others, the newest first
@@ -230,3 +232,43 @@ reads limit (Assignment x op e) code waits rest g adm d =
     ap (λ b. after (cond b (nested limit (Target x op) (Assigned x op) code waits) (Err Misplaced)) (λ t. steps limit t (tokens_of e ++ rest))) (may_begin waits adm)
     ∙ ap (λ s. after s (λ t. steps limit t (tokens_of e ++ rest))) (nested_ok limit (Target x op) (Assigned x op) code waits (omega arith))
     ∙ reads limit e (Target x op ∷ code) (Assigned x op ∷ waits) rest g.2 (level_from e) (omega arith)
+
+-- the instructions of expressions one after another, on top of others
+abbrev pub put_all : List Tree → List Instruction → List Instruction
+put_all [] code = code
+put_all (e ∷ trees) code = put_all trees (Finish ∷ put e code)
+
+-- an expression alone, and what ends it
+expression_read : (limit : ℕ) (e : Tree) (code : List Instruction) (rest : List Token) → Fits limit e → steps limit (awaiting code []) (tokens_of e ++ Separator ∷ rest) ≡ steps limit (awaiting (Finish ∷ put e code) []) rest
+expression_read limit e code rest f =
+    reads limit e code [] (Separator ∷ rest) f.grammar tt (omega (arith, f.depth))
+    ∙ ap (λ (c : State). after (expression_end c.code c.waits) (λ t. steps limit t rest)) (closing 1 e code [] (level_from e) f.grammar)
+
+last_read : (limit : ℕ) (e : Tree) (code : List Instruction) → Fits limit e → steps limit (awaiting code []) (tokens_of e ++ End ∷ []) ≡ Ok (awaiting (Finish ∷ put e code) [])
+last_read limit e code f =
+    reads limit e code [] (End ∷ []) f.grammar tt (omega (arith, f.depth))
+    ∙ ap (λ (c : State). after (expression_end c.code c.waits) (λ t. steps limit t [])) (closing 1 e code [] (level_from e) f.grammar)
+
+-- the parts of a program are taken one after another
+parts_read : (limit : ℕ) (first : List Token) (more : List (List Token)) (trees : List Tree) (code : List Instruction) → filter is_some_part (first ∷ more) ≡ map tokens_of trees → AllByRecursion (Fits limit) trees → steps limit (awaiting code []) (joined first more ++ End ∷ []) ≡ Ok (awaiting (put_all trees code) [])
+parts_read limit [] [] [] code e f = refl
+parts_read limit [] [] (t ∷ trees) code e f = absurd cc
+parts_read limit [] (next ∷ more) trees code e f = parts_read limit next more trees code e f
+parts_read limit (x ∷ xs) [] [] code e f = absurd cc
+parts_read limit (x ∷ xs) [] (t ∷ []) code e f =
+    let is : x ∷ xs ≡ tokens_of t = cc in
+    ap (λ l. steps limit (awaiting code []) (l ++ End ∷ [])) is ∙ last_read limit t code f.0
+parts_read limit (x ∷ xs) [] (t ∷ u ∷ trees) code e f = absurd cc
+parts_read limit (x ∷ xs) (next ∷ more) [] code e f = absurd cc
+parts_read limit (x ∷ xs) (next ∷ more) (t ∷ trees) code e f =
+    let is : x ∷ xs ≡ tokens_of t = cc in
+    let others : filter is_some_part (next ∷ more) ≡ map tokens_of trees = cc in
+    ap (λ l. steps limit (awaiting code []) ((l ++ Separator ∷ joined next more) ++ End ∷ [])) is
+    ∙ ap (steps limit (awaiting code [])) (append_assoc (tokens_of t) (Separator ∷ joined next more) (End ∷ []))
+    ∙ expression_read limit t code (joined next more ++ End ∷ []) f.0
+    ∙ parts_read limit next more trees (Finish ∷ put t code) others f.1
+
+-- a program's tokens are read to its end
+pub program_read : (limit : ℕ) (all : List Token) (trees : List Tree) → IsProgram limit all trees → steps limit nothing_read (all ++ End ∷ []) ≡ Ok (awaiting (put_all trees []) [])
+program_read limit all trees p =
+    ap (λ l. steps limit nothing_read (l ++ End ∷ [])) p.parts ∙ parts_read limit p.first p.more trees [] p.expressions p.each

@@ -1,0 +1,414 @@
+-- What is read is in the grammar: what was read so far is expressions that are over, and one that has begun.
+use Rattle.std.proofs.Common.{◌≡◌, ℕ, suc, ◌+◌, ◌-◌, ◌^◌, ◌<◌, ◌≤◌, max, Bool, true, false, cond, List, [], ◌∷◌, ◌++◌, Option, Some, None, Result, Ok, Err, refl, sym, ap, subst, ◌∙◌, append_assoc, arith}
+use Rattle.std.specs.Prelude.{nat_le, nat_lt, map}
+use Rattle.std.specs.List.{filter, AllByRecursion}
+use Rattle.arith_syntax.specs.declared.operators.UnaryOperator.{UnaryOperator}
+use Rattle.arith_syntax.specs.declared.operators.UnaryOperator.TheVariants.{Plus, Minus, Complement, Not}
+use Rattle.arith_syntax.specs.declared.operators.BinaryOperator.{BinaryOperator}
+use Rattle.arith_syntax.specs.declared.operators.BinaryOperator.TheVariants.{LogicalOr, LogicalAnd, BitOr, BitXor, BitAnd, EqualTo, NotEqualTo, LessThan, LessOrEqual, GreaterThan, GreaterOrEqual, ShiftLeft, ShiftRight, Add, Subtract, Multiply, Divide, Remainder}
+use Rattle.arith_syntax.specs.declared.token.Token.{Token}
+use Rattle.arith_syntax.specs.declared.token.Token.TheVariants.{Number, TooLarge, Name, Binary, Tilde, Exclamation, Assign, Question, Colon, LeftParenthesis, RightParenthesis, Separator, End, Bad}
+use Rattle.arith_syntax.specs.declared.instruction.Instruction.{Instruction}
+use Rattle.arith_syntax.specs.declared.instruction.Instruction.TheVariants.{Push, Load, Open, Close, Sign, Apply, Infix, Combine, Then, Else, Choose, Target, Store, Finish}
+use Rattle.arith_syntax.specs.declared.pending.Pending.{Pending}
+use Rattle.arith_syntax.specs.declared.pending.Pending.TheVariants.{Parenthesis, Prefixed, Operator, Condition, Alternative, Assigned}
+use Rattle.arith_syntax.specs.declared.refusal.Fault.{Fault}
+use Rattle.arith_syntax.specs.declared.refusal.Fault.TheVariants.{NoToken, Misplaced, Nested, Large}
+use Rattle.arith_syntax.specs.Tree.{Tree, Constant, Variable, Parenthesized, Unary, Operation, Conditional, Assignment, level, level_of, IsExpression, nesting, tokens_of, sign}
+use Rattle.arith_syntax.specs.Grammar.{Fits, joined, is_some_part, IsProgram}
+use Rattle.arith_syntax.specs.Reading.{State, nothing_read, tightness, nests, depth_of, ending, close, Step, waiting, nested, operand, empty_expression, first_step, second_choice, parenthesized, expression_end, may_assign, assignment, next_step, step, steps, after, IsLooser}
+use Rattle.std.specs.Prelude.{flat_map, ◌⊎◌}
+use Rattle.std.proofs.Common.{inl, inr, ◌≢◌}
+use Rattle.std.proofs.lemmas.List.{append-nil}
+use Rattle.std.proofs.lemmas.Bool.{cases_lt}
+use Rattle.arith_syntax.specs.Tree.{assigns, IsName}
+use Rattle.arith_syntax.specs.Grammar.{Begins}
+use Rattle.arith_syntax.proofs.Complete.{put, put_all, least, Admits, awaiting, behind, level_of_from, level_of_to, level_from}
+
+-- what has begun, with what stands before its operator
+pub data Frame : Type 0 where
+  Opened : Frame
+  Signed : UnaryOperator → Frame
+  Left : BinaryOperator → Tree → Frame
+  Asked : Tree → Frame
+  Chosen : Tree → Tree → Frame
+  Named : List ℕ → Option BinaryOperator → Frame
+
+abbrev pub shape : Frame → Pending
+shape Opened = Parenthesis
+shape (Signed op) = Prefixed op
+shape (Left op a) = Operator op
+shape (Asked c) = Condition
+shape (Chosen c a) = Alternative
+shape (Named x op) = Assigned x op
+
+abbrev pub shapes : List Frame → List Pending
+shapes [] = []
+shapes (f ∷ frames) = shape f ∷ shapes frames
+
+abbrev pub frame_tokens : Frame → List Token
+frame_tokens Opened = LeftParenthesis ∷ []
+frame_tokens (Signed op) = sign op ∷ []
+frame_tokens (Left op a) = tokens_of a ++ Binary op ∷ []
+frame_tokens (Asked c) = tokens_of c ++ Question ∷ []
+frame_tokens (Chosen c a) = tokens_of c ++ Question ∷ (tokens_of a ++ Colon ∷ [])
+frame_tokens (Named x op) = Name x ∷ Assign op ∷ []
+
+-- the tokens of what has begun, the newest first
+abbrev pub spelled : List Frame → List Token
+spelled [] = []
+spelled (f ∷ frames) = spelled frames ++ frame_tokens f
+
+abbrev pub frame_code : Frame → List Instruction → List Instruction
+frame_code Opened code = Open ∷ code
+frame_code (Signed op) code = Sign op ∷ code
+frame_code (Left op a) code = Infix op ∷ put a code
+frame_code (Asked c) code = Then ∷ put c code
+frame_code (Chosen c a) code = Else ∷ put a (Then ∷ put c code)
+frame_code (Named x op) code = Target x op ∷ code
+
+abbrev pub codes : List Frame → List Instruction → List Instruction
+codes [] code = code
+codes (f ∷ frames) code = frame_code f (codes frames code)
+
+-- the level of the tree that it becomes
+abbrev pub gives : Frame → ℕ
+gives Opened = 14
+gives (Signed op) = 13
+gives (Left op a) = level_of op
+gives (Asked c) = 2
+gives (Chosen c a) = 2
+gives (Named x op) = 1
+
+-- what has begun behind a number of open constructs
+abbrev pub FrameFits : ℕ → ℕ → Frame → Type 0
+FrameFits limit d Opened = d + 1 ≤ limit
+FrameFits limit d (Signed op) = d + 1 ≤ limit
+FrameFits limit d (Left op a) = IsExpression a × (level_of op ≤ level a) × (nesting a + d ≤ limit)
+FrameFits limit d (Asked c) = IsExpression c × (3 ≤ level c) × (nesting c + d ≤ limit) × (d + 1 ≤ limit)
+FrameFits limit d (Chosen c a) = IsExpression c × (3 ≤ level c) × (nesting c + d ≤ limit) × IsExpression a × (nesting a + 1 + d ≤ limit)
+FrameFits limit d (Named x op) = IsName x × (assigns op ≡ true) × (d + 1 ≤ limit)
+
+abbrev pub Stacked : ℕ → List Frame → Type 0
+Stacked limit [] = Unit {0}
+Stacked limit (f ∷ frames) = FrameFits limit (depth_of (shapes frames)) f × Admits (shapes frames) (gives f) × Stacked limit frames
+
+-- an operand behind what has begun
+pub record TopFits (limit : ℕ) (e : Tree) (frames : List Frame) : Type 0 where
+  pub grammar : IsExpression e
+  pub depth : nesting e + depth_of (shapes frames) ≤ limit
+  pub admitted : Admits (shapes frames) (level e)
+
+-- what takes an operand that it waits for
+abbrev pub fill : Frame → Tree → Tree
+fill Opened e = Parenthesized e
+fill (Signed op) e = Unary op e
+fill (Left op a) e = Operation op a e
+fill (Asked c) e = Conditional c e (Constant 0)
+fill (Chosen c a) e = Conditional c a e
+fill (Named x op) e = Assignment x op e
+
+-- what has to stand behind the operand
+abbrev pub closer : Frame → List Token
+closer Opened = RightParenthesis ∷ []
+closer (Asked c) = Colon ∷ Number 0 ∷ []
+closer _ = []
+
+pub fill_tokens : (f : Frame) (e : Tree) → frame_tokens f ++ (tokens_of e ++ closer f) ≡ tokens_of (fill f e)
+fill_tokens Opened e = refl
+fill_tokens (Signed op) e = ap (λ l. sign op ∷ l) (append-nil (tokens_of e))
+fill_tokens (Left op a) e = append_assoc (tokens_of a) (Binary op ∷ []) (tokens_of e ++ []) ∙ ap (λ l. tokens_of a ++ Binary op ∷ l) (append-nil (tokens_of e))
+fill_tokens (Asked c) e = append_assoc (tokens_of c) (Question ∷ []) (tokens_of e ++ Colon ∷ Number 0 ∷ [])
+fill_tokens (Chosen c a) e =
+    append_assoc (tokens_of c) (Question ∷ (tokens_of a ++ Colon ∷ [])) (tokens_of e ++ [])
+    ∙ ap (λ l. tokens_of c ++ Question ∷ l) (append_assoc (tokens_of a) (Colon ∷ []) (tokens_of e ++ []) ∙ ap (λ l. tokens_of a ++ Colon ∷ l) (append-nil (tokens_of e)))
+fill_tokens (Named x op) e = ap (λ l. Name x ∷ Assign op ∷ l) (append-nil (tokens_of e))
+
+zero_fits : 0 < 2 ^ 63
+zero_fits = omega arith
+
+pub fill_fits : (limit : ℕ) (f : Frame) (frames : List Frame) (e : Tree) → Stacked limit (f ∷ frames) → TopFits limit e (f ∷ frames) → TopFits limit (fill f e) frames
+fill_fits limit Opened frames e s t = record { grammar = t.grammar; depth = omega (arith, t.depth); admitted = s.1 }
+fill_fits limit (Signed op) frames e s t = record { grammar = (t.admitted, t.grammar); depth = omega (arith, t.depth); admitted = s.1 }
+fill_fits limit (Left op a) frames e s t =
+    record { grammar = (s.0.1, omega (arith, t.admitted), s.0.0, t.grammar); depth = omega (arith, t.depth, s.0.2); admitted = s.1 }
+fill_fits limit (Asked c) frames e s t =
+    record { grammar = (s.0.1, omega arith, s.0.0, t.grammar, zero_fits); depth = omega (arith, t.depth, s.0.2, s.0.3); admitted = s.1 }
+fill_fits limit (Chosen c a) frames e s t =
+    record { grammar = (s.0.1, t.admitted, s.0.0, s.0.3, t.grammar); depth = omega (arith, t.depth, s.0.2, s.0.4); admitted = s.1 }
+fill_fits limit (Named x op) frames e s t = record { grammar = (s.0.0, s.0.1, t.grammar); depth = omega (arith, t.depth); admitted = s.1 }
+
+-- the least operand that may stand for a missing one
+abbrev pub zero_tree : Tree
+zero_tree = Constant 0
+
+-- what has begun becomes an expression with these tokens behind it
+pub record Finished (limit : ℕ) (frames : List Frame) (e : Tree) : Type 0 where
+  pub rest : List Token
+  pub tree : Tree
+  pub is : spelled frames ++ (tokens_of e ++ rest) ≡ tokens_of tree
+  pub fits : Fits limit tree
+
+regroup : (a b c d e : List Token) → (a ++ b) ++ (c ++ (d ++ e)) ≡ a ++ ((b ++ (c ++ d)) ++ e)
+regroup a b c d e = simp append_assoc
+
+pub finish : (limit : ℕ) (frames : List Frame) (e : Tree) → Stacked limit frames → TopFits limit e frames → Finished limit frames e
+finish limit [] e s t = record { rest = []; tree = e; is = append-nil (tokens_of e); fits = record { grammar = t.grammar; depth = omega (arith, t.depth) } }
+finish limit (f ∷ frames) e s t =
+    let more = finish limit frames (fill f e) s.2 (fill_fits limit f frames e s t) in
+    record {
+      rest = closer f ++ more.rest;
+      tree = more.tree;
+      is = regroup (spelled frames) (frame_tokens f) (tokens_of e) (closer f) more.rest
+        ∙ ap (λ l. spelled frames ++ (l ++ more.rest)) (fill_tokens f e)
+        ∙ more.is;
+      fits = more.fits
+    }
+
+-- an operand is closed up to a level
+pub record Closed (limit : ℕ) (k : ℕ) (frames : List Frame) (e : Tree) (code : List Instruction) : Type 0 where
+  pub left : List Frame
+  pub tree : Tree
+  pub is : close k (put e (codes frames code)) (shapes frames) ≡ behind (put tree (codes left code)) (shapes left)
+  pub tokens : spelled frames ++ tokens_of e ≡ spelled left ++ tokens_of tree
+  pub stacked : Stacked limit left
+  pub fits : TopFits limit tree left
+  pub high : k ≤ level tree
+  pub looser : IsLooser k (shapes left)
+
+-- what closes puts the instructions of its tree
+pub ends_code : (f : Frame) (e : Tree) (code : List Instruction) → 1 ≤ tightness (shape f) → ending (shape f) ∷ put e (frame_code f code) ≡ put (fill f e) code
+ends_code Opened e code h = absurd (omega arith)
+ends_code (Signed op) e code h = refl
+ends_code (Left op a) e code h = refl
+ends_code (Asked c) e code h = absurd (omega arith)
+ends_code (Chosen c a) e code h = refl
+ends_code (Named x op) e code h = refl
+
+fill_level : (f : Frame) (e : Tree) → 1 ≤ tightness (shape f) → level (fill f e) ≡ tightness (shape f)
+fill_level Opened e h = absurd (omega arith)
+fill_level (Signed op) e h = refl
+fill_level (Left op a) e h = refl
+fill_level (Asked c) e h = absurd (omega arith)
+fill_level (Chosen c a) e h = refl
+fill_level (Named x op) e h = refl
+
+none_behind : (f : Frame) → 1 ≤ tightness (shape f) → closer f ≡ []
+none_behind Opened h = absurd (omega arith)
+none_behind (Signed op) h = refl
+none_behind (Left op a) h = refl
+none_behind (Asked c) h = absurd (omega arith)
+none_behind (Chosen c a) h = refl
+none_behind (Named x op) h = refl
+
+le_test : (m n : ℕ) → (m ≤ n) ⊎ (n < m)
+le_test m n = elim (cases_lt n m) [ inl lt ↦ inr lt | inr le ↦ inl le ]
+
+nat_le_true : (m n : ℕ) → m ≤ n → nat_le m n ≡ true
+nat_le_true m n h = grind arith
+
+nat_le_false : (m n : ℕ) → n < m → nat_le m n ≡ false
+nat_le_false m n h = grind arith
+
+pub close_all : (limit k : ℕ) (frames : List Frame) (e : Tree) (code : List Instruction) → 1 ≤ k → k ≤ level e → Stacked limit frames → TopFits limit e frames → Closed limit k frames e code
+close_all limit k [] e code one high s t = record { left = []; tree = e; is = refl; tokens = refl; stacked = tt; fits = t; high = high; looser = tt }
+close_all limit k (f ∷ frames) e code one high s t =
+    elim (le_test k (tightness (shape f))) [
+      | inl le ↦
+        let tight : 1 ≤ tightness (shape f) = omega arith in
+        let level_is = fill_level f e tight in
+        let more = close_all limit k frames (fill f e) code one (omega (arith, level_is)) s.2 (fill_fits limit f frames e s t) in
+        record {
+          left = more.left;
+          tree = more.tree;
+          is = ap (λ b. cond b (close k (ending (shape f) ∷ put e (frame_code f (codes frames code))) (shapes frames)) (behind (put e (frame_code f (codes frames code))) (shape f ∷ shapes frames))) (nat_le_true k (tightness (shape f)) le)
+            ∙ ap (λ l. close k l (shapes frames)) (ends_code f e (codes frames code) tight)
+            ∙ more.is;
+          tokens = append_assoc (spelled frames) (frame_tokens f) (tokens_of e)
+            ∙ ap (λ l. spelled frames ++ (frame_tokens f ++ l)) (sym (append-nil (tokens_of e)) ∙ ap (λ l. tokens_of e ++ l) (sym (none_behind f tight)))
+            ∙ ap (λ l. spelled frames ++ l) (fill_tokens f e)
+            ∙ more.tokens;
+          stacked = more.stacked;
+          fits = more.fits;
+          high = more.high;
+          looser = more.looser
+        }
+      | inr lt ↦
+        record {
+          left = f ∷ frames;
+          tree = e;
+          is = ap (λ b. cond b (close k (ending (shape f) ∷ put e (frame_code f (codes frames code))) (shapes frames)) (behind (put e (frame_code f (codes frames code))) (shape f ∷ shapes frames))) (nat_le_false k (tightness (shape f)) lt);
+          tokens = refl;
+          stacked = s;
+          fits = t;
+          high = high;
+          looser = lt
+        }
+    ]
+
+-- where a text has come to: parts that are over, and an expression that has begun
+pub record Position : Type 0 where
+  pub parts : List (List Token)
+  pub trees : List Tree
+  pub frames : List Frame
+  pub operand : Option Tree
+
+abbrev pub top_tokens : Option Tree → List Token
+top_tokens None = []
+top_tokens (Some e) = tokens_of e
+
+abbrev pub over : List (List Token) → List Token
+over parts = flat_map (λ p. p ++ Separator ∷ []) parts
+
+abbrev pub tokens_at : Position → List Token
+tokens_at p = over p.parts ++ (spelled p.frames ++ top_tokens p.operand)
+
+abbrev pub state_with : List Tree → List Frame → Option Tree → State
+state_with trees frames None = awaiting (codes frames (put_all trees [])) (shapes frames)
+state_with trees frames (Some e) = behind (put e (codes frames (put_all trees []))) (shapes frames)
+
+abbrev pub state_at : Position → State
+state_at p = state_with p.trees p.frames p.operand
+
+abbrev pub OperandFits : ℕ → List Frame → Option Tree → Type 0
+OperandFits limit frames None = Unit {0}
+OperandFits limit frames (Some e) = TopFits limit e frames × (14 ≤ level e)
+
+pub record Sound (limit : ℕ) (p : Position) : Type 0 where
+  pub expressions : filter is_some_part p.parts ≡ map tokens_of p.trees
+  pub each : AllByRecursion (Fits limit) p.trees
+  pub stacked : Stacked limit p.frames
+  pub operand : OperandFits limit p.frames p.operand
+
+-- what a token was, if it came from a text
+abbrev pub IsToken : Token → Type 0
+IsToken (Number n) = n < 2 ^ 63
+IsToken (Name x) = IsName x
+IsToken (Assign op) = assigns op ≡ true
+IsToken _ = Unit {0}
+
+-- the next position
+pub record Goes (limit : ℕ) (p : Position) (token : Token) (s : State) : Type 0 where
+  pub to : Position
+  pub sound : Sound limit to
+  pub state : s ≡ state_at to
+  pub tokens : tokens_at to ≡ tokens_at p ++ token ∷ []
+
+pub record NestedSays (limit : ℕ) (i : Instruction) (p : Pending) (code : List Instruction) (waits : List Pending) (s : State) : Type 0 where
+  pub below : depth_of waits < limit
+  pub is : s ≡ waiting i p code waits
+
+ltb_true : (m n : ℕ) → m < n → nat_lt m n ≡ true
+ltb_true m n h = grind arith
+
+ltb_false : (m n : ℕ) → n ≤ m → nat_lt m n ≡ false
+ltb_false m n h = grind arith
+
+ok_is : (a b : State) → ◌≡◌ {A = Step} (Ok a) (Ok b) → b ≡ a
+ok_is a b e = cc
+
+nested_says : (limit : ℕ) (i : Instruction) (p : Pending) (code : List Instruction) (waits : List Pending) (s : State) → nested limit i p code waits ≡ Ok s → NestedSays limit i p code waits s
+nested_says limit i p code waits s e =
+    elim (cases_lt (depth_of waits) limit) [
+      | inl lt ↦
+        let is : ◌≡◌ {A = Step} (Ok (waiting i p code waits)) (Ok s) = ap (λ b. cond b (Ok (waiting i p code waits)) (Err Nested)) (sym (ltb_true _ _ lt)) ∙ e in
+        record { below = lt; is = ok_is (waiting i p code waits) s is }
+      | inr le ↦
+        let is : ◌≡◌ {A = Step} (Err Nested) (Ok s) = ap (λ b. cond b (Ok (waiting i p code waits)) (Err Nested)) (sym (ltb_false _ _ le)) ∙ e in
+        absurd cc
+    ]
+
+at_end : (a b c d : List Token) → a ++ ((b ++ c) ++ d) ≡ (a ++ (b ++ [])) ++ (c ++ d)
+at_end a b c d = simp (append_assoc, append-nil)
+
+last_end : (a b c : List Token) → a ++ (b ++ c) ≡ (a ++ (b ++ [])) ++ c
+last_end a b c = simp (append_assoc, append-nil)
+
+-- an operator in front of an operand
+opens : (limit : ℕ) (p : Position) (f : Frame) (token : Token) (s : State) → Sound limit p → p.operand ≡ None → frame_tokens f ≡ token ∷ [] → FrameFits limit (depth_of (shapes p.frames)) f → Admits (shapes p.frames) (gives f) → s ≡ state_with p.trees (f ∷ p.frames) None → Goes limit p token s
+opens limit p f token s g none single fits adm is =
+    record {
+      to = record { parts = p.parts; trees = p.trees; frames = f ∷ p.frames; operand = None };
+      sound = record { expressions = g.expressions; each = g.each; stacked = (fits, adm, g.stacked); operand = tt };
+      state = is;
+      tokens = ap (λ l. over p.parts ++ ((spelled p.frames ++ l) ++ [])) single
+        ∙ at_end (over p.parts) (spelled p.frames) (token ∷ []) []
+        ∙ ap (λ o. (over p.parts ++ (spelled p.frames ++ top_tokens o)) ++ token ∷ []) (sym none)
+    }
+
+admits_operand : (frames : List Frame) (n : ℕ) → 13 ≤ n → Admits (shapes frames) n
+admits_operand [] n h = tt
+admits_operand (Opened ∷ frames) n h = omega arith
+admits_operand (Signed op ∷ frames) n h = omega arith
+admits_operand (Left op a ∷ frames) n h = omega (arith, level_of_to op)
+admits_operand (Asked c ∷ frames) n h = omega arith
+admits_operand (Chosen c a ∷ frames) n h = omega arith
+admits_operand (Named x op ∷ frames) n h = omega arith
+
+-- an operand where one is awaited
+operand_read : (limit : ℕ) (p : Position) (e : Tree) (token : Token) (s : State) → Sound limit p → p.operand ≡ None → tokens_of e ≡ token ∷ [] → TopFits limit e p.frames → 14 ≤ level e → s ≡ state_with p.trees p.frames (Some e) → Goes limit p token s
+operand_read limit p e token s g none single fits high is =
+    record {
+      to = record { parts = p.parts; trees = p.trees; frames = p.frames; operand = Some e };
+      sound = record { expressions = g.expressions; each = g.each; stacked = g.stacked; operand = (fits, high) };
+      state = is;
+      tokens = ap (λ l. over p.parts ++ (spelled p.frames ++ l)) single
+        ∙ last_end (over p.parts) (spelled p.frames) (token ∷ [])
+        ∙ ap (λ o. (over p.parts ++ (spelled p.frames ++ top_tokens o)) ++ token ∷ []) (sym none)
+    }
+
+-- what begins fits by its depth alone
+depth_fits : (limit : ℕ) (frames : List Frame) → Stacked limit frames → 0 < depth_of (shapes frames) → depth_of (shapes frames) ≤ limit
+depth_fits limit [] s pos = absurd (omega arith)
+depth_fits limit (Opened ∷ frames) s pos = omega (arith, s.0)
+depth_fits limit (Signed op ∷ frames) s pos = omega (arith, s.0)
+depth_fits limit (Left op a ∷ frames) s pos = omega (arith, s.0.2)
+depth_fits limit (Asked c ∷ frames) s pos = omega (arith, s.0.3)
+depth_fits limit (Chosen c a ∷ frames) s pos = omega (arith, s.0.4)
+depth_fits limit (Named x op ∷ frames) s pos = omega (arith, s.0.2)
+
+bound : (limit : ℕ) (frames : List Frame) → Stacked limit frames → depth_of (shapes frames) ≤ limit
+bound limit frames s =
+    elim (cases_lt 0 (depth_of (shapes frames))) [ inl lt ↦ depth_fits limit frames s lt | inr le ↦ omega arith ]
+
+sign_opens : (limit : ℕ) (p : Position) (op : UnaryOperator) (s : State) → Sound limit p → p.operand ≡ None → nested limit (Sign op) (Prefixed op) (codes p.frames (put_all p.trees [])) (shapes p.frames) ≡ Ok s → Goes limit p (sign op) s
+sign_opens limit p op s g none e =
+    let says = nested_says limit (Sign op) (Prefixed op) (codes p.frames (put_all p.trees [])) (shapes p.frames) s e in
+    opens limit p (Signed op) (sign op) s g none refl (omega (arith, says.below)) (admits_operand p.frames 13 (omega arith)) says.is
+
+all_parts : (parts : List (List Token)) → over (parts ++ [] ∷ []) ≡ over parts ++ Separator ∷ []
+all_parts [] = refl
+all_parts (q ∷ parts) = ap (λ l. (q ++ Separator ∷ []) ++ l) (all_parts parts) ∙ sym (append_assoc (q ++ Separator ∷ []) (over parts) (Separator ∷ []))
+
+filter_empty : (parts : List (List Token)) → filter is_some_part (parts ++ [] ∷ []) ≡ filter is_some_part parts
+filter_empty [] = refl
+filter_empty ([] ∷ parts) = filter_empty parts
+filter_empty ((x ∷ xs) ∷ parts) = ap (λ l. (x ∷ xs) ∷ l) (filter_empty parts)
+
+empty_read : (limit : ℕ) (parts : List (List Token)) (trees : List Tree) (frames : List Frame) (s : State) → Sound limit (record { parts = parts; trees = trees; frames = frames; operand = None }) → empty_expression (state_with trees frames None) (shapes frames) ≡ Ok s → Goes limit (record { parts = parts; trees = trees; frames = frames; operand = None }) Separator s
+empty_read limit parts trees [] s g e =
+    record {
+      to = record { parts = parts ++ [] ∷ []; trees = trees; frames = []; operand = None };
+      sound = record { expressions = filter_empty parts ∙ g.expressions; each = g.each; stacked = tt; operand = tt };
+      state = ok_is _ s e;
+      tokens = append-nil (over (parts ++ [] ∷ [])) ∙ all_parts parts ∙ ap (λ l. l ++ Separator ∷ []) (sym (append-nil (over parts)))
+    }
+empty_read limit parts trees (f ∷ frames) s g e = absurd cc
+
+-- a token where an operand is awaited
+first_sound : (limit : ℕ) (parts : List (List Token)) (trees : List Tree) (frames : List Frame) (token : Token) (s : State) → Sound limit (record { parts = parts; trees = trees; frames = frames; operand = None }) → IsToken token → token ≢ End → first_step limit token (state_with trees frames None) ≡ Ok s → Goes limit (record { parts = parts; trees = trees; frames = frames; operand = None }) token s
+first_sound limit parts trees frames (Number n) s g t ne e =
+    operand_read limit _ (Constant n) (Number n) s g refl refl (record { grammar = t; depth = omega (arith, bound limit frames g.stacked); admitted = admits_operand frames 14 (omega arith) }) (omega arith) (ok_is _ s e)
+first_sound limit parts trees frames (Name x) s g t ne e =
+    operand_read limit _ (Variable x) (Name x) s g refl refl (record { grammar = t; depth = omega (arith, bound limit frames g.stacked); admitted = admits_operand frames 14 (omega arith) }) (omega arith) (ok_is _ s e)
+first_sound limit parts trees frames (Binary Add) s g t ne e = sign_opens limit _ Plus s g refl e
+first_sound limit parts trees frames (Binary Subtract) s g t ne e = sign_opens limit _ Minus s g refl e
+first_sound limit parts trees frames Tilde s g t ne e = sign_opens limit _ Complement s g refl e
+first_sound limit parts trees frames Exclamation s g t ne e = sign_opens limit _ Not s g refl e
+first_sound limit parts trees frames LeftParenthesis s g t ne e =
+    let says = nested_says limit Open Parenthesis (codes frames (put_all trees [])) (shapes frames) s e in
+    opens limit _ Opened LeftParenthesis s g refl refl (omega (arith, says.below)) (admits_operand frames 14 (omega arith)) says.is
+first_sound limit parts trees frames Separator s g t ne e = empty_read limit parts trees frames s g e
+first_sound limit parts trees frames End s g t ne e = absurd (ne refl)
+first_sound limit parts trees frames (Binary _) s g t ne e = absurd cc
+first_sound limit parts trees frames _ s g t ne e = absurd cc
