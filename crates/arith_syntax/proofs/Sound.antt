@@ -324,6 +324,21 @@ at_end a b c d = simp (append_assoc, append-nil)
 last_end : (a b c : List Token) → a ++ (b ++ c) ≡ (a ++ (b ++ [])) ++ c
 last_end a b c = simp (append_assoc, append-nil)
 
+regroup_last : (a b c d : List Token) → a ++ ((b ++ (c ++ d)) ++ []) ≡ (a ++ (b ++ c)) ++ d
+regroup_last a b c d = simp (append_assoc, append-nil)
+
+choice_tokens : (a c t : List Token) (q k : Token) → (a ++ (c ++ q ∷ (t ++ k ∷ []))) ++ [] ≡ ((a ++ (c ++ q ∷ [])) ++ t) ++ k ∷ []
+choice_tokens a c t q k = simp (append_assoc, append-nil)
+
+close_tokens : (a t l r : List Token) → a ++ (l ++ (t ++ r)) ≡ ((a ++ l) ++ t) ++ r
+close_tokens a t l r = simp append_assoc
+
+begun_tokens : (a b : List Token) (x : Token) (rest : List Token) → a ++ (b ++ x ∷ rest) ≡ (a ++ (b ++ [])) ++ x ∷ rest
+begun_tokens a b x rest = simp (append_assoc, append-nil)
+
+regroup_rest : (a b c rest : List Token) → a ++ (b ++ (c ++ rest)) ≡ (a ++ (b ++ c)) ++ rest
+regroup_rest a b c rest = simp append_assoc
+
 -- an operator in front of an operand
 opens : (limit : ℕ) (p : Position) (f : Frame) (token : Token) (s : State) → Sound limit p → p.operand ≡ None → frame_tokens f ≡ token ∷ [] → FrameFits limit (depth_of (shapes p.frames)) f → Admits (shapes p.frames) (gives f) → s ≡ state_with p.trees (f ∷ p.frames) None → Goes limit p token s
 opens limit p f token s g none single fits adm is =
@@ -412,3 +427,296 @@ first_sound limit parts trees frames Separator s g t ne e = empty_read limit par
 first_sound limit parts trees frames End s g t ne e = absurd (ne refl)
 first_sound limit parts trees frames (Binary _) s g t ne e = absurd cc
 first_sound limit parts trees frames _ s g t ne e = absurd cc
+
+-- the operand is closed up to a level, and what it stands behind
+closed_at : (limit k : ℕ) (parts : List (List Token)) (trees : List Tree) (frames : List Frame) (e : Tree) → 1 ≤ k → k ≤ 14 → Sound limit (record { parts = parts; trees = trees; frames = frames; operand = Some e }) → Closed limit k frames e (put_all trees [])
+closed_at limit k parts trees frames e one small g = close_all limit k frames e (put_all trees []) one (omega (arith, g.operand.1)) g.stacked g.operand.0
+
+-- an operator behind an operand
+operator_read : (limit : ℕ) (parts : List (List Token)) (trees : List Tree) (frames left : List Frame) (e tree : Tree) (f : Frame) (token : Token) (s : State) → filter is_some_part parts ≡ map tokens_of trees → AllByRecursion (Fits limit) trees → spelled frames ++ tokens_of e ≡ spelled left ++ tokens_of tree → Stacked limit (f ∷ left) → frame_tokens f ≡ tokens_of tree ++ token ∷ [] → s ≡ state_with trees (f ∷ left) None → Goes limit (record { parts = parts; trees = trees; frames = frames; operand = Some e }) token s
+operator_read limit parts trees frames left e tree f token s ex each same stacked single is =
+    record {
+      to = record { parts = parts; trees = trees; frames = f ∷ left; operand = None };
+      sound = record { expressions = ex; each = each; stacked = stacked; operand = tt };
+      state = is;
+      tokens = ap (λ l. over parts ++ ((spelled left ++ l) ++ [])) single
+        ∙ regroup_last (over parts) (spelled left) (tokens_of tree) (token ∷ [])
+        ∙ ap (λ l. (over parts ++ l) ++ token ∷ []) (sym same)
+    }
+
+admits_left : (limit : ℕ) (op : BinaryOperator) (left : List Frame) → Stacked limit left → IsLooser (level_of op) (shapes left) → Admits (shapes left) (level_of op)
+admits_left limit op [] s h = tt
+admits_left limit op (Opened ∷ left) s h = omega (arith, level_of_from op)
+admits_left limit op (Signed o ∷ left) s h = absurd (omega (arith, level_of_to op))
+admits_left limit op (Left o a ∷ left) s h = omega arith
+admits_left limit op (Asked c ∷ left) s h = omega (arith, level_of_from op)
+admits_left limit op (Chosen c a ∷ left) s h = omega (arith, level_of_from op)
+admits_left limit op (Named x o ∷ left) s h = omega (arith, level_of_from op)
+
+admits_choice : (left : List Frame) → IsLooser 3 (shapes left) → Admits (shapes left) 2
+admits_choice [] h = tt
+admits_choice (Opened ∷ left) h = omega arith
+admits_choice (Signed o ∷ left) h = absurd (omega arith)
+admits_choice (Left o a ∷ left) h = absurd (omega (arith, level_of_from o))
+admits_choice (Asked c ∷ left) h = omega arith
+admits_choice (Chosen c a ∷ left) h = omega arith
+admits_choice (Named x o ∷ left) h = omega arith
+
+admits_name : (frames : List Frame) → may_assign (shapes frames) ≡ true → Admits (shapes frames) 1
+admits_name [] h = tt
+admits_name (Opened ∷ left) h = omega arith
+admits_name (Signed o ∷ left) h = absurd cc
+admits_name (Left o a ∷ left) h = absurd cc
+admits_name (Asked c ∷ left) h = omega arith
+admits_name (Chosen c a ∷ left) h = absurd cc
+admits_name (Named x o ∷ left) h = omega arith
+
+binary_read : (limit : ℕ) (parts : List (List Token)) (trees : List Tree) (frames : List Frame) (e : Tree) (op : BinaryOperator) (s : State) → Sound limit (record { parts = parts; trees = trees; frames = frames; operand = Some e }) → next_step limit (Binary op) (state_with trees frames (Some e)) ≡ Ok s → Goes limit (record { parts = parts; trees = trees; frames = frames; operand = Some e }) (Binary op) s
+binary_read limit parts trees frames e op s g h =
+    let c = closed_at limit (level_of op) parts trees frames e (omega (arith, level_of_from op)) (omega (arith, level_of_to op)) g in
+    operator_read limit parts trees frames c.left e c.tree (Left op c.tree) (Binary op) s g.expressions g.each c.tokens
+      ((c.fits.grammar, c.high, c.fits.depth), admits_left limit op c.left c.stacked c.looser, c.stacked) refl
+      (ok_is _ s (ap (λ (t : State). let r : Step = Ok (waiting (Infix op) (Operator op) t.code t.waits) in r) (sym c.is) ∙ h))
+
+question_read : (limit : ℕ) (parts : List (List Token)) (trees : List Tree) (frames : List Frame) (e : Tree) (s : State) → Sound limit (record { parts = parts; trees = trees; frames = frames; operand = Some e }) → next_step limit Question (state_with trees frames (Some e)) ≡ Ok s → Goes limit (record { parts = parts; trees = trees; frames = frames; operand = Some e }) Question s
+question_read limit parts trees frames e s g h =
+    let c = closed_at limit 3 parts trees frames e (omega arith) (omega arith) g in
+    let says = nested_says limit Then Condition (put c.tree (codes c.left (put_all trees []))) (shapes c.left) s (ap (λ (t : State). nested limit Then Condition t.code t.waits) (sym c.is) ∙ h) in
+    operator_read limit parts trees frames c.left e c.tree (Asked c.tree) Question s g.expressions g.each c.tokens
+      ((c.fits.grammar, c.high, c.fits.depth, omega (arith, says.below)), admits_choice c.left c.looser, c.stacked) refl says.is
+
+choice_read : (limit : ℕ) (parts : List (List Token)) (trees : List Tree) (frames left : List Frame) (e tree : Tree) (s : State) → Sound limit (record { parts = parts; trees = trees; frames = frames; operand = Some e }) → spelled frames ++ tokens_of e ≡ spelled left ++ tokens_of tree → Stacked limit left → TopFits limit tree left → second_choice (put tree (codes left (put_all trees []))) (shapes left) ≡ Ok s → Goes limit (record { parts = parts; trees = trees; frames = frames; operand = Some e }) Colon s
+choice_read limit parts trees frames [] e tree s g same st fits h = absurd cc
+choice_read limit parts trees frames (Opened ∷ left) e tree s g same st fits h = absurd cc
+choice_read limit parts trees frames (Signed o ∷ left) e tree s g same st fits h = absurd cc
+choice_read limit parts trees frames (Left o a ∷ left) e tree s g same st fits h = absurd cc
+choice_read limit parts trees frames (Chosen c a ∷ left) e tree s g same st fits h = absurd cc
+choice_read limit parts trees frames (Named x o ∷ left) e tree s g same st fits h = absurd cc
+choice_read limit parts trees frames (Asked c ∷ left) e tree s g same st fits h =
+    record {
+      to = record { parts = parts; trees = trees; frames = Chosen c tree ∷ left; operand = None };
+      sound = record { expressions = g.expressions; each = g.each; stacked = ((st.0.0, st.0.1, st.0.2, fits.grammar, omega (arith, fits.depth)), st.1, st.2); operand = tt };
+      state = ok_is _ s h;
+      tokens = ap (λ l. over parts ++ l) (choice_tokens (spelled left) (tokens_of c) (tokens_of tree) Question Colon)
+        ∙ sym (append_assoc (over parts) ((spelled left ++ (tokens_of c ++ Question ∷ [])) ++ tokens_of tree) (Colon ∷ []))
+        ∙ ap (λ l. (over parts ++ l) ++ Colon ∷ []) (sym same)
+    }
+
+colon_read : (limit : ℕ) (parts : List (List Token)) (trees : List Tree) (frames : List Frame) (e : Tree) (s : State) → Sound limit (record { parts = parts; trees = trees; frames = frames; operand = Some e }) → next_step limit Colon (state_with trees frames (Some e)) ≡ Ok s → Goes limit (record { parts = parts; trees = trees; frames = frames; operand = Some e }) Colon s
+colon_read limit parts trees frames e s g h =
+    let c = closed_at limit 1 parts trees frames e (omega arith) (omega arith) g in
+    choice_read limit parts trees frames c.left e c.tree s g c.tokens c.stacked c.fits (ap (λ (t : State). second_choice t.code t.waits) (sym c.is) ∙ h)
+
+close_read : (limit : ℕ) (parts : List (List Token)) (trees : List Tree) (frames left : List Frame) (e tree : Tree) (s : State) → Sound limit (record { parts = parts; trees = trees; frames = frames; operand = Some e }) → spelled frames ++ tokens_of e ≡ spelled left ++ tokens_of tree → Stacked limit left → TopFits limit tree left → parenthesized (put tree (codes left (put_all trees []))) (shapes left) ≡ Ok s → Goes limit (record { parts = parts; trees = trees; frames = frames; operand = Some e }) RightParenthesis s
+close_read limit parts trees frames [] e tree s g same st fits h = absurd cc
+close_read limit parts trees frames (Asked c ∷ left) e tree s g same st fits h = absurd cc
+close_read limit parts trees frames (Signed o ∷ left) e tree s g same st fits h = absurd cc
+close_read limit parts trees frames (Left o a ∷ left) e tree s g same st fits h = absurd cc
+close_read limit parts trees frames (Chosen c a ∷ left) e tree s g same st fits h = absurd cc
+close_read limit parts trees frames (Named x o ∷ left) e tree s g same st fits h = absurd cc
+close_read limit parts trees frames (Opened ∷ left) e tree s g same st fits h =
+    record {
+      to = record { parts = parts; trees = trees; frames = left; operand = Some (Parenthesized tree) };
+      sound = record { expressions = g.expressions; each = g.each; stacked = st.2; operand = (fill_fits limit Opened left tree st fits, omega arith) };
+      state = ok_is _ s h;
+      tokens = ap (λ l. over parts ++ l) (close_tokens (spelled left) (tokens_of tree) (LeftParenthesis ∷ []) (RightParenthesis ∷ []))
+        ∙ sym (append_assoc (over parts) ((spelled left ++ LeftParenthesis ∷ []) ++ tokens_of tree) (RightParenthesis ∷ []))
+        ∙ ap (λ l. (over parts ++ l) ++ RightParenthesis ∷ []) (sym same)
+    }
+
+parenthesis_read : (limit : ℕ) (parts : List (List Token)) (trees : List Tree) (frames : List Frame) (e : Tree) (s : State) → Sound limit (record { parts = parts; trees = trees; frames = frames; operand = Some e }) → next_step limit RightParenthesis (state_with trees frames (Some e)) ≡ Ok s → Goes limit (record { parts = parts; trees = trees; frames = frames; operand = Some e }) RightParenthesis s
+parenthesis_read limit parts trees frames e s g h =
+    let c = closed_at limit 1 parts trees frames e (omega arith) (omega arith) g in
+    close_read limit parts trees frames c.left e c.tree s g c.tokens c.stacked c.fits (ap (λ (t : State). parenthesized t.code t.waits) (sym c.is) ∙ h)
+
+-- an assignment operator behind a name
+name_read : (limit : ℕ) (parts : List (List Token)) (trees : List Tree) (frames : List Frame) (x : List ℕ) (op : Option BinaryOperator) (s : State) → Sound limit (record { parts = parts; trees = trees; frames = frames; operand = Some (Variable x) }) → assigns op ≡ true → may_assign (shapes frames) ≡ true → nested limit (Target x op) (Assigned x op) (codes frames (put_all trees [])) (shapes frames) ≡ Ok s → Goes limit (record { parts = parts; trees = trees; frames = frames; operand = Some (Variable x) }) (Assign op) s
+name_read limit parts trees frames x op s g t may h =
+    let says = nested_says limit (Target x op) (Assigned x op) (codes frames (put_all trees [])) (shapes frames) s h in
+    record {
+      to = record { parts = parts; trees = trees; frames = Named x op ∷ frames; operand = None };
+      sound = record { expressions = g.expressions; each = g.each; stacked = ((g.operand.0.grammar, t, omega (arith, says.below)), admits_name frames may, g.stacked); operand = tt };
+      state = says.is;
+      tokens = regroup_last (over parts) (spelled frames) (Name x ∷ []) (Assign op ∷ [])
+    }
+
+may_or_not : (b : Bool) (x : Step) (s : State) → cond b x (Err Misplaced) ≡ Ok s → (b ≡ true) × (x ≡ Ok s)
+may_or_not true x s e = (refl, e)
+may_or_not false x s e = absurd cc
+
+assign_read : (limit : ℕ) (parts : List (List Token)) (trees : List Tree) (frames : List Frame) (e : Tree) (op : Option BinaryOperator) (s : State) → Sound limit (record { parts = parts; trees = trees; frames = frames; operand = Some e }) → assigns op ≡ true → next_step limit (Assign op) (state_with trees frames (Some e)) ≡ Ok s → Goes limit (record { parts = parts; trees = trees; frames = frames; operand = Some e }) (Assign op) s
+assign_read limit parts trees frames (Variable x) op s g t h =
+    let says = may_or_not (may_assign (shapes frames)) (nested limit (Target x op) (Assigned x op) (codes frames (put_all trees [])) (shapes frames)) s h in
+    name_read limit parts trees frames x op s g t says.0 says.1
+assign_read limit parts trees frames (Constant n) op s g t h = absurd cc
+assign_read limit parts trees frames (Parenthesized e) op s g t h = absurd cc
+assign_read limit parts trees frames (Unary o e) op s g t h = absurd cc
+assign_read limit parts trees frames (Operation o a b) op s g t h = absurd cc
+assign_read limit parts trees frames (Conditional c a b) op s g t h = absurd cc
+assign_read limit parts trees frames (Assignment x o e) op s g t h = absurd cc
+
+-- the end of an expression: it is one more tree
+pub record Ended (limit : ℕ) (trees : List Tree) (frames : List Frame) (e : Tree) (s : State) : Type 0 where
+  pub tree : Tree
+  pub fits : Fits limit tree
+  pub tokens : spelled frames ++ tokens_of e ≡ tokens_of tree
+  pub state : s ≡ awaiting (Finish ∷ put tree (put_all trees [])) []
+
+ended_with : (limit : ℕ) (trees : List Tree) (frames left : List Frame) (e tree : Tree) (s : State) → spelled frames ++ tokens_of e ≡ spelled left ++ tokens_of tree → TopFits limit tree left → expression_end (put tree (codes left (put_all trees []))) (shapes left) ≡ Ok s → Ended limit trees frames e s
+ended_with limit trees frames [] e tree s same fits h =
+    record { tree = tree; fits = record { grammar = fits.grammar; depth = omega (arith, fits.depth) }; tokens = same; state = ok_is _ s h }
+ended_with limit trees frames (f ∷ left) e tree s same fits h = absurd cc
+
+ended : (limit : ℕ) (parts : List (List Token)) (trees : List Tree) (frames : List Frame) (e : Tree) (s : State) → Sound limit (record { parts = parts; trees = trees; frames = frames; operand = Some e }) → next_step limit Separator (state_with trees frames (Some e)) ≡ Ok s → Ended limit trees frames e s
+ended limit parts trees frames e s g h =
+    let c = closed_at limit 1 parts trees frames e (omega arith) (omega arith) g in
+    ended_with limit trees frames c.left e c.tree s c.tokens c.fits (ap (λ (t : State). expression_end t.code t.waits) (sym c.is) ∙ h)
+
+put_all_more : (trees : List Tree) (e : Tree) (code : List Instruction) → put_all (trees ++ e ∷ []) code ≡ Finish ∷ put e (put_all trees code)
+put_all_more [] e code = refl
+put_all_more (t ∷ trees) e code = put_all_more trees e (Finish ∷ put t code)
+
+filter_more : (parts : List (List Token)) (part : List Token) → is_some_part part ≡ true → filter is_some_part (parts ++ part ∷ []) ≡ filter is_some_part parts ++ part ∷ []
+filter_more [] part h = ap (λ b. cond b (part ∷ []) []) h
+filter_more ([] ∷ parts) part h = filter_more parts part h
+filter_more ((x ∷ xs) ∷ parts) part h = ap (λ l. (x ∷ xs) ∷ l) (filter_more parts part h)
+
+map_more : (trees : List Tree) (e : Tree) → map tokens_of (trees ++ e ∷ []) ≡ map tokens_of trees ++ tokens_of e ∷ []
+map_more [] e = refl
+map_more (t ∷ trees) e = ap (λ l. tokens_of t ∷ l) (map_more trees e)
+
+all_more : (limit : ℕ) (trees : List Tree) (e : Tree) → AllByRecursion (Fits limit) trees → Fits limit e → AllByRecursion (Fits limit) (trees ++ e ∷ [])
+all_more limit [] e h f = (f, tt)
+all_more limit (t ∷ trees) e h f = (h.0, all_more limit trees e h.1 f)
+
+some_front : (a : List Token) (x : Token) (b : List Token) → is_some_part (a ++ x ∷ b) ≡ true
+some_front [] x b = refl
+some_front (y ∷ a) x b = refl
+
+pub some_tokens : (e : Tree) → is_some_part (tokens_of e) ≡ true
+some_tokens (Constant n) = refl
+some_tokens (Variable x) = refl
+some_tokens (Parenthesized e) = refl
+some_tokens (Unary op e) = refl
+some_tokens (Operation op a b) = some_front (tokens_of a) (Binary op) (tokens_of b)
+some_tokens (Conditional c a b) = some_front (tokens_of c) Question (tokens_of a ++ Colon ∷ tokens_of b)
+some_tokens (Assignment x op e) = refl
+
+expressions_more : (parts : List (List Token)) (trees : List Tree) (e : Tree) → filter is_some_part parts ≡ map tokens_of trees → filter is_some_part (parts ++ tokens_of e ∷ []) ≡ map tokens_of (trees ++ e ∷ [])
+expressions_more parts trees e h = filter_more parts (tokens_of e) (some_tokens e) ∙ ap (λ l. l ++ tokens_of e ∷ []) h ∙ sym (map_more trees e)
+
+over_more : (parts : List (List Token)) (part : List Token) → over (parts ++ part ∷ []) ≡ over parts ++ (part ++ Separator ∷ [])
+over_more [] part = append-nil (part ++ Separator ∷ [])
+over_more (q ∷ parts) part = ap (λ l. (q ++ Separator ∷ []) ++ l) (over_more parts part) ∙ sym (append_assoc (q ++ Separator ∷ []) (over parts) (part ++ Separator ∷ []))
+
+separator_read : (limit : ℕ) (parts : List (List Token)) (trees : List Tree) (frames : List Frame) (e : Tree) (s : State) → Sound limit (record { parts = parts; trees = trees; frames = frames; operand = Some e }) → next_step limit Separator (state_with trees frames (Some e)) ≡ Ok s → Goes limit (record { parts = parts; trees = trees; frames = frames; operand = Some e }) Separator s
+separator_read limit parts trees frames e s g h =
+    let d = ended limit parts trees frames e s g h in
+    record {
+      to = record { parts = parts ++ tokens_of d.tree ∷ []; trees = trees ++ d.tree ∷ []; frames = []; operand = None };
+      sound = record { expressions = expressions_more parts trees d.tree g.expressions; each = all_more limit trees d.tree g.each d.fits; stacked = tt; operand = tt };
+      state = d.state ∙ ap (λ l. awaiting l []) (sym (put_all_more trees d.tree []));
+      tokens = append-nil (over (parts ++ tokens_of d.tree ∷ [])) ∙ over_more parts (tokens_of d.tree)
+        ∙ sym (append_assoc (over parts) (tokens_of d.tree) (Separator ∷ []))
+        ∙ ap (λ l. (over parts ++ l) ++ Separator ∷ []) (sym d.tokens)
+    }
+
+-- a token behind an operand
+next_sound : (limit : ℕ) (parts : List (List Token)) (trees : List Tree) (frames : List Frame) (o : Tree) (token : Token) (s : State) → Sound limit (record { parts = parts; trees = trees; frames = frames; operand = Some o }) → IsToken token → token ≢ End → next_step limit token (state_with trees frames (Some o)) ≡ Ok s → Goes limit (record { parts = parts; trees = trees; frames = frames; operand = Some o }) token s
+next_sound limit parts trees frames o (Binary op) s g t ne e = binary_read limit parts trees frames o op s g e
+next_sound limit parts trees frames o (Assign op) s g t ne e = assign_read limit parts trees frames o op s g t e
+next_sound limit parts trees frames o Question s g t ne e = question_read limit parts trees frames o s g e
+next_sound limit parts trees frames o Colon s g t ne e = colon_read limit parts trees frames o s g e
+next_sound limit parts trees frames o RightParenthesis s g t ne e = parenthesis_read limit parts trees frames o s g e
+next_sound limit parts trees frames o Separator s g t ne e = separator_read limit parts trees frames o s g e
+next_sound limit parts trees frames o End s g t ne e = absurd (ne refl)
+next_sound limit parts trees frames o _ s g t ne e = absurd cc
+
+step_from : (limit : ℕ) (parts : List (List Token)) (trees : List Tree) (frames : List Frame) (operand : Option Tree) (token : Token) (s : State) → Sound limit (record { parts = parts; trees = trees; frames = frames; operand = operand }) → IsToken token → token ≢ End → step limit token (state_with trees frames operand) ≡ Ok s → Goes limit (record { parts = parts; trees = trees; frames = frames; operand = operand }) token s
+step_from limit parts trees frames None token s g t ne e = first_sound limit parts trees frames token s g t ne e
+step_from limit parts trees frames (Some o) token s g t ne e = next_sound limit parts trees frames o token s g t ne e
+
+pub step_sound : (limit : ℕ) (p : Position) (token : Token) (s : State) → Sound limit p → IsToken token → token ≢ End → step limit token (state_at p) ≡ Ok s → Goes limit p token s
+step_sound limit p token s g t ne e = step_from limit p.parts p.trees p.frames p.operand token s g t ne e
+
+-- the tokens of parts that are over and of one more are parts with separators between them
+pub record Parts (parts : List (List Token)) (last : List Token) : Type 0 where
+  pub first : List Token
+  pub more : List (List Token)
+  pub all : first ∷ more ≡ parts ++ last ∷ []
+  pub tokens : over parts ++ last ≡ joined first more
+
+joined_parts : (part : List Token) (parts : List (List Token)) (last : List Token) → joined part (parts ++ last ∷ []) ≡ part ++ Separator ∷ (over parts ++ last)
+joined_parts part [] last = refl
+joined_parts part (q ∷ parts) last =
+    ap (λ l. part ++ Separator ∷ l) (joined_parts q parts last ∙ sym (append_assoc q (Separator ∷ []) (over parts ++ last)) ∙ sym (append_assoc (q ++ Separator ∷ []) (over parts) last))
+
+pub parts_of : (parts : List (List Token)) (last : List Token) → Parts parts last
+parts_of [] last = record { first = last; more = []; all = refl; tokens = refl }
+parts_of (q ∷ parts) last =
+    record {
+      first = q;
+      more = parts ++ last ∷ [];
+      all = refl;
+      tokens = append_assoc (q ++ Separator ∷ []) (over parts) last ∙ append_assoc q (Separator ∷ []) (over parts ++ last) ∙ sym (joined_parts q parts last)
+    }
+
+pub program_with : (limit : ℕ) (parts : List (List Token)) (trees : List Tree) (e : Tree) → filter is_some_part parts ≡ map tokens_of trees → AllByRecursion (Fits limit) trees → Fits limit e → IsProgram limit (over parts ++ tokens_of e) (trees ++ e ∷ [])
+program_with limit parts trees e ex each fits =
+    let p = parts_of parts (tokens_of e) in
+    record {
+      first = p.first;
+      more = p.more;
+      parts = p.tokens;
+      expressions = ap (filter is_some_part) p.all ∙ expressions_more parts trees e ex;
+      each = all_more limit trees e each fits
+    }
+
+program_without : (limit : ℕ) (parts : List (List Token)) (trees : List Tree) → filter is_some_part parts ≡ map tokens_of trees → AllByRecursion (Fits limit) trees → IsProgram limit (over parts ++ []) trees
+program_without limit parts trees ex each =
+    let p = parts_of parts [] in
+    record { first = p.first; more = p.more; parts = p.tokens; expressions = ap (filter is_some_part) p.all ∙ filter_empty parts ∙ ex; each = each }
+
+-- what was read begins a program
+pub begins_from : (limit : ℕ) (parts : List (List Token)) (trees : List Tree) (frames : List Frame) (operand : Option Tree) → Sound limit (record { parts = parts; trees = trees; frames = frames; operand = operand }) → Begins limit (over parts ++ (spelled frames ++ top_tokens operand))
+begins_from limit parts trees frames None g =
+    let d = finish limit frames zero_tree g.stacked (record { grammar = zero_fits; depth = omega (arith, bound limit frames g.stacked); admitted = admits_operand frames 14 (omega arith) }) in
+    record {
+      rest = Number 0 ∷ d.rest;
+      trees = trees ++ d.tree ∷ [];
+      program = subst (λ l. IsProgram limit l (trees ++ d.tree ∷ []))
+        (ap (λ l. over parts ++ l) (sym d.is) ∙ begun_tokens (over parts) (spelled frames) (Number 0) d.rest)
+        (program_with limit parts trees d.tree g.expressions g.each d.fits)
+    }
+begins_from limit parts trees frames (Some e) g =
+    let d = finish limit frames e g.stacked g.operand.0 in
+    record {
+      rest = d.rest;
+      trees = trees ++ d.tree ∷ [];
+      program = subst (λ l. IsProgram limit l (trees ++ d.tree ∷ []))
+        (ap (λ l. over parts ++ l) (sym d.is) ∙ regroup_rest (over parts) (spelled frames) (tokens_of e) d.rest)
+        (program_with limit parts trees d.tree g.expressions g.each d.fits)
+    }
+
+pub begins : (limit : ℕ) (p : Position) → Sound limit p → Begins limit (tokens_at p)
+begins limit p g = begins_from limit p.parts p.trees p.frames p.operand g
+
+-- what is read to its end is a program
+pub record Whole (limit : ℕ) (all : List Token) (s : State) : Type 0 where
+  pub trees : List Tree
+  pub program : IsProgram limit all trees
+  pub state : s ≡ awaiting (put_all trees []) []
+
+end_from : (limit : ℕ) (parts : List (List Token)) (trees : List Tree) (frames : List Frame) (operand : Option Tree) (s : State) → Sound limit (record { parts = parts; trees = trees; frames = frames; operand = operand }) → step limit End (state_with trees frames operand) ≡ Ok s → Whole limit (over parts ++ (spelled frames ++ top_tokens operand)) s
+end_from limit parts trees [] None s g e = record { trees = trees; program = program_without limit parts trees g.expressions g.each; state = ok_is _ s e }
+end_from limit parts trees (f ∷ frames) None s g e = absurd cc
+end_from limit parts trees frames (Some o) s g e =
+    let d = ended limit parts trees frames o s g e in
+    record {
+      trees = trees ++ d.tree ∷ [];
+      program = subst (λ l. IsProgram limit l (trees ++ d.tree ∷ [])) (ap (λ l. over parts ++ l) (sym d.tokens)) (program_with limit parts trees d.tree g.expressions g.each d.fits);
+      state = d.state ∙ ap (λ l. awaiting l []) (sym (put_all_more trees d.tree []))
+    }
+
+pub end_sound : (limit : ℕ) (p : Position) (s : State) → Sound limit p → step limit End (state_at p) ≡ Ok s → Whole limit (tokens_at p) s
+end_sound limit p s g e = end_from limit p.parts p.trees p.frames p.operand s g e
