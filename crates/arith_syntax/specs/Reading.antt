@@ -15,7 +15,10 @@ use Rattle.arith_syntax.specs.declared.refusal.Fault.{Fault}
 use Rattle.arith_syntax.specs.declared.refusal.Fault.TheVariants.{NoToken, Misplaced, Nested, Large}
 use Rattle.arith_syntax.specs.declared.refusal.Refusal.{Refusal}
 use Rattle.arith_syntax.specs.declared.refusal.Refusal.TheVariants as refusals
+use Rattle.arith_syntax.specs.declared.error.SyntaxError.{SyntaxError}
+use Rattle.arith_syntax.specs.declared.error.SyntaxError.TheVariants.{BadToken, BadSyntax, TooDeep, ConstantTooLarge}
 use Rattle.arith_syntax.specs.Tree.{level_of}
+use Rattle.arith_syntax.specs.Lexical.{Lexeme}
 
 -- what was read: the instructions and what waits, both the newest first, and whether an operand was read last
 pub record State : Type 0 where
@@ -154,3 +157,18 @@ abbrev pub Steps : {X : Type 0} → Result X Refusal → State → Step → Type
 Steps (Ok _) new taken = taken ≡ Ok new
 Steps (Err refusals.OutOfMemory) new taken = Unit {0}
 Steps (Err (refusals.Fault f)) new taken = taken ≡ Err f
+
+abbrev pub error_at : Fault → ℕ → SyntaxError
+error_at NoToken at = BadToken at
+error_at Misplaced at = BadSyntax at
+error_at Nested at = TooDeep at
+error_at Large at = ConstantTooLarge at
+
+abbrev pub placed : ℕ → Step → (State → Result State SyntaxError) → Result State SyntaxError
+placed at (Ok s) more = more s
+placed at (Err f) more = Err (error_at f at)
+
+-- lexemes one after another, within 64 open constructs
+abbrev pub run : State → List Lexeme → Result State SyntaxError
+run s [] = Ok s
+run s (l ∷ more) = placed l.1 (step 64 l.0 s) (λ t. run t more)
