@@ -26,11 +26,13 @@ abbrev pub value_after : ℕ → ℕ → List ℕ → ℕ
 value_after base n [] = n
 value_after base n (c ∷ cs) = value_after base (n * base + digit_value c) cs
 
+-- a constant, by its value
+abbrev pub number : ℕ → Token
+number n = if nat_lt n (2 ^ 63) then Number n else TooLarge
+
 -- the constant that digits spell
 abbrev pub constant_of : ℕ → (ℕ → Bool) → List ℕ → Token
-constant_of base is_one digits =
-    if list_all is_one digits then (if nat_lt (value_after base 0 digits) (2 ^ 63) then Number (value_after base 0 digits) else TooLarge)
-    else Bad
+constant_of base is_one digits = if list_all is_one digits then number (value_after base 0 digits) else Bad
 
 abbrev pub begins_hexadecimal : List ℕ → Bool
 begins_hexadecimal (z ∷ x ∷ d ∷ more) = z == 48 && (x == 120 || x == 88)

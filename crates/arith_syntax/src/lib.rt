@@ -5,10 +5,12 @@
 //! any recursion.
 #![tactic(auto)]
 
+mod constants;
 pub mod error;
 pub mod instruction;
 pub mod operators;
 pub mod pending;
 mod reader;
 pub mod refusal;
+mod scanner;
 pub mod token;

@@ -1,0 +1,148 @@
+-- Runs of letters, digits and `_`, and what the tokens of a text are.
+use Rattle.std.proofs.Common.{◌≡◌, ◌≢◌, ℕ, zero, suc, ◌+◌, ◌-◌, ◌*◌, ◌^◌, ◌<◌, ◌≤◌, Bool, true, false, cond, Option, Some, None, List, [], ◌∷◌, ◌++◌, length, take, drop, get_or, refl, sym, ap, subst, ◌∙◌, arith, inl, inr}
+use Rattle.std.specs.Prelude.{nat_lt, nat_le, ◌==◌, ◌&&◌, ◌||◌, ◌⊎◌}
+use Rattle.std.specs.List.{list_all, prefix_len}
+use Rattle.std.specs.Str.{IsAscii}
+use Rattle.std.proofs.lemmas.Bool.{cases_lt}
+use Rattle.std.proofs.lemmas.Bool.Decides.{nat_tests}
+use Rattle.std.proofs.lemmas.List.{get_or_past}
+use Rattle.std.proofs.lemmas.Str.Ascii.{IsAscii-nil, IsAscii-cons}
+use Rattle.arith_syntax.specs.declared.operators.BinaryOperator.{BinaryOperator}
+use Rattle.arith_syntax.specs.declared.operators.BinaryOperator.TheVariants.{LogicalOr, LogicalAnd, BitOr, BitXor, BitAnd, EqualTo, NotEqualTo, LessThan, LessOrEqual, GreaterThan, GreaterOrEqual, ShiftLeft, ShiftRight, Add, Subtract, Multiply, Divide, Remainder}
+use Rattle.arith_syntax.specs.declared.token.Token.{Token}
+use Rattle.arith_syntax.specs.declared.token.Token.TheVariants.{Number, TooLarge, Name, Binary, Tilde, Exclamation, Assign, Question, Colon, LeftParenthesis, RightParenthesis, Separator, End, Bad}
+use Rattle.arith_syntax.specs.Tree.{is_digit, is_letter, is_word, begins_name, IsName, assigns}
+use Rattle.arith_syntax.specs.Lexical.{is_blank, value_after, number, constant_of, is_octal, is_hexadecimal, begins_hexadecimal, constant, word, run_of, with_equals, doubled, single, shifts, is_bad, or_shorter, symbol, token_at, Lexeme, found, scan, lexemes}
+use Rattle.arith_syntax.proofs.Sound.{IsToken}
+use Rattle.arith_syntax.proofs.Faults.{Proper}
+
+word_ascii : (c : ℕ) → is_word c ≡ true → c < 128
+word_ascii c h = grind (arith, nat_tests)
+
+and_parts : (a b : Bool) → (a && b) ≡ true → (a ≡ true) × (b ≡ true)
+and_parts true true h = (refl, refl)
+and_parts true false h = absurd cc
+and_parts false b h = absurd cc
+
+pub words_ascii : (xs : List ℕ) → list_all is_word xs ≡ true → IsAscii xs
+words_ascii [] h = IsAscii-nil
+words_ascii (x ∷ xs) h =
+    let p = and_parts (is_word x) (list_all is_word xs) h in
+    IsAscii-cons x xs (word_ascii x p.0) (words_ascii xs p.1)
+
+one_more : (n : ℕ) → 1 + n ≡ suc n
+one_more n = omega arith
+
+run_words_at : (p : ℕ → Bool) (x : ℕ) (xs : List ℕ) (b : Bool) → p x ≡ b → list_all p (take (prefix_len p xs) xs) ≡ true → list_all p (take (cond b (1 + prefix_len p xs) 0) (x ∷ xs)) ≡ true
+run_words_at p x xs true e h = rw (one_more (prefix_len p xs)) (ap (λ b. b && list_all p (take (prefix_len p xs) xs)) e ∙ h)
+run_words_at p x xs false e h = refl
+
+-- what stands before the first octet of another kind
+pub run_words : (p : ℕ → Bool) (xs : List ℕ) → list_all p (take (prefix_len p xs) xs) ≡ true
+run_words p [] = refl
+run_words p (x ∷ xs) = run_words_at p x xs (p x) refl (run_words p xs)
+
+-- tokens that a text may have
+pub record Fine (token : Token) : Type 0 where
+  pub is : IsToken token
+  pub not_end : token ≢ End
+
+choose : (b : Bool) (x y : Token) → Fine x → Fine y → Fine (cond b x y)
+choose true x y f g = f
+choose false x y f g = g
+
+bad : Fine Bad
+bad = record { is = tt; not_end = λ e. cc }
+
+binary : (op : BinaryOperator) → Fine (Binary op)
+binary op = record { is = tt; not_end = λ e. cc }
+
+assign : (op : Option BinaryOperator) → assigns op ≡ true → Fine (Assign op)
+assign op h = record { is = h; not_end = λ e. cc }
+
+shifts_fine : (c : ℕ) → Fine (shifts c)
+shifts_fine c = choose (c == 60) _ _ (assign (Some ShiftLeft) refl) (choose (c == 62) _ _ (assign (Some ShiftRight) refl) bad)
+
+equals_fine : (c : ℕ) → Fine (with_equals c)
+equals_fine c =
+    choose (c == 61) _ _ (binary EqualTo) (choose (c == 33) _ _ (binary NotEqualTo) (choose (c == 60) _ _ (binary LessOrEqual) (choose (c == 62) _ _ (binary GreaterOrEqual)
+      (choose (c == 42) _ _ (assign (Some Multiply) refl) (choose (c == 47) _ _ (assign (Some Divide) refl) (choose (c == 37) _ _ (assign (Some Remainder) refl) (choose (c == 43) _ _ (assign (Some Add) refl)
+        (choose (c == 45) _ _ (assign (Some Subtract) refl) (choose (c == 38) _ _ (assign (Some BitAnd) refl) (choose (c == 94) _ _ (assign (Some BitXor) refl) (choose (c == 124) _ _ (assign (Some BitOr) refl) bad)))))))))))
+
+doubled_fine : (c : ℕ) → Fine (doubled c)
+doubled_fine c = choose (c == 60) _ _ (binary ShiftLeft) (choose (c == 62) _ _ (binary ShiftRight) (choose (c == 38) _ _ (binary LogicalAnd) (choose (c == 124) _ _ (binary LogicalOr) bad)))
+
+plain : (token : Token) → IsToken token → token ≢ End → Fine token
+plain token h ne = record { is = h; not_end = ne }
+
+single_fine : (c : ℕ) → Fine (single c)
+single_fine c =
+    choose (c == 43) _ _ (binary Add) (choose (c == 45) _ _ (binary Subtract) (choose (c == 42) _ _ (binary Multiply) (choose (c == 47) _ _ (binary Divide) (choose (c == 37) _ _ (binary Remainder)
+      (choose (c == 60) _ _ (binary LessThan) (choose (c == 62) _ _ (binary GreaterThan) (choose (c == 38) _ _ (binary BitAnd) (choose (c == 94) _ _ (binary BitXor) (choose (c == 124) _ _ (binary BitOr)
+        (choose (c == 126) _ _ (plain Tilde tt (λ e. cc)) (choose (c == 33) _ _ (plain Exclamation tt (λ e. cc)) (choose (c == 61) _ _ (assign None refl)
+          (choose (c == 63) _ _ (plain Question tt (λ e. cc)) (choose (c == 58) _ _ (plain Colon tt (λ e. cc)) (choose (c == 40) _ _ (plain LeftParenthesis tt (λ e. cc))
+            (choose (c == 41) _ _ (plain RightParenthesis tt (λ e. cc)) (choose (c == 59 || c == 10) _ _ (plain Separator tt (λ e. cc)) bad)))))))))))))))))
+
+-- a token and its length, where it is one
+pub record Long (t : Token × ℕ) (n : ℕ) : Type 0 where
+  pub fine : Fine t.0
+  pub some : 1 ≤ t.1
+  pub within : is_bad t.0 ≡ false → t.1 ≤ n
+
+lt_yes : (m n : ℕ) → m < n → nat_lt m n ≡ true
+lt_yes m n h = grind arith
+
+lt_no : (m n : ℕ) → n ≤ m → nat_lt m n ≡ false
+lt_no m n h = grind arith
+
+number_fine : (n : ℕ) → Fine (number n)
+number_fine n =
+    elim (cases_lt n (2 ^ 63)) [
+      | inl lt ↦ subst Fine (sym (ap (λ b. cond b (Number n) TooLarge) (lt_yes n (2 ^ 63) lt))) (plain (Number n) lt (λ e. cc))
+      | inr le ↦ subst Fine (sym (ap (λ b. cond b (Number n) TooLarge) (lt_no n (2 ^ 63) le))) (plain TooLarge tt (λ e. cc))
+    ]
+
+constant_of_fine : (base : ℕ) (is_one : ℕ → Bool) (digits : List ℕ) → Fine (constant_of base is_one digits)
+constant_of_fine base is_one digits = choose (list_all is_one digits) _ _ (number_fine (value_after base 0 digits)) bad
+
+constant_fine : (run : List ℕ) → Fine (constant run)
+unfolding constant
+constant_fine run =
+    choose (begins_hexadecimal run) _ _ (constant_of_fine 16 is_hexadecimal (drop 2 run))
+      (choose (nat_le 49 (get_or run 0 0)) _ _ (constant_of_fine 10 is_digit run) (constant_of_fine 8 is_octal run))
+
+begins_is : (run : List ℕ) → is_letter (get_or run 0 0) ≡ true → begins_name run ≡ true
+begins_is [] h = absurd cc
+begins_is (c ∷ run) h = h
+
+le_means : (m n : ℕ) → nat_le m n ≡ true → m ≤ n
+le_means m n h = grind (arith, nat_tests)
+
+name_fine : (run : List ℕ) (b : Bool) → nat_le (length run) 255 ≡ b → is_letter (get_or run 0 0) ≡ true → list_all is_word run ≡ true → Fine (cond b (Name run) Bad)
+name_fine run true e letter words = plain (Name run) (record { begins = begins_is run letter; words = words; short = le_means (length run) 255 e }) (λ e. cc)
+name_fine run false e letter words = bad
+
+word_fine : (run : List ℕ) (b : Bool) → is_letter (get_or run 0 0) ≡ b → list_all is_word run ≡ true → Fine (cond b (cond (nat_le (length run) 255) (Name run) Bad) (constant run))
+word_fine run true e words = name_fine run (nat_le (length run) 255) refl e words
+word_fine run false e words = constant_fine run
+
+longer : (b : Bool) (t : Token) (k : ℕ) (s : Token × ℕ) (n : ℕ) → is_bad t ≡ b → Fine t → 1 ≤ k → (is_bad t ≡ false → k ≤ n) → Long s n → Long (cond b s (t, k)) n
+longer true t k s n e f one within l = l
+longer false t k s n e f one within l = record { fine = f; some = one; within = within }
+
+get_some : (text : List ℕ) (i : ℕ) → get_or text i 0 ≡ 61 → i < length text
+get_some text i h =
+    elim (cases_lt i (length text)) [
+      | inl lt ↦ lt
+      | inr le ↦ let e : get_or text i 0 ≡ 0 = get_or_past text i 0 le in absurd (omega arith)
+    ]
+
+eq_means : (m n : ℕ) → (m == n) ≡ true → m ≡ n
+eq_means m n h = grind (arith, nat_tests)
+
+tested : (b : Bool) (x : Token) → is_bad (cond b x Bad) ≡ false → b ≡ true
+tested true x h = refl
+tested false x h = absurd cc
+
+third_at : (text : List ℕ) (b : Bool) (x : Token) → is_bad (cond (b && (get_or text 2 0 == 61)) x Bad) ≡ false → 3 ≤ length text
+third_at text b x h = omega (arith, get_some text 2 (eq_means (get_or text 2 0) 61 (and_parts b (get_or text 2 0 == 61) (tested (b && (get_or text 2 0 == 61)) x h)).1))
