@@ -1,5 +1,6 @@
 pub mod Complete
 pub mod Digits
 pub mod Faults
+pub mod Scans
 pub mod Sound
 pub mod Words

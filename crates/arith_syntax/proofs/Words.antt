@@ -6,6 +6,7 @@ use Rattle.std.specs.Str.{IsAscii}
 use Rattle.std.proofs.lemmas.Bool.{cases_lt}
 use Rattle.std.proofs.lemmas.Bool.Decides.{nat_tests}
 use Rattle.std.proofs.lemmas.List.{get_or_past}
+use Rattle.std.proofs.lemmas.List.Sums.{prefix_len-le-length}
 use Rattle.std.proofs.lemmas.Str.Ascii.{IsAscii-nil, IsAscii-cons}
 use Rattle.arith_syntax.specs.declared.operators.BinaryOperator.{BinaryOperator}
 use Rattle.arith_syntax.specs.declared.operators.BinaryOperator.TheVariants.{LogicalOr, LogicalAnd, BitOr, BitXor, BitAnd, EqualTo, NotEqualTo, LessThan, LessOrEqual, GreaterThan, GreaterOrEqual, ShiftLeft, ShiftRight, Add, Subtract, Multiply, Divide, Remainder}
@@ -146,3 +147,84 @@ tested false x h = absurd cc
 
 third_at : (text : List ℕ) (b : Bool) (x : Token) → is_bad (cond (b && (get_or text 2 0 == 61)) x Bad) ≡ false → 3 ≤ length text
 third_at text b x h = omega (arith, get_some text 2 (eq_means (get_or text 2 0) 61 (and_parts b (get_or text 2 0 == 61) (tested (b && (get_or text 2 0 == 61)) x h)).1))
+
+second_at : (text : List ℕ) (x : Token) → is_bad (cond (get_or text 1 0 == 61) x Bad) ≡ false → 2 ≤ length text
+second_at text x h = omega (arith, get_some text 1 (eq_means (get_or text 1 0) 61 (tested (get_or text 1 0 == 61) x h)))
+
+doubled_zero : (c : ℕ) → c ≡ 0 → is_bad (doubled c) ≡ true
+doubled_zero c e = ap (λ d. is_bad (doubled d)) e
+
+good_part : (b : Bool) (x : Token) → is_bad (cond b x Bad) ≡ false → (b ≡ true) × (is_bad x ≡ false)
+good_part true x h = (refl, h)
+good_part false x h = absurd cc
+
+not_two : (b : Bool) → b ≡ true → b ≡ false → ⊥
+not_two b x y = cc
+
+twice_at : (text : List ℕ) → is_bad (cond (get_or text 1 0 == get_or text 0 0) (doubled (get_or text 0 0)) Bad) ≡ false → 2 ≤ length text
+twice_at text h =
+    let parts = good_part (get_or text 1 0 == get_or text 0 0) (doubled (get_or text 0 0)) h in
+    elim (cases_lt 1 (length text)) [
+      | inl lt ↦ omega arith
+      | inr le ↦
+        let second : get_or text 1 0 ≡ 0 = get_or_past text 1 0 le in
+        let first : get_or text 0 0 ≡ 0 = sym (eq_means (get_or text 1 0) (get_or text 0 0) parts.0) ∙ second in
+        let zero : is_bad (doubled (get_or text 0 0)) ≡ true = doubled_zero (get_or text 0 0) first in
+        absurd (not_two (is_bad (doubled (get_or text 0 0))) zero parts.1)
+    ]
+
+symbol_long : (text : List ℕ) → 0 < length text → Long (symbol (get_or text 0 0) (get_or text 1 0) (get_or text 2 0)) (length text)
+unfolding symbol
+symbol_long text some =
+    let a = get_or text 0 0 in
+    let b = get_or text 1 0 in
+    let c = get_or text 2 0 in
+    longer _ (cond ((b == a) && (c == 61)) (shifts a) Bad) 3 _ (length text) refl (choose ((b == a) && (c == 61)) _ _ (shifts_fine a) bad) (omega arith) (third_at text (b == a) (shifts a))
+      (longer _ (cond (b == 61) (with_equals a) Bad) 2 _ (length text) refl (choose (b == 61) _ _ (equals_fine a) bad) (omega arith) (second_at text (with_equals a))
+        (longer _ (cond (b == a) (doubled a) Bad) 2 _ (length text) refl (choose (b == a) _ _ (doubled_fine a) bad) (omega arith) (twice_at text)
+          (record { fine = single_fine a; some = omega arith; within = λ h. omega arith })))
+
+run_some : (text : List ℕ) → is_word (get_or text 0 0) ≡ true → 1 ≤ prefix_len is_word text
+run_some [] h = absurd cc
+run_some (c ∷ text) h = let e : prefix_len is_word (c ∷ text) ≡ 1 + prefix_len is_word text = ap (λ b. cond b (1 + prefix_len is_word text) 0) h in omega arith
+
+token_long_at : (text : List ℕ) (b : Bool) → is_word (get_or text 0 0) ≡ b → 0 < length text → Long (cond b (word (run_of text), prefix_len is_word text) (symbol (get_or text 0 0) (get_or text 1 0) (get_or text 2 0))) (length text)
+token_long_at text true e some =
+    record {
+      fine = word_fine (run_of text) (is_letter (get_or (run_of text) 0 0)) refl (run_words is_word text);
+      some = run_some text e;
+      within = λ h. prefix_len-le-length is_word text
+    }
+token_long_at text false e some = symbol_long text some
+
+pub token_long : (text : List ℕ) → 0 < length text → Long (token_at text) (length text)
+unfolding token_at
+token_long text some = token_long_at text (is_word (get_or text 0 0)) refl some
+
+proper_found : (t : Token) (at : ℕ) (more : List Lexeme) (b : Bool) → Fine t → Proper more → Proper (cond b ((Bad, at) ∷ []) ((t, at) ∷ more))
+proper_found t at more true f p = inr (inl (refl, refl))
+proper_found t at more false f p = inr (inr (f.is, f.not_end, p))
+
+proper_blank : (b : Bool) (x y : List Lexeme) → Proper x → Proper y → Proper (cond b x y)
+proper_blank true x y p q = p
+proper_blank false x y p q = q
+
+-- a text's lexemes are tokens, and at last its end or octets that are none
+pub scan_proper : (n at : ℕ) (text : List ℕ) → Proper (scan n at text)
+scan_proper n at [] = inl (refl, refl)
+scan_proper (suc n) at (c ∷ text) = scan_proper n (at + 1) text
+scan_proper zero at (c ∷ text) =
+    let long = token_long (c ∷ text) (omega arith) in
+    proper_blank (is_blank c) _ _ (scan_proper zero (at + 1) text)
+      (proper_found (token_at (c ∷ text)).0 at _ (is_bad (token_at (c ∷ text)).0) long.fine (scan_proper ((token_at (c ∷ text)).1 - 1) (at + 1) text))
+
+pub lexemes_proper : (text : List ℕ) → Proper (lexemes text)
+unfolding lexemes
+lexemes_proper text = scan_proper 0 0 text
+
+-- the octets of a token are passed over
+pub scan_skip : (n at : ℕ) (text : List ℕ) → n ≤ length text → scan n at text ≡ scan 0 (at + n) (drop n text)
+scan_skip zero at text h = ap (λ k. scan 0 k text) (omega arith)
+scan_skip (suc n) at [] h = absurd (omega arith)
+scan_skip (suc n) at (c ∷ text) h =
+    scan_skip n (at + 1) text (omega arith) ∙ ap (λ k. scan 0 k (drop n text)) (let e : at + 1 + n ≡ at + suc n = omega arith in e)

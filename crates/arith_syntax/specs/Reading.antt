@@ -1,6 +1,6 @@
 -- Reading a program token by token, by operator precedence: what has begun waits, the newest first, until a token comes
 -- that binds less tight.
-use Rattle.std.specs.Prelude.{◌≡◌, ℕ, ◌+◌, ◌<◌, List, [], ◌∷◌, ◌++◌, Option, Some, None, Result, Ok, Err, Bool, true, false, nat_le, nat_lt, if◌then◌else◌}
+use Rattle.std.specs.Prelude.{◌≡◌, ℕ, ◌+◌, ◌<◌, List, [], ◌∷◌, ◌++◌, Option, Some, None, Result, Ok, Err, Bool, true, false, nat_le, nat_lt, ◌⊎◌, if◌then◌else◌}
 use Rattle.arith_syntax.specs.declared.operators.UnaryOperator.{UnaryOperator}
 use Rattle.arith_syntax.specs.declared.operators.UnaryOperator.TheVariants.{Plus, Minus, Complement, Not}
 use Rattle.arith_syntax.specs.declared.operators.BinaryOperator.{BinaryOperator}
@@ -16,7 +16,7 @@ use Rattle.arith_syntax.specs.declared.refusal.Fault.TheVariants.{NoToken, Mispl
 use Rattle.arith_syntax.specs.declared.refusal.Refusal.{Refusal}
 use Rattle.arith_syntax.specs.declared.refusal.Refusal.TheVariants as refusals
 use Rattle.arith_syntax.specs.declared.error.SyntaxError.{SyntaxError}
-use Rattle.arith_syntax.specs.declared.error.SyntaxError.TheVariants.{BadToken, BadSyntax, TooDeep, ConstantTooLarge}
+use Rattle.arith_syntax.specs.declared.error.SyntaxError.TheVariants.{BadToken, BadSyntax, TooDeep, ConstantTooLarge, OutOfMemory}
 use Rattle.arith_syntax.specs.Tree.{level_of}
 use Rattle.arith_syntax.specs.Lexical.{Lexeme}
 
@@ -172,3 +172,8 @@ placed at (Err f) more = Err (error_at f at)
 abbrev pub run : State → List Lexeme → Result State SyntaxError
 run s [] = Ok s
 run s (l ∷ more) = placed l.1 (step 64 l.0 s) (λ t. run t more)
+
+-- what a function did to a state is the step of a token at a place, unless memory ran out
+abbrev pub Places : {X : Type 0} → ℕ → Result X SyntaxError → State → Step → Type 0
+Places at (Ok _) new taken = taken ≡ Ok new
+Places at (Err e) new taken = (e ≡ OutOfMemory) ⊎ ((f : Fault) × (taken ≡ Err f) × (e ≡ error_at f at))

@@ -9,6 +9,7 @@ mod constants;
 pub mod error;
 pub mod instruction;
 pub mod operators;
+mod parser;
 pub mod pending;
 mod reader;
 pub mod refusal;
