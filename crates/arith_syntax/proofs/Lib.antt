@@ -4,3 +4,4 @@ pub mod Faults
 pub mod Scans
 pub mod Sound
 pub mod Words
+pub mod Writing

@@ -1,3 +1,4 @@
+pub mod Apart
 pub mod Grammar
 pub mod Lexical
 pub mod Reading

@@ -1,8 +1,10 @@
 -- Trees written out as instructions.
-use Rattle.std.specs.Prelude.{ℕ, List, [], ◌∷◌, ◌++◌, flat_map, reverse}
+use Rattle.std.specs.List.{AllByRecursion}
+use Rattle.std.specs.Prelude.{◌≡◌, ℕ, List, [], ◌∷◌, ◌++◌, flat_map, reverse}
 use Rattle.arith_syntax.specs.declared.instruction.Instruction.{Instruction}
 use Rattle.arith_syntax.specs.declared.instruction.Instruction.TheVariants.{Push, Load, Open, Close, Sign, Apply, Infix, Combine, Then, Else, Choose, Target, Store, Finish}
 use Rattle.arith_syntax.specs.Tree.{Tree, Constant, Variable, Parenthesized, Unary, Operation, Conditional, Assignment}
+use Rattle.arith_syntax.specs.Grammar.{Fits}
 
 -- an expression in the order of reading, each operator a second time behind its last operand
 abbrev pub written : Tree → List Instruction
@@ -33,3 +35,8 @@ built trees (_ ∷ more) = built trees more
 -- the trees that a program's instructions are written from
 unfoldable pub trees_of : List Instruction → List Tree
 trees_of code = reverse (built [] code)
+
+-- the instructions are those of expressions that nest no deeper than 64
+pub record IsWhole (code : List Instruction) : Type 0 where
+  pub each : AllByRecursion (Fits 64) (trees_of code)
+  pub is : code ≡ all_written (trees_of code)

@@ -1,16 +1,31 @@
 //! A text's program.
 
-ghost use Rattle.std.specs.Prelude.{◌≡◌, ◌<◌, ◌≤◌, ◌⊎◌, drop, length, IfOk, IfErr, Result, Ok, Err, reverse};
+ghost use Rattle.std.specs.Prelude.{◌≡◌, ◌<◌, ◌≤◌, ◌⊎◌, drop, length, IfOk, IfErr, Result, Ok, Err, List, MatchResult};
+ghost use Rattle.arith_syntax.specs.Tree.{Tree};
+ghost use Rattle.arith_syntax.specs.Grammar.{Grammar, FirstFault};
 ghost use Rattle.arith_syntax.specs.Lexical.{scan};
 ghost use Rattle.arith_syntax.specs.Reading.{State, step, run, placed, error_at, Places, nothing_read};
 
 use crate::error::SyntaxError;
-use crate::instruction::Instruction;
+use crate::program::Program;
 use crate::reader::Reader;
 use crate::refusal::{Fault, Refusal};
 use crate::scanner::{is_blank, token_at};
 use crate::token::Token;
 use std::alloc::Global;
+
+/// The program of a text of at most 65,536 octets, or its first fault.
+pub fn parse(alloc: Global, text: &str) -> Result<Program, SyntaxError>
+    ensures grammar { IfOk result (λ p. Grammar text.now p) }
+    ensures only { (trees : List Tree) → Grammar text.now trees → MatchResult result (λ p. p ≡ trees) (λ e. e ≡ SyntaxError.OutOfMemory) }
+    ensures fault { IfErr result (λ e. FirstFault text.now e) }
+{
+    if text.len() > 65_536 {
+        return Err(SyntaxError::TooLong);
+    }
+    let reader = read(alloc, text.as_bytes())?;
+    Ok(Program::from_code(reader.into_code()))
+}
 
 // reads all tokens of a text
 fn read(alloc: Global, text: &[u8]) -> Result<Reader, SyntaxError>

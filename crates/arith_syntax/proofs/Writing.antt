@@ -1,0 +1,125 @@
+-- Trees are written out as instructions, and built from them again.
+use Rattle.std.proofs.Common.{◌≡◌, ℕ, suc, ◌+◌, ◌-◌, ◌^◌, ◌<◌, ◌≤◌, max, Bool, true, false, cond, List, [], ◌∷◌, ◌++◌, Option, Some, None, Result, Ok, Err, refl, sym, ap, subst, ◌∙◌, append_assoc, arith}
+use Rattle.std.specs.Prelude.{nat_le, nat_lt, map}
+use Rattle.std.specs.List.{filter, AllByRecursion}
+use Rattle.arith_syntax.specs.declared.operators.UnaryOperator.{UnaryOperator}
+use Rattle.arith_syntax.specs.declared.operators.UnaryOperator.TheVariants.{Plus, Minus, Complement, Not}
+use Rattle.arith_syntax.specs.declared.operators.BinaryOperator.{BinaryOperator}
+use Rattle.arith_syntax.specs.declared.operators.BinaryOperator.TheVariants.{LogicalOr, LogicalAnd, BitOr, BitXor, BitAnd, EqualTo, NotEqualTo, LessThan, LessOrEqual, GreaterThan, GreaterOrEqual, ShiftLeft, ShiftRight, Add, Subtract, Multiply, Divide, Remainder}
+use Rattle.arith_syntax.specs.declared.token.Token.{Token}
+use Rattle.arith_syntax.specs.declared.token.Token.TheVariants.{Number, TooLarge, Name, Binary, Tilde, Exclamation, Assign, Question, Colon, LeftParenthesis, RightParenthesis, Separator, End, Bad}
+use Rattle.arith_syntax.specs.declared.instruction.Instruction.{Instruction}
+use Rattle.arith_syntax.specs.declared.instruction.Instruction.TheVariants.{Push, Load, Open, Close, Sign, Apply, Infix, Combine, Then, Else, Choose, Target, Store, Finish}
+use Rattle.arith_syntax.specs.declared.pending.Pending.{Pending}
+use Rattle.arith_syntax.specs.declared.pending.Pending.TheVariants.{Parenthesis, Prefixed, Operator, Condition, Alternative, Assigned}
+use Rattle.arith_syntax.specs.declared.refusal.Fault.{Fault}
+use Rattle.arith_syntax.specs.declared.refusal.Fault.TheVariants.{NoToken, Misplaced, Nested, Large}
+use Rattle.arith_syntax.specs.Tree.{Tree, Constant, Variable, Parenthesized, Unary, Operation, Conditional, Assignment, level, level_of, IsExpression, nesting, tokens_of, sign}
+use Rattle.arith_syntax.specs.Grammar.{Fits, joined, is_some_part, IsProgram}
+use Rattle.arith_syntax.specs.Reading.{State, nothing_read, tightness, nests, depth_of, ending, close, Step, waiting, nested, operand, empty_expression, first_step, second_choice, parenthesized, expression_end, may_assign, assignment, next_step, step, steps, after, IsLooser}
+use Rattle.std.specs.Prelude.{flat_map, reverse}
+use Rattle.std.proofs.Common.{length}
+use Rattle.std.proofs.lemmas.List.{append-nil, reverse-append, reverse-reverse}
+use Rattle.arith_syntax.specs.declared.error.SyntaxError.{SyntaxError}
+use Rattle.arith_syntax.specs.declared.error.SyntaxError.TheVariants as errors
+use Rattle.arith_syntax.specs.Grammar.{Grammar, FirstFault}
+use Rattle.arith_syntax.specs.Lexical.{Lexeme, lexemes, scan}
+use Rattle.arith_syntax.specs.Reading.{run}
+use Rattle.arith_syntax.specs.Written.{written, all_written, trees_of, IsWhole}
+use Rattle.arith_syntax.specs.Apart.{trees_back}
+use Rattle.arith_syntax.proofs.Complete.{put, put_all, awaiting}
+use Rattle.arith_syntax.proofs.Faults.{Read, read_program, fault_first, program_run}
+use Rattle.arith_syntax.proofs.Words.{lexemes_proper}
+
+-- what is written tells its trees
+pub written_once : (a b : List Tree) → all_written a ≡ all_written b → a ≡ b
+written_once a b e = sym (trees_back a) ∙ ap trees_of e ∙ trees_back b
+
+-- a list on top of another, the last first
+abbrev onto : List Instruction → List Instruction → List Instruction
+onto [] code = code
+onto (x ∷ xs) code = onto xs (x ∷ code)
+
+onto_append : (xs ys code : List Instruction) → onto (xs ++ ys) code ≡ onto ys (onto xs code)
+onto_append [] ys code = refl
+onto_append (x ∷ xs) ys code = onto_append xs ys (x ∷ code)
+
+onto_reverse : (xs code : List Instruction) → onto xs code ≡ reverse xs ++ code
+onto_reverse [] code = refl
+onto_reverse (x ∷ xs) code =
+    onto_reverse xs (x ∷ code) ∙ sym (append_assoc (reverse xs) (x ∷ []) code) ∙ ap (λ l. l ++ code) (sym (reverse-append (x ∷ []) xs))
+
+put_onto : (e : Tree) (code : List Instruction) → put e code ≡ onto (written e) code
+put_onto (Constant n) code = refl
+put_onto (Variable x) code = refl
+put_onto (Parenthesized e) code = ap (λ l. Close ∷ l) (put_onto e (Open ∷ code)) ∙ sym (onto_append (written e) (Close ∷ []) (Open ∷ code))
+put_onto (Unary op e) code = ap (λ l. Apply op ∷ l) (put_onto e (Sign op ∷ code)) ∙ sym (onto_append (written e) (Apply op ∷ []) (Sign op ∷ code))
+put_onto (Operation op a b) code =
+    ap (λ l. Combine op ∷ put b (Infix op ∷ l)) (put_onto a code)
+    ∙ ap (λ l. Combine op ∷ l) (put_onto b (Infix op ∷ onto (written a) code))
+    ∙ sym (onto_append (written b) (Combine op ∷ []) (Infix op ∷ onto (written a) code))
+    ∙ sym (onto_append (written a) (Infix op ∷ (written b ++ Combine op ∷ [])) code)
+put_onto (Conditional c a b) code =
+    ap (λ l. Choose ∷ put b (Else ∷ put a (Then ∷ l))) (put_onto c code)
+    ∙ ap (λ l. Choose ∷ put b (Else ∷ l)) (put_onto a (Then ∷ onto (written c) code))
+    ∙ ap (λ l. Choose ∷ l) (put_onto b (Else ∷ onto (written a) (Then ∷ onto (written c) code)))
+    ∙ sym (onto_append (written b) (Choose ∷ []) (Else ∷ onto (written a) (Then ∷ onto (written c) code)))
+    ∙ sym (onto_append (written a) (Else ∷ (written b ++ Choose ∷ [])) (Then ∷ onto (written c) code))
+    ∙ sym (onto_append (written c) (Then ∷ (written a ++ Else ∷ (written b ++ Choose ∷ []))) code)
+put_onto (Assignment x op e) code = ap (λ l. Store x op ∷ l) (put_onto e (Target x op ∷ code)) ∙ sym (onto_append (written e) (Store x op ∷ []) (Target x op ∷ code))
+
+put_all_onto : (trees : List Tree) (code : List Instruction) → put_all trees code ≡ onto (all_written trees) code
+put_all_onto [] code = refl
+put_all_onto (e ∷ trees) code =
+    ap (λ l. put_all trees (Finish ∷ l)) (put_onto e code)
+    ∙ put_all_onto trees (Finish ∷ onto (written e) code)
+    ∙ ap (onto (all_written trees)) (sym (onto_append (written e) (Finish ∷ []) code))
+    ∙ sym (onto_append (written e ++ Finish ∷ []) (all_written trees) code)
+
+-- what the reader has for trees is their instructions, the last one first
+pub put_all_is : (trees : List Tree) → put_all trees [] ≡ reverse (all_written trees)
+put_all_is trees = put_all_onto trees [] ∙ onto_reverse (all_written trees) [] ∙ append-nil (reverse (all_written trees))
+
+code_is : (code : List Instruction) (trees : List Tree) → reverse code ≡ put_all trees [] → code ≡ all_written trees
+code_is code trees e = sym (reverse-reverse code) ∙ ap reverse (e ∙ put_all_is trees) ∙ reverse-reverse (all_written trees)
+
+-- a text that was read, and its instructions
+pub record WholeText (text : List ℕ) (code : List Instruction) : Type 0 where
+  pub trees : List Tree
+  pub grammar : Grammar text trees
+  pub is : code ≡ all_written trees
+  pub back : trees_of code ≡ trees
+
+scan_lexemes : (text : List ℕ) → lexemes text ≡ scan 0 0 text
+unfolding lexemes
+scan_lexemes text = refl
+
+pub whole_text : (text : List ℕ) (code : List Instruction) (s : State) → length text ≤ 65536 → run nothing_read (scan 0 0 text) ≡ Ok s → reverse code ≡ s.code → WholeText text code
+whole_text text code s short r c =
+    let read = read_program text s short (lexemes_proper text) (ap (run nothing_read) (scan_lexemes text) ∙ r) in
+    let is = code_is code read.trees (c ∙ ap (λ (t : State). t.code) read.state) in
+    record { trees = read.trees; grammar = read.grammar; is = is; back = ap trees_of is ∙ trees_back read.trees }
+
+pub whole_code : (text : List ℕ) (code : List Instruction) → WholeText text code → IsWhole code
+whole_code text code w =
+    record {
+      each = subst (AllByRecursion (Fits 64)) (sym w.back) w.grammar.program.each;
+      is = w.is ∙ ap all_written (sym w.back)
+    }
+
+pub text_fault : (text : List ℕ) (e : SyntaxError) → length text ≤ 65536 → run nothing_read (scan 0 0 text) ≡ Err e → FirstFault text e
+text_fault text e short r = fault_first text e short (lexemes_proper text) (ap (run nothing_read) (scan_lexemes text) ∙ r)
+
+-- the text of a program has no fault, and no other program
+pub no_fault : (text : List ℕ) (trees : List Tree) (e : SyntaxError) → Grammar text trees → run nothing_read (scan 0 0 text) ≡ Err e → ⊥
+no_fault text trees e g r =
+    let x : ◌≡◌ {A = Result State SyntaxError} (Err e) (Ok (awaiting (put_all trees []) [])) = sym r ∙ ap (run nothing_read) (sym (scan_lexemes text)) ∙ program_run text trees g in cc
+
+ok_same : (s t : State) → ◌≡◌ {A = Result State SyntaxError} (Ok s) (Ok t) → s ≡ t
+ok_same s t e = cc
+
+pub one_program : (text : List ℕ) (a b : List Tree) → Grammar text a → Grammar text b → a ≡ b
+one_program text a b g h =
+    let e = ok_same (awaiting (put_all a []) []) (awaiting (put_all b []) []) (sym (program_run text a g) ∙ program_run text b h) in
+    let same : reverse (all_written a) ≡ reverse (all_written b) = sym (put_all_is a) ∙ ap (λ (s : State). s.code) e ∙ put_all_is b in
+    written_once a b (sym (reverse-reverse (all_written a)) ∙ ap reverse same ∙ reverse-reverse (all_written b))
