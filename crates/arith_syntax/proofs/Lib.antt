@@ -1,6 +1,7 @@
 pub mod Complete
 pub mod Digits
 pub mod Faults
+pub mod Printed
 pub mod Scans
 pub mod Sound
 pub mod Words

@@ -672,7 +672,7 @@ program_with limit parts trees e ex each fits =
       each = all_more limit trees e each fits
     }
 
-program_without : (limit : ℕ) (parts : List (List Token)) (trees : List Tree) → filter is_some_part parts ≡ map tokens_of trees → AllByRecursion (Fits limit) trees → IsProgram limit (over parts ++ []) trees
+pub program_without : (limit : ℕ) (parts : List (List Token)) (trees : List Tree) → filter is_some_part parts ≡ map tokens_of trees → AllByRecursion (Fits limit) trees → IsProgram limit (over parts ++ []) trees
 program_without limit parts trees ex each =
     let p = parts_of parts [] in
     record { first = p.first; more = p.more; parts = p.tokens; expressions = ap (filter is_some_part) p.all ∙ filter_empty parts ∙ ex; each = each }
