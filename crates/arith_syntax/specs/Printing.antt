@@ -7,6 +7,8 @@ use Rattle.arith_syntax.specs.declared.operators.BinaryOperator.{BinaryOperator}
 use Rattle.arith_syntax.specs.declared.operators.BinaryOperator.TheVariants.{LogicalOr, LogicalAnd, BitOr, BitXor, BitAnd, EqualTo, NotEqualTo, LessThan, LessOrEqual, GreaterThan, GreaterOrEqual, ShiftLeft, ShiftRight, Add, Subtract, Multiply, Divide, Remainder}
 use Rattle.arith_syntax.specs.declared.token.Token.{Token}
 use Rattle.arith_syntax.specs.declared.token.Token.TheVariants.{Number, TooLarge, Name, Binary, Tilde, Exclamation, Assign, Question, Colon, LeftParenthesis, RightParenthesis, Separator, End, Bad}
+use Rattle.arith_syntax.specs.declared.instruction.Instruction.{Instruction}
+use Rattle.arith_syntax.specs.declared.instruction.Instruction.TheVariants.{Push, Load, Open, Close, Sign, Apply, Infix, Combine, Then, Else, Choose, Target, Store, Finish}
 use Rattle.arith_syntax.specs.Tree.{Tree, tokens_of}
 
 abbrev pub operator_text : BinaryOperator → List ℕ
@@ -65,3 +67,20 @@ line e = flat_map spaced (tokens_of e) ++ 10 ∷ []
 
 unfoldable pub printed : List Tree → List ℕ
 printed = flat_map line
+
+-- what an instruction is printed as; each token is printed once
+abbrev pub instruction_text : Instruction → List ℕ
+instruction_text (Push n) = spaced (Number n)
+instruction_text (Load x) = spaced (Name x)
+instruction_text Open = spaced LeftParenthesis
+instruction_text Close = spaced RightParenthesis
+instruction_text (Sign op) = sign_text op ++ 32 ∷ []
+instruction_text (Infix op) = spaced (Binary op)
+instruction_text Then = spaced Question
+instruction_text Else = spaced Colon
+instruction_text (Target x op) = spaced (Name x) ++ spaced (Assign op)
+instruction_text Finish = 10 ∷ []
+instruction_text (Apply op) = []
+instruction_text (Combine op) = []
+instruction_text Choose = []
+instruction_text (Store x op) = []

@@ -11,6 +11,7 @@ pub mod instruction;
 pub mod operators;
 pub mod parser;
 pub mod pending;
+pub mod printing;
 pub mod program;
 mod reader;
 pub mod refusal;
