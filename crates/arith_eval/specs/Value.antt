@@ -8,7 +8,7 @@ use Rattle.arith_syntax.specs.declared.operators.BinaryOperator.{BinaryOperator}
 use Rattle.arith_syntax.specs.declared.operators.BinaryOperator.TheVariants.{LogicalOr, LogicalAnd, BitOr, BitXor, BitAnd, EqualTo, NotEqualTo, LessThan, LessOrEqual, GreaterThan, GreaterOrEqual, ShiftLeft, ShiftRight, Add, Subtract, Multiply, Divide, Remainder}
 use Rattle.arith_syntax.specs.Tree.{Tree, Constant, Variable, Parenthesized, Unary, Operation, Conditional, Assignment}
 use Rattle.arith_eval.specs.declared.error.ArithError.{ArithError}
-use Rattle.arith_eval.specs.declared.error.ArithError.TheVariants.{NameError, ZeroDivision, ShiftRange}
+use Rattle.arith_eval.specs.declared.error.ArithError.TheVariants.{NameError, ZeroDivision, ShiftRange, OutOfMemory}
 use Rattle.arith_eval.specs.Names.{Environment, assign}
 
 abbrev pub Number : Type 0
@@ -121,3 +121,9 @@ values_from last (e ∷ trees) names = and_then (value_of e names) (λ v after. 
 -- the value of a program, which is 0 where it has no expression
 abbrev pub value_of_program : List Tree → Environment → Outcome
 value_of_program trees names = values_from (pos 0) trees names
+
+-- what a function returned, with the names that it left, is the outcome, unless memory ran out
+abbrev pub Evaluates : Result ℤ ArithError → Outcome → Environment → Type 0
+Evaluates (Ok v) o names = (o.value ≡ Ok v) × (names ≡ o.names)
+Evaluates (Err OutOfMemory) o names = Unit {0}
+Evaluates (Err e) o names = (o.value ≡ Err e) × (names ≡ o.names)

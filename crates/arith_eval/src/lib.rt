@@ -9,3 +9,4 @@ pub mod error;
 mod machine;
 pub mod namespace;
 mod operation;
+pub mod run;
