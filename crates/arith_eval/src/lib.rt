@@ -10,3 +10,5 @@ mod machine;
 pub mod namespace;
 mod operation;
 pub mod run;
+#[cfg(test)]
+mod tests;

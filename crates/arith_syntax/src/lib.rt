@@ -16,4 +16,6 @@ pub mod program;
 mod reader;
 pub mod refusal;
 mod scanner;
+#[cfg(test)]
+mod tests;
 pub mod token;
