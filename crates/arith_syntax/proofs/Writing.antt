@@ -18,7 +18,7 @@ use Rattle.arith_syntax.specs.Tree.{Tree, Constant, Variable, Parenthesized, Una
 use Rattle.arith_syntax.specs.Grammar.{Fits, joined, is_some_part, IsProgram}
 use Rattle.arith_syntax.specs.Reading.{State, nothing_read, tightness, nests, depth_of, ending, close, Step, waiting, nested, operand, empty_expression, first_step, second_choice, parenthesized, expression_end, may_assign, assignment, next_step, step, steps, after, IsLooser}
 use Rattle.std.specs.Prelude.{flat_map, reverse}
-use Rattle.std.proofs.Common.{length}
+use Rattle.std.proofs.Common.{length, ◌≢◌}
 use Rattle.std.proofs.lemmas.List.{append-nil, reverse-append, reverse-reverse}
 use Rattle.arith_syntax.specs.declared.error.SyntaxError.{SyntaxError}
 use Rattle.arith_syntax.specs.declared.error.SyntaxError.TheVariants as errors
@@ -28,7 +28,7 @@ use Rattle.arith_syntax.specs.Reading.{run}
 use Rattle.arith_syntax.specs.Written.{written, all_written, trees_of, IsWhole}
 use Rattle.arith_syntax.specs.Apart.{trees_back}
 use Rattle.arith_syntax.proofs.Complete.{put, put_all, awaiting}
-use Rattle.arith_syntax.proofs.Faults.{Read, read_program, fault_first, program_run}
+use Rattle.arith_syntax.proofs.Faults.{Read, read_program, fault_first, program_run, fault_read}
 use Rattle.arith_syntax.proofs.Words.{lexemes_proper}
 
 -- what is written tells its trees
@@ -123,3 +123,12 @@ one_program text a b g h =
     let e = ok_same (awaiting (put_all a []) []) (awaiting (put_all b []) []) (sym (program_run text a g) ∙ program_run text b h) in
     let same : reverse (all_written a) ≡ reverse (all_written b) = sym (put_all_is a) ∙ ap (λ (s : State). s.code) e ∙ put_all_is b in
     written_once a b (sym (reverse-reverse (all_written a)) ∙ ap reverse same ∙ reverse-reverse (all_written b))
+
+-- the one first fault of a text
+pub fault_only : (text : List ℕ) (e f : SyntaxError) → length text ≤ 65536 → FirstFault text e → e ≢ errors.OutOfMemory → run nothing_read (scan 0 0 text) ≡ Err f → f ≡ e
+fault_only text e f short first nm r =
+    let x : ◌≡◌ {A = Result State SyntaxError} (Err f) (Err e) = sym r ∙ ap (run nothing_read) (sym (scan_lexemes text)) ∙ fault_read text e (lexemes_proper text) first short nm in cc
+
+pub fault_none : (text : List ℕ) (e : SyntaxError) (s : State) → length text ≤ 65536 → FirstFault text e → e ≢ errors.OutOfMemory → run nothing_read (scan 0 0 text) ≡ Ok s → ⊥
+fault_none text e s short first nm r =
+    let x : ◌≡◌ {A = Result State SyntaxError} (Ok s) (Err e) = sym r ∙ ap (run nothing_read) (sym (scan_lexemes text)) ∙ fault_read text e (lexemes_proper text) first short nm in cc

@@ -1,5 +1,5 @@
 -- Which text is which program, and where a text that is none has its first fault (POSIX XCU 2.6.4).
-use Rattle.std.specs.Prelude.{◌≡◌, ℕ, ◌+◌, ◌<◌, ◌≤◌, List, [], ◌∷◌, ◌++◌, length, map, Bool, true, false}
+use Rattle.std.specs.Prelude.{◌≡◌, ℕ, ◌+◌, ◌<◌, ◌≤◌, Result, Ok, Err, List, [], ◌∷◌, ◌++◌, length, map, Bool, true, false}
 use Rattle.std.specs.List.{filter, AllByRecursion}
 use Rattle.arith_syntax.specs.declared.token.Token.{Token}
 use Rattle.arith_syntax.specs.declared.token.Token.TheVariants.{Number, TooLarge, Separator, End, Bad}
@@ -78,3 +78,9 @@ FirstFault text (TooDeep at) = (before : List Lexeme) × (token : Token) × Stan
 FirstFault text (ConstantTooLarge at) = (before : List Lexeme) × StandsAt text before TooLarge at × Begins 64 (tokens before ++ Number 0 ∷ [])
 FirstFault text TooLong = 65536 < length text
 FirstFault text OutOfMemory = Unit {0}
+
+-- what was returned is this fault, unless memory ran out
+abbrev pub IsFault : {X : Type 0} → SyntaxError → Result X SyntaxError → Type 0
+IsFault e (Ok x) = ⊥
+IsFault e (Err OutOfMemory) = Unit {0}
+IsFault e (Err f) = f ≡ e

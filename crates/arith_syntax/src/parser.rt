@@ -1,8 +1,8 @@
 //! A text's program.
 
-ghost use Rattle.std.specs.Prelude.{◌≡◌, ◌<◌, ◌≤◌, ◌⊎◌, drop, length, IfOk, IfErr, Result, Ok, Err, List, MatchResult};
+ghost use Rattle.std.specs.Prelude.{◌≡◌, ◌≢◌, ◌<◌, ◌≤◌, ◌⊎◌, drop, length, IfOk, IfErr, Result, Ok, Err, List, MatchResult};
 ghost use Rattle.arith_syntax.specs.Tree.{Tree};
-ghost use Rattle.arith_syntax.specs.Grammar.{Grammar, FirstFault};
+ghost use Rattle.arith_syntax.specs.Grammar.{Grammar, FirstFault, IsFault};
 ghost use Rattle.arith_syntax.specs.Lexical.{scan};
 ghost use Rattle.arith_syntax.specs.Reading.{State, step, run, placed, error_at, Places, nothing_read};
 
@@ -19,6 +19,7 @@ pub fn parse(alloc: Global, text: &str) -> Result<Program, SyntaxError>
     ensures grammar { IfOk result (λ p. Grammar text.now p) }
     ensures only { (trees : List Tree) → Grammar text.now trees → MatchResult result (λ p. p ≡ trees) (λ e. e ≡ SyntaxError.OutOfMemory) }
     ensures fault { IfErr result (λ e. FirstFault text.now e) }
+    ensures faults { (e : SyntaxError) → FirstFault text.now e → e ≢ SyntaxError.OutOfMemory → IsFault e result }
 {
     if text.len() > 65_536 {
         return Err(SyntaxError::TooLong);

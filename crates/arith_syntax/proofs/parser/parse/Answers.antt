@@ -1,14 +1,14 @@
-use Rattle.std.proofs.Common.{ℕ, ◌≡◌, ◌∙◌, ◌≤◌, sym, ap, subst, length, List, refl, Err, Ok, Result, arith, inl, inr}
+use Rattle.std.proofs.Common.{ℕ, ◌≢◌, ◌≡◌, ◌∙◌, ◌≤◌, sym, ap, subst, length, List, refl, Err, Ok, Result, arith, inl, inr}
 use Rattle.std.specs.Prelude.{◌⊎◌, MatchResult, IfErr}
 use Rattle.std.proofs.lemmas.Result.{err_from_is_err_and}
 use Rattle.arith_syntax.specs.declared.error.SyntaxError.{SyntaxError}
-use Rattle.arith_syntax.specs.declared.error.SyntaxError.TheVariants.{OutOfMemory}
+use Rattle.arith_syntax.specs.declared.error.SyntaxError.TheVariants.{OutOfMemory, BadToken, BadSyntax, TooDeep, ConstantTooLarge, TooLong}
 use Rattle.arith_syntax.specs.Tree.{Tree}
-use Rattle.arith_syntax.specs.Grammar.{Grammar, FirstFault}
+use Rattle.arith_syntax.specs.Grammar.{Grammar, FirstFault, IsFault}
 use Rattle.arith_syntax.specs.Lexical.{scan}
 use Rattle.arith_syntax.specs.Reading.{run, nothing_read}
 use Rattle.arith_syntax.specs.Written.{IsWhole, trees_of}
-use Rattle.arith_syntax.proofs.Writing.{WholeText, whole_text, whole_code, text_fault, no_fault, one_program}
+use Rattle.arith_syntax.proofs.Writing.{WholeText, whole_text, whole_code, text_fault, no_fault, one_program, fault_only, fault_none}
 use Rattle.arith_syntax.proofs.parser.parse.Goals as goal
 
 -- what stands after a fault
@@ -54,3 +54,30 @@ returns-clause-only c =
     let r = subst (λ t. run nothing_read (scan 0 0 t) ≡ Ok c.in_ok-reader.reader) c.as_bytes.ensures.value c.in_ok-reader.ensures.ok in
     let w = whole_text c.args.text.now c.into_code.result.items c.in_ok-reader.reader short r c.into_code.ensures in
     λ trees g. c.from_code.ensures ∙ w.back ∙ one_program c.args.text.now w.trees trees w.grammar g
+
+same_fault : (e : SyntaxError) → IsFault {X = List Tree} e (Err e)
+same_fault (BadToken at) = refl
+same_fault (BadSyntax at) = refl
+same_fault (TooDeep at) = refl
+same_fault (ConstantTooLarge at) = refl
+same_fault TooLong = refl
+same_fault OutOfMemory = tt
+
+-- a fault that isn't want of memory is the only one
+one_fault : (text : List ℕ) (d e : SyntaxError) → length text ≤ 65536 → (d ≡ OutOfMemory) ⊎ (run nothing_read (scan 0 0 text) ≡ Err d) → FirstFault text e → e ≢ OutOfMemory → IsFault {X = List Tree} e (Err d)
+one_fault text d e short (inl m) first nm = subst (λ f. IsFault {X = List Tree} e (Err f)) (sym m) tt
+one_fault text d e short (inr r) first nm = subst (λ f. IsFault {X = List Tree} e (Err f)) (sym (fault_only text e d short first nm r)) (same_fault e)
+
+pub returns-in_err-reader-clause-faults : goal.returns-in_err-reader-clause-faults
+returns-in_err-reader-clause-faults c =
+    let p = err_from_is_err_and c.from_residual.result c.from_residual.ensures.1 in
+    let here = subst (λ t. (c.in_err-reader.field-0.0 ≡ OutOfMemory) ⊎ (run nothing_read (scan 0 0 t) ≡ Err c.in_err-reader.field-0.0)) c.as_bytes.ensures.value c.in_err-reader.ensures.err in
+    let short : length c.args.text.now ≤ 65536 = omega arith in
+    λ e first nm. subst (λ (r : Result (List Tree) SyntaxError). IsFault e r) (sym (p.1 ∙ ap Err p.2))
+      (one_fault c.args.text.now c.in_err-reader.field-0.0 e short here first nm)
+
+pub returns-clause-faults : goal.returns-clause-faults
+returns-clause-faults c =
+    let short : length c.args.text.now ≤ 65536 = omega arith in
+    let r = subst (λ t. run nothing_read (scan 0 0 t) ≡ Ok c.in_ok-reader.reader) c.as_bytes.ensures.value c.in_ok-reader.ensures.ok in
+    λ e first nm. fault_none c.args.text.now e c.in_ok-reader.reader short first nm r
