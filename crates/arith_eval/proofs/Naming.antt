@@ -1,14 +1,14 @@
 -- A map with text keys has the values of its names.
-use Rattle.std.proofs.Common.{◌≡◌, ◌∙◌, ℕ, ℤ, List, [], ◌∷◌, Option, Some, None, cond, refl, sym, ap}
+use Rattle.std.proofs.Common.{◌≡◌, ◌∙◌, ℕ, ℤ, List, [], ◌∷◌, Some, cond, refl, sym, ap}
 use Rattle.std.specs.Prelude.{bytes_eq, string_bytes, String}
 use Rattle.std.specs.Global.{Global}
-use Rattle.std.specs.BTreeMap.{BTreeMap, is_at, get_by_text, UpdatesBy}
+use Rattle.std.specs.BTreeMap.{BTreeMap, UpdatesBy}
 use Rattle.std.specs.Cmp.Lexicographic.{slice_cmp}
-use Rattle.std.specs.Map.{lookup, update}
+use Rattle.std.specs.Map.{lookup}
 use Rattle.std.specs.Ordering.{nat_cmp, is_eq}
 use Rattle.std.specs.String.{string_cmp}
 use Rattle.std.proofs.lemmas.Map.Text.{is_eq-slice_cmp, btree_map_updates_text}
-use Rattle.arith_eval.specs.Names.{Environment, assign, value_in, named}
+use Rattle.arith_eval.specs.Names.{assign, value_in, named}
 
 pub named_value : (entries : List (String Global × ℤ)) (x : List ℕ) → lookup (λ k. is_eq (slice_cmp nat_cmp x (string_bytes k))) entries ≡ value_in (named entries) x
 named_value [] x = refl

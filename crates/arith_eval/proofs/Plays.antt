@@ -1,10 +1,9 @@
 -- The instructions of a tree give its value.
-use Rattle.std.proofs.Common.{◌≡◌, ◌∙◌, ℕ, zero, suc, ◌+◌, ◌-◌, ◌^◌, ◌<◌, ◌≤◌, ℤ, pos, Bool, true, false, cond, List, [], ◌∷◌, ◌++◌, Option, Some, None, Result, Ok, Err, refl, sym, ap, subst, append_assoc, arith, to_z}
-use Rattle.std.specs.Prelude.{◌==◌, not, nat_lt, flat_map}
+use Rattle.std.proofs.Common.{◌≡◌, ◌∙◌, ℕ, suc, ℤ, pos, Bool, true, false, cond, List, [], ◌∷◌, ◌++◌, Option, Some, None, Ok, Err, refl, sym, ap, append_assoc, arith}
+use Rattle.std.specs.Prelude.{◌==◌, not}
 use Rattle.std.specs.List.{AllByRecursion}
-use Rattle.std.specs.Int.{w64, cast_signed}
+use Rattle.std.specs.Int.{w64}
 use Rattle.std.proofs.lemmas.Int.{to_z_pos}
-use Rattle.arith_syntax.specs.declared.operators.UnaryOperator.{UnaryOperator}
 use Rattle.arith_syntax.specs.declared.operators.BinaryOperator.{BinaryOperator}
 use Rattle.arith_syntax.specs.declared.operators.BinaryOperator.TheVariants.{LogicalOr, LogicalAnd, BitOr, BitXor, BitAnd, EqualTo, NotEqualTo, LessThan, LessOrEqual, GreaterThan, GreaterOrEqual, ShiftLeft, ShiftRight, Add, Subtract, Multiply, Divide, Remainder}
 use Rattle.arith_syntax.specs.declared.instruction.Instruction.{Instruction}
@@ -15,8 +14,8 @@ use Rattle.arith_syntax.specs.Written.{written, all_written}
 use Rattle.arith_eval.specs.declared.error.ArithError.{ArithError}
 use Rattle.arith_eval.specs.declared.error.ArithError.TheVariants.{NameError, ZeroDivision, ShiftRange, OutOfMemory}
 use Rattle.arith_eval.specs.Names.{Environment, assign}
-use Rattle.arith_eval.specs.Value.{Number, is_zero, truth, unary, binary, Outcome, outcome, with_value, and_then, load, value_of_name, operation, assigned, value_of, values_from, value_of_program, Evaluates}
-use Rattle.arith_eval.specs.Machine.{Machine, at_rest, Turn, turned, top, below, pushed, infix_act, combine_act, Move, unchanged, stored, act, less, pass, step, goes_on, play, Moves}
+use Rattle.arith_eval.specs.Value.{Number, is_zero, truth, unary, binary, Outcome, outcome, with_value, and_then, value_of_name, operation, value_of, values_from, value_of_program, Evaluates}
+use Rattle.arith_eval.specs.Machine.{Machine, at_rest, turned, top, below, pushed, infix_act, combine_act, unchanged, stored, act, pass, step, goes_on, play, Moves}
 
 abbrev machine : List ℤ → ℕ → ℤ → Machine
 machine stack skip last = record { stack = stack; skip = skip; last = last }
@@ -162,7 +161,7 @@ plain_second op p b go more stack last v names =
     ∙ ap (λ l. play l (machine (v ∷ stack) 0 last) names) (rest_of op b more)
     ∙ go (Combine op ∷ more) (v ∷ stack) last names
     ∙ and_then_same (value_of b names) _ _ (λ w after.
-        ap (λ t. goes_on (unchanged t after) after (λ n z. play more n z)) (p.ends (w ∷ v ∷ stack) last) ∙ push_number (binary op v w) more stack last after)
+    ap (λ t. goes_on (unchanged t after) after (λ n z. play more n z)) (p.ends (w ∷ v ∷ stack) last) ∙ push_number (binary op v w) more stack last after)
     ∙ sym (and_then_then (value_of b names) (λ w after. outcome (binary op v w) after) (λ r after. play more (machine (r ∷ stack) 0 last) after))
 
 second_goes : (op : BinaryOperator) (f : ℤ → ℤ) (b : Tree) → Goes b → (more : List Instruction) (stack : List ℤ) (last : ℤ) (names : Environment) → ((w : ℤ) (after : Environment) → play (Combine op ∷ more) (machine (w ∷ stack) 0 last) after ≡ play more (machine (f w ∷ stack) 0 last) after) → play ((written b ++ Combine op ∷ []) ++ more) (machine stack 0 last) names ≡ and_then (and_then (value_of b names) (λ w after. outcome (Ok (f w)) after)) (λ r after. play more (machine (r ∷ stack) 0 last) after)
@@ -216,9 +215,9 @@ choice_goes false a b ga gb more stack last names =
     ap (λ l. play l (machine stack 0 last) names) (append_assoc (written a) (Else ∷ (written b ++ Choose ∷ [])) more)
     ∙ ga (Else ∷ ((written b ++ Choose ∷ []) ++ more)) stack last names
     ∙ and_then_same (value_of a names) _ _ (λ v after.
-        ap (λ l. play l (machine (v ∷ stack) 1 last) after) (append_assoc (written b) (Choose ∷ []) more)
-        ∙ passes b (Choose ∷ more) (v ∷ stack) 0 last after
-        ∙ passed Choose more (v ∷ stack) 0 last after)
+    ap (λ l. play l (machine (v ∷ stack) 1 last) after) (append_assoc (written b) (Choose ∷ []) more)
+    ∙ passes b (Choose ∷ more) (v ∷ stack) 0 last after
+    ∙ passed Choose more (v ∷ stack) 0 last after)
 
 conditional_goes : (c a b : Tree) → Goes c → Goes a → Goes b → Goes (Conditional c a b)
 conditional_goes c a b gc ga gb = λ more stack last names.
@@ -235,12 +234,12 @@ assignment_goes x None e go = λ more stack last names.
 assignment_goes x (Some op) e go = λ more stack last names.
     push_number (value_of_name names x) ((written e ++ Store x (Some op) ∷ []) ++ more) stack last names
     ∙ with_value_same (value_of_name names x) names _ _ (λ old same.
-        ap (λ l. play l (machine (old ∷ stack) 0 last) same) (append_assoc (written e) (Store x (Some op) ∷ []) more)
-        ∙ go (Store x (Some op) ∷ more) (old ∷ stack) last same
-        ∙ and_then_same (value_of e same) _ _ (λ v after.
-            store_number x (binary op old v) more stack last after
-            ∙ sym (with_value_then (binary op old v) after (λ r end. outcome (Ok r) (assign end x r)) (λ r end. play more (machine (r ∷ stack) 0 last) end)))
-        ∙ sym (and_then_then (value_of e same) _ (λ r after. play more (machine (r ∷ stack) 0 last) after)))
+    ap (λ l. play l (machine (old ∷ stack) 0 last) same) (append_assoc (written e) (Store x (Some op) ∷ []) more)
+    ∙ go (Store x (Some op) ∷ more) (old ∷ stack) last same
+    ∙ and_then_same (value_of e same) _ _ (λ v after.
+    store_number x (binary op old v) more stack last after
+    ∙ sym (with_value_then (binary op old v) after (λ r end. outcome (Ok r) (assign end x r)) (λ r end. play more (machine (r ∷ stack) 0 last) end)))
+    ∙ sym (and_then_then (value_of e same) _ (λ r after. play more (machine (r ∷ stack) 0 last) after)))
     ∙ sym (with_value_then (value_of_name names x) names _ (λ r after. play more (machine (r ∷ stack) 0 last) after))
 
 -- every tree gives its value on top

@@ -1,6 +1,6 @@
 -- Names and their values.
 use Rattle.std.specs.Global.{Global}
-use Rattle.std.specs.Prelude.{map, string_bytes, String, ◌≡◌, ℕ, ℤ, List, [], ◌∷◌, Option, Some, None, bytes_eq, if◌then◌else◌}
+use Rattle.std.specs.Prelude.{map, string_bytes, String, ℕ, ℤ, List, [], ◌∷◌, Option, Some, None, bytes_eq, if◌then◌else◌}
 
 -- the values of the names that have one
 abbrev pub Environment : Type 0

@@ -102,7 +102,7 @@ abbrev pub assigned : List ℕ → Option BinaryOperator → Environment → (En
 assigned x None names value = and_then (value names) (λ v after. outcome (Ok v) (assign after x v))
 assigned x (Some op) names value =
     with_value (value_of_name names x) names (λ old same.
-      and_then (value same) (λ v after. with_value (binary op old v) after (λ r last. outcome (Ok r) (assign last x r))))
+    and_then (value same) (λ v after. with_value (binary op old v) after (λ r last. outcome (Ok r) (assign last x r))))
 
 abbrev pub value_of : Tree → Environment → Outcome
 value_of (Constant n) names = outcome (Ok (pos n)) names

@@ -51,7 +51,11 @@ impl Machine {
     }
 
     /// Runs one instruction.
-    pub fn step(&mut self, instruction: &Instruction, names: &mut Namespace) -> Result<(), ArithError>
+    pub fn step(
+        &mut self,
+        instruction: &Instruction,
+        names: &mut Namespace,
+    ) -> Result<(), ArithError>
         requires { self.old.skip < 2 ^ 63 }
         ensures moves { Moves result self.new (value_in names.old) (value_in names.new) (step instruction.now self.old (value_in names.old)) }
         ensures skip { self.new.skip ≤ self.old.skip + 1 }

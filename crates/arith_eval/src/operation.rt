@@ -24,11 +24,7 @@ pub fn unary(operator: UnaryOperator, a: i64) -> i64
 pub fn truth(holds: bool) -> i64
     ensures { result ≡ truth holds }
 {
-    if holds {
-        1
-    } else {
-        0
-    }
+    if holds { 1 } else { 0 }
 }
 
 /// Two numbers under a binary operator; of `&&` and `||` both are taken.

@@ -10,7 +10,11 @@ use std::alloc::{AllocError, Global};
 use std::test::Fail;
 
 /// What a text gives in a namespace: the name of a fault, and the value, or the count of ShiftRange.
-fn outcome(alloc: Global, names: &mut Namespace, text: &str) -> Result<(&'static str, i64), SyntaxError> {
+fn outcome(
+    alloc: Global,
+    names: &mut Namespace,
+    text: &str,
+) -> Result<(&'static str, i64), SyntaxError> {
     let program = parse(alloc, text)?;
     Ok(match run(alloc, &program, names) {
         Ok(value) => ("Ok", value),
@@ -90,7 +94,10 @@ fn faults(rt: HostRuntime) -> Result<(), Fail> {
 fn assignments_before_a_fault_stand(rt: HostRuntime) -> Result<(), Fail> {
     let alloc = rt.alloc();
     let mut names = Namespace::new(alloc);
-    assert_eq!(rt; outcome(alloc, &mut names, "a=2;b=(a=7)+1/0")?, ("ZeroDivision", 0));
+    assert_eq!(rt;
+        outcome(alloc, &mut names, "a=2;b=(a=7)+1/0")?,
+        ("ZeroDivision", 0)
+    );
     assert_eq!(rt; named(alloc, &names, "a")?, Some(7));
     assert_eq!(rt; named(alloc, &names, "b")?, None);
     assert_eq!(rt; outcome(alloc, &mut names, "a+=(a=1)")?, ("Ok", 8));

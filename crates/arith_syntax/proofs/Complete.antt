@@ -1,5 +1,5 @@
 -- What the grammar allows is read: the tokens of an expression are taken one by one, and give its instructions.
-use Rattle.std.proofs.Common.{◌≡◌, ℕ, suc, ◌+◌, ◌-◌, ◌^◌, ◌<◌, ◌≤◌, max, Bool, true, false, cond, List, [], ◌∷◌, ◌++◌, Option, Some, None, Result, Ok, Err, refl, sym, ap, subst, ◌∙◌, append_assoc, arith}
+use Rattle.std.proofs.Common.{◌≡◌, ℕ, ◌+◌, ◌<◌, ◌≤◌, true, false, cond, List, [], ◌∷◌, ◌++◌, Ok, Err, refl, ap, ◌∙◌, append_assoc, arith}
 use Rattle.std.specs.Prelude.{nat_le, nat_lt, map}
 use Rattle.std.specs.List.{filter, AllByRecursion}
 use Rattle.arith_syntax.specs.declared.operators.UnaryOperator.{UnaryOperator}
@@ -7,16 +7,15 @@ use Rattle.arith_syntax.specs.declared.operators.UnaryOperator.TheVariants.{Plus
 use Rattle.arith_syntax.specs.declared.operators.BinaryOperator.{BinaryOperator}
 use Rattle.arith_syntax.specs.declared.operators.BinaryOperator.TheVariants.{LogicalOr, LogicalAnd, BitOr, BitXor, BitAnd, EqualTo, NotEqualTo, LessThan, LessOrEqual, GreaterThan, GreaterOrEqual, ShiftLeft, ShiftRight, Add, Subtract, Multiply, Divide, Remainder}
 use Rattle.arith_syntax.specs.declared.token.Token.{Token}
-use Rattle.arith_syntax.specs.declared.token.Token.TheVariants.{Number, TooLarge, Name, Binary, Tilde, Exclamation, Assign, Question, Colon, LeftParenthesis, RightParenthesis, Separator, End, Bad}
+use Rattle.arith_syntax.specs.declared.token.Token.TheVariants.{Binary, Question, Colon, RightParenthesis, Separator, End}
 use Rattle.arith_syntax.specs.declared.instruction.Instruction.{Instruction}
 use Rattle.arith_syntax.specs.declared.instruction.Instruction.TheVariants.{Push, Load, Open, Close, Sign, Apply, Infix, Combine, Then, Else, Choose, Target, Store, Finish}
 use Rattle.arith_syntax.specs.declared.pending.Pending.{Pending}
 use Rattle.arith_syntax.specs.declared.pending.Pending.TheVariants.{Parenthesis, Prefixed, Operator, Condition, Alternative, Assigned}
-use Rattle.arith_syntax.specs.declared.refusal.Fault.{Fault}
-use Rattle.arith_syntax.specs.declared.refusal.Fault.TheVariants.{NoToken, Misplaced, Nested, Large}
+use Rattle.arith_syntax.specs.declared.refusal.Fault.TheVariants.{Misplaced}
 use Rattle.arith_syntax.specs.Tree.{Tree, Constant, Variable, Parenthesized, Unary, Operation, Conditional, Assignment, level, level_of, IsExpression, nesting, tokens_of, sign}
 use Rattle.arith_syntax.specs.Grammar.{Fits, joined, is_some_part, IsProgram}
-use Rattle.arith_syntax.specs.Reading.{State, nothing_read, tightness, nests, depth_of, ending, close, Step, waiting, nested, operand, empty_expression, first_step, second_choice, parenthesized, expression_end, may_assign, assignment, next_step, step, steps, after, IsLooser}
+use Rattle.arith_syntax.specs.Reading.{State, nothing_read, tightness, depth_of, ending, close, waiting, nested, second_choice, parenthesized, expression_end, may_assign, step, steps, after, IsLooser}
 
 -- the instructions of an expression on top of others, the newest first
 abbrev pub put : Tree → List Instruction → List Instruction
@@ -213,7 +212,7 @@ reads limit (Operation op a b) code waits rest g adm d =
     ap (steps limit (awaiting code waits)) (append_assoc (tokens_of a) (Binary op ∷ tokens_of b) rest)
     ∙ reads limit a code waits (Binary op ∷ more) g.2 (admits_more waits (level_of op) (level a) g.0 adm) (omega arith)
     ∙ ap (λ (c : State). steps limit (waiting (Infix op) (Operator op) c.code c.waits) more)
-        (closing (level_of op) a code waits g.0 g.2 ∙ stays (level_of op) (put a code) waits (looser_operator waits op adm))
+    (closing (level_of op) a code waits g.0 g.2 ∙ stays (level_of op) (put a code) waits (looser_operator waits op adm))
     ∙ reads limit b (Infix op ∷ put a code) (Operator op ∷ waits) rest g.3 (omega (arith, g.1)) (omega arith)
 reads limit (Conditional c a b) code waits rest g adm d =
     let second = Colon ∷ (tokens_of b ++ rest) in
@@ -223,7 +222,7 @@ reads limit (Conditional c a b) code waits rest g adm d =
     ap (steps limit (awaiting code waits)) split
     ∙ reads limit c code waits first g.2 (admits_more waits 2 (level c) (omega (arith, g.0)) adm) (omega arith)
     ∙ ap (λ (s : State). after (nested limit Then Condition s.code s.waits) (λ t. steps limit t (tokens_of a ++ second)))
-        (closing 3 c code waits g.0 g.2 ∙ stays 3 (put c code) waits (looser_condition waits adm))
+    (closing 3 c code waits g.0 g.2 ∙ stays 3 (put c code) waits (looser_condition waits adm))
     ∙ ap (λ s. after s (λ t. steps limit t (tokens_of a ++ second))) (nested_ok limit Then Condition (put c code) waits (omega arith))
     ∙ reads limit a head (Condition ∷ waits) second g.3 (level_from a) (omega arith)
     ∙ ap (λ (s : State). after (second_choice s.code s.waits) (λ t. steps limit t (tokens_of b ++ rest))) (closing 1 a head (Condition ∷ waits) (level_from a) g.3)

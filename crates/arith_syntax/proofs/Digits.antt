@@ -1,8 +1,7 @@
 -- The value of digits, digit by digit.
-use Rattle.std.proofs.Common.{◌≡◌, ℕ, ◌+◌, ◌*◌, ◌^◌, ◌<◌, ◌≤◌, min, Bool, true, false, cond, List, [], ◌∷◌, ◌++◌, length, take, get_or, refl, sym, ap, ◌∙◌, arith, inl, inr}
+use Rattle.std.proofs.Common.{◌≡◌, ℕ, ◌+◌, ◌*◌, ◌^◌, ◌<◌, ◌≤◌, min, true, false, cond, List, [], ◌∷◌, ◌++◌, refl, sym, ap, ◌∙◌, arith, inl, inr}
 use Rattle.std.specs.Prelude.{nat_lt}
 use Rattle.std.proofs.lemmas.Bool.{cases_lt}
-use Rattle.arith_syntax.specs.declared.token.Token.{Token}
 use Rattle.arith_syntax.specs.declared.token.Token.TheVariants.{Number, TooLarge}
 use Rattle.arith_syntax.specs.Lexical.{digit_value, value_after, number}
 
@@ -18,8 +17,8 @@ value_step base v d cap h =
     elim (cases_lt v cap) [
       | inl lt ↦ let e : min v cap ≡ v = omega arith in ap (λ m. min (m * base + d) cap) e
       | inr le ↦
-        let e : min v cap ≡ cap = omega arith in
-        ap (λ m. min (m * base + d) cap) e ∙ omega (arith, times_least cap base h, times_least v base h)
+          let e : min v cap ≡ cap = omega arith in
+          ap (λ m. min (m * base + d) cap) e ∙ omega (arith, times_least cap base h, times_least v base h)
     ]
 
 lt_yes : (m n : ℕ) → m < n → nat_lt m n ≡ true

@@ -1,33 +1,33 @@
 -- A fault of the reader is the first one of the grammar.
-use Rattle.std.proofs.Common.{◌≡◌, ℕ, suc, ◌+◌, ◌-◌, ◌^◌, ◌<◌, ◌≤◌, max, Bool, true, false, cond, List, [], ◌∷◌, ◌++◌, Option, Some, None, Result, Ok, Err, refl, sym, ap, subst, ◌∙◌, append_assoc, arith}
-use Rattle.std.specs.Prelude.{nat_le, nat_lt, map}
+use Rattle.std.proofs.Common.{◌≡◌, ℕ, ◌+◌, ◌^◌, ◌<◌, ◌≤◌, Bool, true, false, cond, List, [], ◌∷◌, ◌++◌, Option, Some, None, Result, Ok, Err, refl, sym, ap, subst, ◌∙◌, append_assoc, arith}
+use Rattle.std.specs.Prelude.{nat_lt, map}
 use Rattle.std.specs.List.{filter, AllByRecursion}
 use Rattle.arith_syntax.specs.declared.operators.UnaryOperator.{UnaryOperator}
 use Rattle.arith_syntax.specs.declared.operators.UnaryOperator.TheVariants.{Plus, Minus, Complement, Not}
 use Rattle.arith_syntax.specs.declared.operators.BinaryOperator.{BinaryOperator}
-use Rattle.arith_syntax.specs.declared.operators.BinaryOperator.TheVariants.{LogicalOr, LogicalAnd, BitOr, BitXor, BitAnd, EqualTo, NotEqualTo, LessThan, LessOrEqual, GreaterThan, GreaterOrEqual, ShiftLeft, ShiftRight, Add, Subtract, Multiply, Divide, Remainder}
+use Rattle.arith_syntax.specs.declared.operators.BinaryOperator.TheVariants.{Add, Subtract}
 use Rattle.arith_syntax.specs.declared.token.Token.{Token}
 use Rattle.arith_syntax.specs.declared.token.Token.TheVariants.{Number, TooLarge, Name, Binary, Tilde, Exclamation, Assign, Question, Colon, LeftParenthesis, RightParenthesis, Separator, End, Bad}
 use Rattle.arith_syntax.specs.declared.instruction.Instruction.{Instruction}
-use Rattle.arith_syntax.specs.declared.instruction.Instruction.TheVariants.{Push, Load, Open, Close, Sign, Apply, Infix, Combine, Then, Else, Choose, Target, Store, Finish}
+use Rattle.arith_syntax.specs.declared.instruction.Instruction.TheVariants.{Push, Load, Open, Sign, Then, Target}
 use Rattle.arith_syntax.specs.declared.pending.Pending.{Pending}
-use Rattle.arith_syntax.specs.declared.pending.Pending.TheVariants.{Parenthesis, Prefixed, Operator, Condition, Alternative, Assigned}
+use Rattle.arith_syntax.specs.declared.pending.Pending.TheVariants.{Parenthesis, Prefixed, Condition, Assigned}
 use Rattle.arith_syntax.specs.declared.refusal.Fault.{Fault}
 use Rattle.arith_syntax.specs.declared.refusal.Fault.TheVariants as faults
-use Rattle.arith_syntax.specs.Tree.{Tree, Constant, Variable, Parenthesized, Unary, Operation, Conditional, Assignment, level, level_of, IsExpression, nesting, tokens_of, sign}
+use Rattle.arith_syntax.specs.Tree.{Tree, Constant, Variable, Parenthesized, Unary, Operation, Conditional, Assignment, IsExpression, tokens_of, sign}
 use Rattle.arith_syntax.specs.Grammar.{Fits, joined, is_some_part, IsProgram}
-use Rattle.arith_syntax.specs.Reading.{State, nothing_read, tightness, nests, depth_of, ending, close, Step, waiting, nested, operand, empty_expression, first_step, second_choice, parenthesized, expression_end, may_assign, assignment, next_step, step, steps, after, IsLooser}
+use Rattle.arith_syntax.specs.Reading.{State, nothing_read, depth_of, close, Step, waiting, nested, operand, empty_expression, first_step, second_choice, parenthesized, expression_end, may_assign, assignment, next_step, step, steps, after}
 use Rattle.std.specs.Prelude.{◌⊎◌}
 use Rattle.std.proofs.Common.{inl, inr, ◌≢◌, length}
 use Rattle.std.proofs.lemmas.Bool.{cases_lt}
 use Rattle.std.proofs.lemmas.List.{append-nil}
 use Rattle.arith_syntax.specs.declared.error.SyntaxError.{SyntaxError}
 use Rattle.arith_syntax.specs.declared.error.SyntaxError.TheVariants as errors
-use Rattle.arith_syntax.specs.Grammar.{Begins, Misplaced, NestsTooDeep, StandsAt, FirstFault, Grammar, tokens, like}
+use Rattle.arith_syntax.specs.Grammar.{Begins, Misplaced, NestsTooDeep, StandsAt, FirstFault, Grammar, tokens}
 use Rattle.arith_syntax.specs.Lexical.{Lexeme, lexemes}
 use Rattle.arith_syntax.specs.Reading.{error_at, placed, run}
 use Rattle.arith_syntax.proofs.Complete.{put_all, awaiting, program_read}
-use Rattle.arith_syntax.proofs.Sound.{Position, Sound, IsToken, Goes, Whole, state_at, tokens_at, step_sound, end_sound, begins, Stacked, FrameFits, shapes, OperandFits, TopFits, Opened, Signed, Left, Asked, Chosen, Named, Frame}
+use Rattle.arith_syntax.proofs.Sound.{Position, Sound, IsToken, Goes, state_at, tokens_at, step_sound, end_sound, begins, Stacked, FrameFits, shapes, OperandFits, Opened, Signed, Left, Asked, Chosen, Named, Frame}
 
 -- a step is the same within every limit
 pub record Steady (token : Token) (s : State) : Type 0 where
@@ -134,9 +134,9 @@ nested_same : (m n : ℕ) (i : Instruction) (p : Pending) (code : List Instructi
 nested_same m n i p code waits a b x y =
     elim (nested_within m i p code waits) [
       | inl at ↦ elim (nested_within n i p code waits) [
-          | inl bt ↦ let e : ◌≡◌ {A = Step} (Ok a) (Ok b) = sym x ∙ at.1 ∙ sym bt.1 ∙ y in cc
-          | inr bf ↦ absurd cc
-        ]
+        | inl bt ↦ let e : ◌≡◌ {A = Step} (Ok a) (Ok b) = sym x ∙ at.1 ∙ sym bt.1 ∙ y in cc
+        | inr bf ↦ absurd cc
+      ]
       | inr af ↦ absurd cc
     ]
 
@@ -209,9 +209,9 @@ misplaced_always m n token s t x y =
     elim (varies token s) [
       | inl v ↦ let e : ◌≡◌ {A = Step} (Err faults.Misplaced) (Ok t) = sym x ∙ v.1 m ∙ sym (v.1 n) ∙ y in cc
       | inr v ↦ elim (nested_within m v.0 v.1 v.2 v.3) [
-          | inl ok ↦ let e : ◌≡◌ {A = Step} (Err faults.Misplaced) (Ok (waiting v.0 v.1 v.2 v.3)) = sym x ∙ v.4 m ∙ ok.1 in cc
-          | inr deep ↦ let e : ◌≡◌ {A = Step} (Err faults.Misplaced) (Err faults.Nested) = sym x ∙ v.4 m ∙ deep in cc
-        ]
+        | inl ok ↦ let e : ◌≡◌ {A = Step} (Err faults.Misplaced) (Ok (waiting v.0 v.1 v.2 v.3)) = sym x ∙ v.4 m ∙ ok.1 in cc
+        | inr deep ↦ let e : ◌≡◌ {A = Step} (Err faults.Misplaced) (Err faults.Nested) = sym x ∙ v.4 m ∙ deep in cc
+      ]
     ]
 
 -- a constant that is too large is misplaced where every constant is
@@ -271,7 +271,7 @@ higher m n p h s =
       expressions = s.expressions;
       each = each_higher m n p.trees h s.each;
       stacked = stack_higher m n p.frames h s.stacked;
-      operand = operand_higher m n p.frames p.operand h s.operand
+      operand = operand_higher m n p.frames p.operand h s.operand;
     }
 
 -- a token that nests too deep is taken within some higher limit
@@ -290,11 +290,11 @@ deeper m token s e =
     elim (varies token s) [
       | inl v ↦ absurd (v.2 (sym (v.1 m) ∙ e))
       | inr v ↦
-        let n = m + depth_of v.3 + 1 in
-        elim (nested_within n v.0 v.1 v.2 v.3) [
-          | inl ok ↦ record { limit = n; more = omega arith; next = waiting v.0 v.1 v.2 v.3; taken = v.4 n ∙ ok.1 }
-          | inr deep ↦ absurd (not_deep n v.0 v.1 v.2 v.3 (omega arith) deep)
-        ]
+          let n = m + depth_of v.3 + 1 in
+          elim (nested_within n v.0 v.1 v.2 v.3) [
+            | inl ok ↦ record { limit = n; more = omega arith; next = waiting v.0 v.1 v.2 v.3; taken = v.4 n ∙ ok.1 }
+            | inr deep ↦ absurd (not_deep n v.0 v.1 v.2 v.3 (omega arith) deep)
+          ]
     ]
 
 not_both : {x : Step} {t : State} → x ≡ Err faults.Nested → x ≡ Ok t → ⊥
@@ -308,7 +308,7 @@ too_deep p token x g t ne is r e =
     record {
       limit = d.limit;
       deeper = subst (Begins d.limit) (s.tokens ∙ ap (λ l. l ++ token ∷ []) is) (begins d.limit s.to s.sound);
-      none = λ b. let q = goes_on 64 64 x token (state_at p) r b in not_both e q.1
+      none = λ b. let q = goes_on 64 64 x token (state_at p) r b in not_both e q.1;
     }
 
 -- what a text's lexemes are: tokens, and at last the end or octets that are none
@@ -477,15 +477,17 @@ fault_here text before p l more faults.Nested at split proper e =
     elim proper [
       | inl ends ↦ absurd (end_never_deep (state_at p).complete (state_at p) (subst (λ t. step 64 t (state_at p) ≡ Err faults.Nested) ends.0 e))
       | inr other ↦ elim other [
-          | inl bad ↦ absurd (bad_flat (state_at p).complete (state_at p) (subst (λ t. step 64 t (state_at p) ≡ Err faults.Nested) bad.0 e))
-          | inr good ↦ (before, l.0, stands text before p l more at split, too_deep p l.0 (tokens before) at.sound good.0 good.1 at.tokens_are at.read e)
-        ]
+        | inl bad ↦ absurd (bad_flat (state_at p).complete (state_at p) (subst (λ t. step 64 t (state_at p) ≡ Err faults.Nested) bad.0 e))
+        | inr good ↦ (before, l.0, stands text before p l more at split, too_deep p l.0 (tokens before) at.sound good.0 good.1 at.tokens_are at.read e)
+      ]
     ]
 fault_here text before p l more faults.Large at split proper e =
     let is = large_is (state_at p).complete l.0 (state_at p) e in
-    let goes = step_sound 64 p (Number 0) _ at.sound zero_token number_is_token (number_taken (state_at p) is.1) in
-    (before, subst (λ t. StandsAt text before t l.1) is.0 (stands text before p l more at split),
-      subst (Begins 64) (goes.tokens ∙ ap (λ x. x ++ Number 0 ∷ []) at.tokens_are) (begins 64 goes.to goes.sound))
+    let goes = step_sound 64 p (Number 0) _ at.sound zero_token number_is_token (number_taken (state_at p) is.1) in (
+      before,
+      subst (λ t. StandsAt text before t l.1) is.0 (stands text before p l more at split),
+      subst (Begins 64) (goes.tokens ∙ ap (λ x. x ++ Number 0 ∷ []) at.tokens_are) (begins 64 goes.to goes.sound),
+    )
 
 tokens_more : (before : List Lexeme) (l : Lexeme) → tokens (before ++ l ∷ []) ≡ tokens before ++ l.0 ∷ []
 tokens_more [] l = refl
@@ -502,10 +504,10 @@ further text before p l s at goes e =
       sound = goes.sound;
       tokens_are = goes.tokens ∙ ap (λ x. x ++ l.0 ∷ []) at.tokens_are ∙ sym (tokens_more before l);
       read = ap (steps 64 nothing_read) (tokens_more before l)
-        ∙ steps_append 64 nothing_read (tokens before) (l.0 ∷ [])
-        ∙ ap (λ r. after r (λ t. steps 64 t (l.0 ∷ []))) at.read
-        ∙ ap (λ r. after r (λ t. steps 64 t [])) e
-        ∙ ap Ok goes.state
+          ∙ steps_append 64 nothing_read (tokens before) (l.0 ∷ [])
+          ∙ ap (λ r. after r (λ t. steps 64 t (l.0 ∷ []))) at.read
+          ∙ ap (λ r. after r (λ t. steps 64 t [])) e
+          ∙ ap Ok goes.state;
     }
 
 run_end : (s : State) (more : List Lexeme) → more ≡ [] → (e : SyntaxError) → run s more ≡ Err e → ⊥
@@ -523,11 +525,11 @@ run_fault text before (l ∷ more) p e at split proper h =
           elim proper [
             | inl ends ↦ absurd (run_end s more ends.1 e go)
             | inr other ↦ elim other [
-                | inl bad ↦ absurd (bad_stops (state_at p).complete (state_at p) s (subst (λ t. step 64 t (state_at p) ≡ Ok s) bad.0 is))
-                | inr good ↦
+              | inl bad ↦ absurd (bad_stops (state_at p).complete (state_at p) s (subst (λ t. step 64 t (state_at p) ≡ Ok s) bad.0 is))
+              | inr good ↦
                   let goes = step_sound 64 p l.0 s at.sound good.0 good.1 is in
                   run_fault text (before ++ l ∷ []) more goes.to e (further text before p l s at goes is) (split ∙ sym (append_assoc before (l ∷ []) more)) good.2 (subst (λ t. run t more ≡ Err e) goes.state go)
-              ]
+            ]
           ]
       | Err f ↦ λ is go. subst (FirstFault text) (err_is (error_at f l.1) e go) (fault_here text before p l more f at split proper is)
     ] refl h
@@ -549,23 +551,23 @@ run_program text before (l ∷ more) p t at split proper h =
       | Ok s ↦ λ is go.
           elim proper [
             | inl ends ↦
-              let whole = end_sound 64 p s at.sound (subst (λ u. step 64 u (state_at p) ≡ Ok s) ends.0 is) in
-              record {
-                trees = whole.trees;
-                grammar = record {
-                  short = at.short;
-                  all = tokens_at p;
-                  read = ap tokens split ∙ tokens_end before l more ends.0 ends.1 ∙ ap (λ x. x ++ End ∷ []) (sym at.tokens_are);
-                  program = whole.program
-                };
-                state = run_nothing s t more ends.1 go ∙ whole.state
-              }
+                let whole = end_sound 64 p s at.sound (subst (λ u. step 64 u (state_at p) ≡ Ok s) ends.0 is) in
+                record {
+                  trees = whole.trees;
+                  grammar = record {
+                    short = at.short;
+                    all = tokens_at p;
+                    read = ap tokens split ∙ tokens_end before l more ends.0 ends.1 ∙ ap (λ x. x ++ End ∷ []) (sym at.tokens_are);
+                    program = whole.program;
+                  };
+                  state = run_nothing s t more ends.1 go ∙ whole.state;
+                }
             | inr other ↦ elim other [
-                | inl bad ↦ absurd (bad_stops (state_at p).complete (state_at p) s (subst (λ u. step 64 u (state_at p) ≡ Ok s) bad.0 is))
-                | inr good ↦
+              | inl bad ↦ absurd (bad_stops (state_at p).complete (state_at p) s (subst (λ u. step 64 u (state_at p) ≡ Ok s) bad.0 is))
+              | inr good ↦
                   let goes = step_sound 64 p l.0 s at.sound good.0 good.1 is in
                   run_program text (before ++ l ∷ []) more goes.to t (further text before p l s at goes is) (split ∙ sym (append_assoc before (l ∷ []) more)) good.2 (subst (λ u. run u more ≡ Ok t) goes.state go)
-              ]
+            ]
           ]
       | Err f ↦ λ is go. absurd cc
     ] refl h
@@ -620,7 +622,7 @@ reach_from limit p (t ∷ ts) s g plain e =
       at = more.at;
       sound = more.sound;
       state = more.state;
-      tokens_are = more.tokens_are ∙ ap (λ l. l ++ ts) goes.tokens ∙ append_assoc (tokens_at p) (t ∷ []) ts
+      tokens_are = more.tokens_are ∙ ap (λ l. l ++ ts) goes.tokens ∙ append_assoc (tokens_at p) (t ∷ []) ts;
     }
 
 not_empty : (before : List Lexeme) (l : Lexeme) (more : List Lexeme) → before ++ l ∷ more ≡ [] → ⊥
@@ -634,9 +636,9 @@ plain_before (b ∷ before) l more p =
     elim p [
       | inl ends ↦ absurd (not_empty before l more ends.1)
       | inr other ↦ elim other [
-          | inl bad ↦ absurd (not_empty before l more bad.1)
-          | inr good ↦ (good.0, good.1, plain_before before l more good.2)
-        ]
+        | inl bad ↦ absurd (not_empty before l more bad.1)
+        | inr good ↦ (good.0, good.1, plain_before before l more good.2)
+      ]
     ]
 
 proper_at : (before : List Lexeme) (l : Lexeme) (more : List Lexeme) → Proper (before ++ l ∷ more) → Proper (l ∷ more)
@@ -645,9 +647,9 @@ proper_at (b ∷ before) l more p =
     elim p [
       | inl ends ↦ absurd (not_empty before l more ends.1)
       | inr other ↦ elim other [
-          | inl bad ↦ absurd (not_empty before l more bad.1)
-          | inr good ↦ proper_at before l more good.2
-        ]
+        | inl bad ↦ absurd (not_empty before l more bad.1)
+        | inr good ↦ proper_at before l more good.2
+      ]
     ]
 
 -- the reader at a lexeme up to which the text can go on as a program
@@ -675,7 +677,7 @@ stopped_at text before token at proper s =
       place = reach_from 64 start (tokens before) r.0 start_sound (plain_before before (token, at) s.after all) r.1;
       rest = s.after;
       proper = proper_at before (token, at) s.after all;
-      runs = ap (run nothing_read) s.split ∙ run_before nothing_read r.0 before ((token, at) ∷ s.after) r.1
+      runs = ap (run nothing_read) s.split ∙ run_before nothing_read r.0 before ((token, at) ∷ s.after) r.1;
     }
 
 -- each fault of the grammar is what the step gives
@@ -747,7 +749,7 @@ plain_tree (Unary op e) g = ((plain_sign op).0, (plain_sign op).1, plain_tree e 
 plain_tree (Operation op a b) g = plain_append (tokens_of a) (Binary op ∷ tokens_of b) (plain_tree a g.2) (tt, (λ e. cc), plain_tree b g.3)
 plain_tree (Conditional c a b) g =
     plain_append (tokens_of c) (Question ∷ (tokens_of a ++ Colon ∷ tokens_of b)) (plain_tree c g.2)
-      (tt, (λ e. cc), plain_append (tokens_of a) (Colon ∷ tokens_of b) (plain_tree a g.3) (tt, (λ e. cc), plain_tree b g.4))
+    (tt, (λ e. cc), plain_append (tokens_of a) (Colon ∷ tokens_of b) (plain_tree a g.3) (tt, (λ e. cc), plain_tree b g.4))
 plain_tree (Assignment x op e) g = (g.0, (λ e. cc), (g.1, (λ e. cc), plain_tree e g.2))
 
 plain_parts : (limit : ℕ) (first : List Token) (more : List (List Token)) (trees : List Tree) → filter is_some_part (first ∷ more) ≡ map tokens_of trees → AllByRecursion (Fits limit) trees → Plain (joined first more)
@@ -785,9 +787,9 @@ misplaced_fault x s l more r read proper m faults.Nested e =
     elim proper [
       | inl ends ↦ absurd (end_never_deep s.complete s (subst (λ t. step 64 t s ≡ Err faults.Nested) ends.0 e))
       | inr other ↦ elim other [
-          | inl bad ↦ absurd (bad_flat s.complete s (subst (λ t. step 64 t s ≡ Err faults.Nested) bad.0 e))
-          | inr good ↦ let d = deep_here x s l.0 r read good.0 good.1 e in absurd (no_go x s l.0 read m good.1 d.limit d.deeper)
-        ]
+        | inl bad ↦ absurd (bad_flat s.complete s (subst (λ t. step 64 t s ≡ Err faults.Nested) bad.0 e))
+        | inr good ↦ let d = deep_here x s l.0 r read good.0 good.1 e in absurd (no_go x s l.0 read m good.1 d.limit d.deeper)
+      ]
     ]
 misplaced_fault x s l more r read proper m faults.Large e =
     let is = large_is s.complete l.0 s e in
@@ -804,14 +806,14 @@ misplaced_step : (x : List Token) (s : State) (l : Lexeme) (more : List Lexeme) 
 misplaced_step x s l more r read proper m =
     elim (step_or (step 64 l.0 s)) [
       | inl ok ↦ elim proper [
-          | inl ends ↦
+        | inl ends ↦
             let whole = taken_ends x s ok.0 r (subst (λ t. step 64 t s ≡ Ok ok.0) ends.0 ok.1) in
             absurd (subst (Misplaced x) ends.0 m 64 whole.0 whole.1)
-          | inr other ↦ elim other [
-              | inl bad ↦ absurd (bad_never 64 s.complete s ok.0 (subst (λ t. step 64 t s ≡ Ok ok.0) bad.0 ok.1))
-              | inr good ↦ absurd (no_go x s l.0 read m good.1 64 (taken_begins 64 x l.0 s ok.0 r good.0 good.1 ok.1))
-            ]
+        | inr other ↦ elim other [
+          | inl bad ↦ absurd (bad_never 64 s.complete s ok.0 (subst (λ t. step 64 t s ≡ Ok ok.0) bad.0 ok.1))
+          | inr good ↦ absurd (no_go x s l.0 read m good.1 64 (taken_begins 64 x l.0 s ok.0 r good.0 good.1 ok.1))
         ]
+      ]
       | inr err ↦ misplaced_fault x s l more r read proper m err.0 err.1
     ]
 

@@ -1,10 +1,9 @@
 -- What is printed is read again.
-use Rattle.std.proofs.Common.{◌≡◌, ◌≢◌, ℕ, zero, suc, ◌+◌, ◌-◌, ◌*◌, ◌^◌, ◌<◌, ◌≤◌, Bool, true, false, cond, Option, Some, None, List, [], ◌∷◌, ◌++◌, length, take, drop, get_or, refl, sym, ap, subst, ◌∙◌, append_assoc, arith, inl, inr}
-use Rattle.std.specs.Prelude.{nat_lt, nat_le, ◌==◌, ◌&&◌, ◌||◌, ◌⊎◌, flat_map, map, codes}
+use Rattle.std.proofs.Common.{◌≡◌, ℕ, zero, suc, ◌+◌, ◌-◌, ◌*◌, ◌^◌, ◌<◌, ◌≤◌, Bool, true, false, cond, Option, Some, None, List, [], ◌∷◌, ◌++◌, length, take, drop, get_or, refl, sym, ap, subst, ◌∙◌, append_assoc, arith}
+use Rattle.std.specs.Prelude.{nat_lt, nat_le, ◌==◌, ◌&&◌, ◌||◌, flat_map, map}
 use Rattle.std.specs.List.{list_all, prefix_len, filter, AllByRecursion}
 use Rattle.std.specs.Fmt.{decimal}
 use Rattle.std.specs.Int.{IsInRange}
-use Rattle.std.proofs.lemmas.Bool.{cases_lt}
 use Rattle.std.proofs.lemmas.Bool.Decides.{nat_tests}
 use Rattle.std.proofs.lemmas.List.{append-nil}
 use Rattle.std.proofs.lemmas.Fmt.{digits_decimal, digits_value-decimal, first_decimal, decimal_nonempty, decimal_digit}
@@ -15,15 +14,14 @@ use Rattle.arith_syntax.specs.declared.operators.BinaryOperator.{BinaryOperator}
 use Rattle.arith_syntax.specs.declared.operators.BinaryOperator.TheVariants.{LogicalOr, LogicalAnd, BitOr, BitXor, BitAnd, EqualTo, NotEqualTo, LessThan, LessOrEqual, GreaterThan, GreaterOrEqual, ShiftLeft, ShiftRight, Add, Subtract, Multiply, Divide, Remainder}
 use Rattle.arith_syntax.specs.declared.token.Token.{Token}
 use Rattle.arith_syntax.specs.declared.token.Token.TheVariants.{Number, TooLarge, Name, Binary, Tilde, Exclamation, Assign, Question, Colon, LeftParenthesis, RightParenthesis, Separator, End, Bad}
-use Rattle.arith_syntax.specs.Tree.{Tree, Constant, Variable, Parenthesized, Unary, Operation, Conditional, Assignment, is_digit, is_letter, is_word, begins_name, IsName, assigns, sign, tokens_of, IsExpression}
-use Rattle.arith_syntax.specs.Lexical.{is_blank, digit_value, value_after, number, constant_of, is_octal, is_hexadecimal, begins_hexadecimal, constant, word, run_of, with_equals, doubled, single, shifts, is_bad, or_shorter, symbol, token_at, Lexeme, found, scan, lexemes}
-use Rattle.arith_syntax.specs.Grammar.{Fits, Grammar, IsProgram, tokens, is_some_part}
+use Rattle.arith_syntax.specs.Tree.{Tree, Constant, Variable, Parenthesized, Unary, Operation, Conditional, Assignment, is_digit, is_letter, is_word, IsName, assigns, sign, tokens_of, IsExpression}
+use Rattle.arith_syntax.specs.Lexical.{is_blank, value_after, number, begins_hexadecimal, constant, word, run_of, is_bad, or_shorter, symbol, token_at, found, scan, lexemes}
+use Rattle.arith_syntax.specs.Grammar.{Fits, Grammar, tokens, is_some_part}
 use Rattle.arith_syntax.specs.declared.instruction.Instruction.{Instruction}
-use Rattle.arith_syntax.specs.declared.instruction.Instruction.TheVariants.{Push, Load, Open, Close, Sign, Apply, Infix, Combine, Then, Else, Choose, Target, Store, Finish}
+use Rattle.arith_syntax.specs.declared.instruction.Instruction.TheVariants.{Close, Apply, Infix, Combine, Then, Else, Choose, Store, Finish}
 use Rattle.arith_syntax.specs.Written.{written, all_written}
-use Rattle.arith_syntax.specs.Printing.{operator_text, sign_text, assignment_text, spelled, spaced, line, printed, instruction_text}
-use Rattle.arith_syntax.proofs.Digits.{value_after_more}
-use Rattle.arith_syntax.proofs.Sound.{IsToken, over, program_without, some_tokens}
+use Rattle.arith_syntax.specs.Printing.{sign_text, spelled, spaced, line, printed, instruction_text}
+use Rattle.arith_syntax.proofs.Sound.{over, program_without, some_tokens}
 use Rattle.arith_syntax.proofs.Words.{scan_skip}
 
 -- a spelled token is the first of a text, and no blank
@@ -150,8 +148,8 @@ name_shown (c ∷ cs) n =
       some = omega arith;
       plain = letter_blank c n.begins;
       first = λ rest. run_token c cs rest n.words
-        ∙ ap (λ b. (cond b (cond (nat_le (length (c ∷ cs)) 255) (Name (c ∷ cs)) Bad) (constant (c ∷ cs)), length (c ∷ cs))) n.begins
-        ∙ ap (λ b. (cond b (Name (c ∷ cs)) Bad, length (c ∷ cs))) (le_true (length (c ∷ cs)) 255 n.short)
+          ∙ ap (λ b. (cond b (cond (nat_le (length (c ∷ cs)) 255) (Name (c ∷ cs)) Bad) (constant (c ∷ cs)), length (c ∷ cs))) n.begins
+          ∙ ap (λ b. (cond b (Name (c ∷ cs)) Bad, length (c ∷ cs))) (le_true (length (c ∷ cs)) 255 n.short);
     }
 
 digit_range : (c : ℕ) → is_digit c ≡ true → IsInRange 48 57 c
@@ -165,16 +163,16 @@ and_true a b x y = ap (λ c. c && b) x ∙ y
 
 digits_test : IsDigitsTest (λ ds. list_all is_digit ds ≡ true)
 digits_test = record {
-    empty = refl;
-    parts = λ c cs h. let p = and_parts (is_digit c) (list_all is_digit cs) h in (digit_range c p.0, p.1);
-    more = λ c cs h k. and_true (is_digit c) (list_all is_digit cs) (range_digit c h) k
-  }
+  empty = refl;
+  parts = λ c cs h. let p = and_parts (is_digit c) (list_all is_digit cs) h in (digit_range c p.0, p.1);
+  more = λ c cs h k. and_true (is_digit c) (list_all is_digit cs) (range_digit c h) k;
+}
 
 digits_fold : FoldsDigits (value_after 10)
 digits_fold = record {
-    empty = λ n. refl;
-    more = λ n c cs h. ap (λ b. value_after 10 (n * 10 + cond b (c - 48) (cond (nat_le 97 c) (c - 87) (c - 55))) cs) (range_digit c h)
-  }
+  empty = λ n. refl;
+  more = λ n c cs h. ap (λ b. value_after 10 (n * 10 + cond b (c - 48) (cond (nat_le 97 c) (c - 87) (c - 55))) cs) (range_digit c h);
+}
 
 own : IsNumeralModel (λ ds. list_all is_digit ds ≡ true) (value_after 10 0)
 own = numerals_by_fold (λ ds. list_all is_digit ds ≡ true) digits_test (value_after 10) digits_fold
@@ -253,16 +251,19 @@ numeral (suc m) h =
     record {
       digits = digits_decimal own n fits;
       some = decimal_nonempty n fits;
-      is = decimal_constant (decimal n) n (digits_decimal own n fits) (first_decimal n (omega arith) fits) (digits_value-decimal own n fits) h
+      is = decimal_constant (decimal n) n (digits_decimal own n fits) (first_decimal n (omega arith) fits) (digits_value-decimal own n fits) h;
     }
 
 numeral_shown : (ds : List ℕ) (n : ℕ) → Numeral ds n → (0 < length ds) × (is_blank (get_or ds 0 0) ≡ false) × ((rest : List ℕ) → token_at (ds ++ 32 ∷ rest) ≡ (Number n, length ds))
 numeral_shown [] n d = absurd (omega (arith, d.some))
 numeral_shown (c ∷ cs) n d =
-    let p = and_parts (is_digit c) (list_all is_digit cs) d.digits in
-    (omega arith, digit_blank c p.0, λ rest.
-      run_token c cs rest (digits_words (c ∷ cs) d.digits)
-      ∙ ap (λ t. (t, length (c ∷ cs))) (cond_false (is_letter c) (cond (nat_le (length (c ∷ cs)) 255) (Name (c ∷ cs)) Bad) (constant (c ∷ cs)) (digit_letter c p.0) ∙ d.is))
+    let p = and_parts (is_digit c) (list_all is_digit cs) d.digits in (
+      omega arith,
+      digit_blank c p.0,
+      λ rest.
+          run_token c cs rest (digits_words (c ∷ cs) d.digits)
+          ∙ ap (λ t. (t, length (c ∷ cs))) (cond_false (is_letter c) (cond (nat_le (length (c ∷ cs)) 255) (Name (c ∷ cs)) Bad) (constant (c ∷ cs)) (digit_letter c p.0) ∙ d.is),
+    )
 
 number_shown : (n : ℕ) → n < 2 ^ 63 → Shown (Number n)
 number_shown n h = let s = numeral_shown (decimal n) n (numeral n h) in record { some = s.0; plain = s.1; first = s.2 }
@@ -278,14 +279,15 @@ room (x ∷ xs) c rest = let h = room xs c rest in omega (arith, h)
 -- a spelled token and a space are one lexeme
 shown_at : (token : Token) (x : ℕ) (xs : List ℕ) → is_bad token ≡ false → is_blank x ≡ false → (at : ℕ) (rest : List ℕ) → token_at ((x ∷ xs) ++ 32 ∷ rest) ≡ (token, length (x ∷ xs)) → (next : ℕ) × (tokens (scan 0 at ((x ∷ xs) ++ 32 ∷ rest)) ≡ token ∷ tokens (scan 0 next rest))
 shown_at token x xs good plain at rest first =
-    let less : length (x ∷ xs) - 1 ≡ length xs = omega arith in
-    (at + 1 + length xs + 1,
+    let less : length (x ∷ xs) - 1 ≡ length xs = omega arith in (
+      at + 1 + length xs + 1,
       ap (λ b. tokens (cond b (scan 0 (at + 1) (xs ++ 32 ∷ rest)) (found (token_at ((x ∷ xs) ++ 32 ∷ rest)).0 at (scan ((token_at ((x ∷ xs) ++ 32 ∷ rest)).1 - 1) (at + 1) (xs ++ 32 ∷ rest))))) plain
-      ∙ ap (λ (p : Token × ℕ). tokens (found p.0 at (scan (p.1 - 1) (at + 1) (xs ++ 32 ∷ rest)))) first
-      ∙ ap (λ b. tokens (cond b ((Bad, at) ∷ []) ((token, at) ∷ scan (length (x ∷ xs) - 1) (at + 1) (xs ++ 32 ∷ rest)))) good
-      ∙ ap (λ n. token ∷ tokens (scan n (at + 1) (xs ++ 32 ∷ rest))) less
-      ∙ ap (λ l. token ∷ tokens l) (scan_skip (length xs) (at + 1) (xs ++ 32 ∷ rest) (room xs 32 rest)
-        ∙ ap (scan 0 (at + 1 + length xs)) (ltail xs 32 rest)))
+          ∙ ap (λ (p : Token × ℕ). tokens (found p.0 at (scan (p.1 - 1) (at + 1) (xs ++ 32 ∷ rest)))) first
+          ∙ ap (λ b. tokens (cond b ((Bad, at) ∷ []) ((token, at) ∷ scan (length (x ∷ xs) - 1) (at + 1) (xs ++ 32 ∷ rest)))) good
+          ∙ ap (λ n. token ∷ tokens (scan n (at + 1) (xs ++ 32 ∷ rest))) less
+          ∙ ap (λ l. token ∷ tokens l) (scan_skip (length xs) (at + 1) (xs ++ 32 ∷ rest) (room xs 32 rest)
+          ∙ ap (scan 0 (at + 1 + length xs)) (ltail xs 32 rest)),
+    )
 
 shown_by : (token : Token) (text : List ℕ) → is_bad token ≡ false → 0 < length text → is_blank (get_or text 0 0) ≡ false → (at : ℕ) (rest : List ℕ) → token_at (text ++ 32 ∷ rest) ≡ (token, length text) → (next : ℕ) × (tokens (scan 0 at (text ++ 32 ∷ rest)) ≡ token ∷ tokens (scan 0 next rest))
 shown_by token [] good some plain at rest first = absurd (omega arith)
@@ -343,8 +345,8 @@ tree_spells (Operation op a b) g =
     both_spell (tokens_of a) (Binary op ∷ tokens_of b) (tree_spells a g.2) (more_spells (Binary op) (tokens_of b) (operator_shown op) refl (tree_spells b g.3))
 tree_spells (Conditional c a b) g =
     both_spell (tokens_of c) (Question ∷ (tokens_of a ++ Colon ∷ tokens_of b)) (tree_spells c g.2)
-      (more_spells Question (tokens_of a ++ Colon ∷ tokens_of b) question_shown refl
-        (both_spell (tokens_of a) (Colon ∷ tokens_of b) (tree_spells a g.3) (more_spells Colon (tokens_of b) colon_shown refl (tree_spells b g.4))))
+    (more_spells Question (tokens_of a ++ Colon ∷ tokens_of b) question_shown refl
+    (both_spell (tokens_of a) (Colon ∷ tokens_of b) (tree_spells a g.3) (more_spells Colon (tokens_of b) colon_shown refl (tree_spells b g.4))))
 tree_spells (Assignment x op e) g =
     more_spells (Name x) (Assign op ∷ tokens_of e) (name_shown x g.0) refl (more_spells (Assign op) (tokens_of e) (assign_shown op g.1) refl (tree_spells e g.2))
 
@@ -389,7 +391,7 @@ printed_is trees h short =
       short = short;
       all = over (map tokens_of trees) ++ [];
       read = printed_reads trees h 0 ∙ ap (λ l. l ++ End ∷ []) (sym (append-nil (over (map tokens_of trees))));
-      program = program_without 64 (map tokens_of trees) trees (all_some trees) h
+      program = program_without 64 (map tokens_of trees) trees (all_some trees) h;
     }
 
 flat_text : (x y : List Instruction) → flat_map instruction_text (x ++ y) ≡ flat_map instruction_text x ++ flat_map instruction_text y
@@ -420,10 +422,10 @@ tree_text (Conditional c a b) =
     flat_text (written c) (Then ∷ (written a ++ Else ∷ (written b ++ Choose ∷ [])))
     ∙ ap (λ l. l ++ (spaced Question ++ flat_map instruction_text (written a ++ Else ∷ (written b ++ Choose ∷ [])))) (tree_text c)
     ∙ ap (λ l. flat_map spaced (tokens_of c) ++ (spaced Question ++ l))
-        (flat_text (written a) (Else ∷ (written b ++ Choose ∷ []))
-        ∙ ap (λ l. l ++ (spaced Colon ++ flat_map instruction_text (written b ++ Choose ∷ []))) (tree_text a)
-        ∙ ap (λ l. flat_map spaced (tokens_of a) ++ (spaced Colon ++ l)) (flat_text (written b) (Choose ∷ []) ∙ append-nil (flat_map instruction_text (written b)) ∙ tree_text b)
-        ∙ sym (flat_append (tokens_of a) (Colon ∷ tokens_of b)))
+    (flat_text (written a) (Else ∷ (written b ++ Choose ∷ []))
+    ∙ ap (λ l. l ++ (spaced Colon ++ flat_map instruction_text (written b ++ Choose ∷ []))) (tree_text a)
+    ∙ ap (λ l. flat_map spaced (tokens_of a) ++ (spaced Colon ++ l)) (flat_text (written b) (Choose ∷ []) ∙ append-nil (flat_map instruction_text (written b)) ∙ tree_text b)
+    ∙ sym (flat_append (tokens_of a) (Colon ∷ tokens_of b)))
     ∙ sym (flat_append (tokens_of c) (Question ∷ (tokens_of a ++ Colon ∷ tokens_of b)))
 tree_text (Assignment x op e) =
     append_assoc (spaced (Name x)) (spaced (Assign op)) (flat_map instruction_text (written e ++ Store x op ∷ []))

@@ -1,15 +1,12 @@
 -- One token of a text is one lexeme.
-use Rattle.std.proofs.Common.{◌≡◌, ◌≢◌, ℕ, zero, suc, ◌+◌, ◌-◌, ◌<◌, ◌≤◌, Bool, true, false, cond, List, [], ◌∷◌, ◌++◌, length, take, drop, get_or, Result, Ok, Err, refl, sym, ap, subst, ◌∙◌, arith, inl, inr, length-drop}
-use Rattle.std.specs.Prelude.{◌⊎◌}
+use Rattle.std.proofs.Common.{◌≡◌, ℕ, suc, ◌+◌, ◌-◌, ◌<◌, ◌≤◌, Bool, true, false, cond, List, [], ◌∷◌, length, take, drop, get_or, Ok, Err, refl, sym, ap, subst, ◌∙◌, arith, length-drop}
 use Rattle.std.proofs.Math.Seq.{drop-cons}
 use Rattle.std.proofs.lemmas.List.{drop-drop, take_rest}
-use Rattle.arith_syntax.specs.declared.error.SyntaxError.{SyntaxError}
-use Rattle.arith_syntax.specs.declared.refusal.Fault.{Fault}
 use Rattle.arith_syntax.specs.declared.refusal.Fault.TheVariants as faults
 use Rattle.arith_syntax.specs.declared.token.Token.{Token}
-use Rattle.arith_syntax.specs.declared.token.Token.TheVariants.{Number, TooLarge, Name, Binary, Tilde, Exclamation, Assign, Question, Colon, LeftParenthesis, RightParenthesis, Separator, End, Bad}
+use Rattle.arith_syntax.specs.declared.token.Token.TheVariants.{Bad}
 use Rattle.arith_syntax.specs.Lexical.{is_blank, is_bad, token_at, Lexeme, found, scan}
-use Rattle.arith_syntax.specs.Reading.{State, Step, step, next_step, first_step, run, placed, error_at}
+use Rattle.arith_syntax.specs.Reading.{State, Step, step, next_step, first_step, run, placed}
 use Rattle.arith_syntax.proofs.Words.{token_long, scan_skip}
 
 bad_is : (t : Token) → is_bad t ≡ true → t ≡ Bad
@@ -37,7 +34,7 @@ lexeme_at : (text : List ℕ) (at : ℕ) → at < length text → false ≡ is_b
 lexeme_at text at lt nb =
     let front : drop at text ≡ get_or text at 0 ∷ drop (suc at) text = drop-cons text at 0 lt in
     subst (λ l. scan 0 at l ≡ found (token_at l).0 at (scan ((token_at l).1 - 1) (at + 1) (drop (suc at) text))) (sym front)
-      (blank_skip (is_blank (get_or text at 0)) _ _ (sym nb))
+    (blank_skip (is_blank (get_or text at 0)) _ _ (sym nb))
 
 -- where a token is taken
 pub record Taken (text : List ℕ) (at : ℕ) (count : ℕ) (s u : State) : Type 0 where
@@ -66,10 +63,10 @@ taken text at t count s u lt nb is h =
       forward = one;
       within = omega arith;
       same = ap (run s) (lexeme_at text at lt nb)
-        ∙ ap (λ (p : Token × ℕ). run s (found p.0 at (scan (p.1 - 1) (at + 1) (drop (suc at) text)))) here
-        ∙ ap (λ b. run s (cond b ((Bad, at) ∷ []) ((t, at) ∷ scan (count - 1) (at + 1) (drop (suc at) text)))) ok
-        ∙ ap (λ r. placed at r (λ v. run v (scan (count - 1) (at + 1) (drop (suc at) text)))) h
-        ∙ ap (run u) (scan_skip (count - 1) (at + 1) (drop (suc at) text) less
+          ∙ ap (λ (p : Token × ℕ). run s (found p.0 at (scan (p.1 - 1) (at + 1) (drop (suc at) text)))) here
+          ∙ ap (λ b. run s (cond b ((Bad, at) ∷ []) ((t, at) ∷ scan (count - 1) (at + 1) (drop (suc at) text)))) ok
+          ∙ ap (λ r. placed at r (λ v. run v (scan (count - 1) (at + 1) (drop (suc at) text)))) h
+          ∙ ap (run u) (scan_skip (count - 1) (at + 1) (drop (suc at) text) less
           ∙ ap (λ l. scan 0 (at + 1 + (count - 1)) l) (drop-drop (count - 1) (suc at) text ∙ ap (λ n. drop n text) back)
-          ∙ ap (λ n. scan 0 n (drop (at + count) text)) place)
+          ∙ ap (λ n. scan 0 n (drop (at + count) text)) place);
     }

@@ -1,29 +1,28 @@
 -- What is read is in the grammar: what was read so far is expressions that are over, and one that has begun.
-use Rattle.std.proofs.Common.{◌≡◌, ℕ, suc, ◌+◌, ◌-◌, ◌^◌, ◌<◌, ◌≤◌, max, Bool, true, false, cond, List, [], ◌∷◌, ◌++◌, Option, Some, None, Result, Ok, Err, refl, sym, ap, subst, ◌∙◌, append_assoc, arith}
+use Rattle.std.proofs.Common.{◌≡◌, ℕ, ◌+◌, ◌^◌, ◌<◌, ◌≤◌, Bool, true, false, cond, List, [], ◌∷◌, ◌++◌, Option, Some, None, Ok, Err, refl, sym, ap, subst, ◌∙◌, append_assoc, arith}
 use Rattle.std.specs.Prelude.{nat_le, nat_lt, map}
 use Rattle.std.specs.List.{filter, AllByRecursion}
 use Rattle.arith_syntax.specs.declared.operators.UnaryOperator.{UnaryOperator}
 use Rattle.arith_syntax.specs.declared.operators.UnaryOperator.TheVariants.{Plus, Minus, Complement, Not}
 use Rattle.arith_syntax.specs.declared.operators.BinaryOperator.{BinaryOperator}
-use Rattle.arith_syntax.specs.declared.operators.BinaryOperator.TheVariants.{LogicalOr, LogicalAnd, BitOr, BitXor, BitAnd, EqualTo, NotEqualTo, LessThan, LessOrEqual, GreaterThan, GreaterOrEqual, ShiftLeft, ShiftRight, Add, Subtract, Multiply, Divide, Remainder}
+use Rattle.arith_syntax.specs.declared.operators.BinaryOperator.TheVariants.{Add, Subtract}
 use Rattle.arith_syntax.specs.declared.token.Token.{Token}
-use Rattle.arith_syntax.specs.declared.token.Token.TheVariants.{Number, TooLarge, Name, Binary, Tilde, Exclamation, Assign, Question, Colon, LeftParenthesis, RightParenthesis, Separator, End, Bad}
+use Rattle.arith_syntax.specs.declared.token.Token.TheVariants.{Number, Name, Binary, Tilde, Exclamation, Assign, Question, Colon, LeftParenthesis, RightParenthesis, Separator, End}
 use Rattle.arith_syntax.specs.declared.instruction.Instruction.{Instruction}
-use Rattle.arith_syntax.specs.declared.instruction.Instruction.TheVariants.{Push, Load, Open, Close, Sign, Apply, Infix, Combine, Then, Else, Choose, Target, Store, Finish}
+use Rattle.arith_syntax.specs.declared.instruction.Instruction.TheVariants.{Open, Sign, Infix, Then, Else, Target, Finish}
 use Rattle.arith_syntax.specs.declared.pending.Pending.{Pending}
 use Rattle.arith_syntax.specs.declared.pending.Pending.TheVariants.{Parenthesis, Prefixed, Operator, Condition, Alternative, Assigned}
-use Rattle.arith_syntax.specs.declared.refusal.Fault.{Fault}
-use Rattle.arith_syntax.specs.declared.refusal.Fault.TheVariants.{NoToken, Misplaced, Nested, Large}
+use Rattle.arith_syntax.specs.declared.refusal.Fault.TheVariants.{Misplaced, Nested}
 use Rattle.arith_syntax.specs.Tree.{Tree, Constant, Variable, Parenthesized, Unary, Operation, Conditional, Assignment, level, level_of, IsExpression, nesting, tokens_of, sign}
 use Rattle.arith_syntax.specs.Grammar.{Fits, joined, is_some_part, IsProgram}
-use Rattle.arith_syntax.specs.Reading.{State, nothing_read, tightness, nests, depth_of, ending, close, Step, waiting, nested, operand, empty_expression, first_step, second_choice, parenthesized, expression_end, may_assign, assignment, next_step, step, steps, after, IsLooser}
+use Rattle.arith_syntax.specs.Reading.{State, tightness, depth_of, ending, close, Step, waiting, nested, empty_expression, first_step, second_choice, parenthesized, expression_end, may_assign, next_step, step, IsLooser}
 use Rattle.std.specs.Prelude.{flat_map, ◌⊎◌}
 use Rattle.std.proofs.Common.{inl, inr, ◌≢◌}
 use Rattle.std.proofs.lemmas.List.{append-nil}
 use Rattle.std.proofs.lemmas.Bool.{cases_lt}
 use Rattle.arith_syntax.specs.Tree.{assigns, IsName}
 use Rattle.arith_syntax.specs.Grammar.{Begins}
-use Rattle.arith_syntax.proofs.Complete.{put, put_all, least, Admits, awaiting, behind, level_of_from, level_of_to, level_from}
+use Rattle.arith_syntax.proofs.Complete.{put, put_all, Admits, awaiting, behind, level_of_from, level_of_to}
 
 -- what has begun, with what stands before its operator
 pub data Frame : Type 0 where
@@ -160,9 +159,9 @@ finish limit (f ∷ frames) e s t =
       rest = closer f ++ more.rest;
       tree = more.tree;
       is = regroup (spelled frames) (frame_tokens f) (tokens_of e) (closer f) more.rest
-        ∙ ap (λ l. spelled frames ++ (l ++ more.rest)) (fill_tokens f e)
-        ∙ more.is;
-      fits = more.fits
+          ∙ ap (λ l. spelled frames ++ (l ++ more.rest)) (fill_tokens f e)
+          ∙ more.is;
+      fits = more.fits;
     }
 
 -- an operand is closed up to a level
@@ -215,35 +214,35 @@ close_all limit k [] e code one high s t = record { left = []; tree = e; is = re
 close_all limit k (f ∷ frames) e code one high s t =
     elim (le_test k (tightness (shape f))) [
       | inl le ↦
-        let tight : 1 ≤ tightness (shape f) = omega arith in
-        let level_is = fill_level f e tight in
-        let more = close_all limit k frames (fill f e) code one (omega (arith, level_is)) s.2 (fill_fits limit f frames e s t) in
-        record {
-          left = more.left;
-          tree = more.tree;
-          is = ap (λ b. cond b (close k (ending (shape f) ∷ put e (frame_code f (codes frames code))) (shapes frames)) (behind (put e (frame_code f (codes frames code))) (shape f ∷ shapes frames))) (nat_le_true k (tightness (shape f)) le)
-            ∙ ap (λ l. close k l (shapes frames)) (ends_code f e (codes frames code) tight)
-            ∙ more.is;
-          tokens = append_assoc (spelled frames) (frame_tokens f) (tokens_of e)
-            ∙ ap (λ l. spelled frames ++ (frame_tokens f ++ l)) (sym (append-nil (tokens_of e)) ∙ ap (λ l. tokens_of e ++ l) (sym (none_behind f tight)))
-            ∙ ap (λ l. spelled frames ++ l) (fill_tokens f e)
-            ∙ more.tokens;
-          stacked = more.stacked;
-          fits = more.fits;
-          high = more.high;
-          looser = more.looser
-        }
+          let tight : 1 ≤ tightness (shape f) = omega arith in
+          let level_is = fill_level f e tight in
+          let more = close_all limit k frames (fill f e) code one (omega (arith, level_is)) s.2 (fill_fits limit f frames e s t) in
+          record {
+            left = more.left;
+            tree = more.tree;
+            is = ap (λ b. cond b (close k (ending (shape f) ∷ put e (frame_code f (codes frames code))) (shapes frames)) (behind (put e (frame_code f (codes frames code))) (shape f ∷ shapes frames))) (nat_le_true k (tightness (shape f)) le)
+                ∙ ap (λ l. close k l (shapes frames)) (ends_code f e (codes frames code) tight)
+                ∙ more.is;
+            tokens = append_assoc (spelled frames) (frame_tokens f) (tokens_of e)
+                ∙ ap (λ l. spelled frames ++ (frame_tokens f ++ l)) (sym (append-nil (tokens_of e)) ∙ ap (λ l. tokens_of e ++ l) (sym (none_behind f tight)))
+                ∙ ap (λ l. spelled frames ++ l) (fill_tokens f e)
+                ∙ more.tokens;
+            stacked = more.stacked;
+            fits = more.fits;
+            high = more.high;
+            looser = more.looser;
+          }
       | inr lt ↦
-        record {
-          left = f ∷ frames;
-          tree = e;
-          is = ap (λ b. cond b (close k (ending (shape f) ∷ put e (frame_code f (codes frames code))) (shapes frames)) (behind (put e (frame_code f (codes frames code))) (shape f ∷ shapes frames))) (nat_le_false k (tightness (shape f)) lt);
-          tokens = refl;
-          stacked = s;
-          fits = t;
-          high = high;
-          looser = lt
-        }
+          record {
+            left = f ∷ frames;
+            tree = e;
+            is = ap (λ b. cond b (close k (ending (shape f) ∷ put e (frame_code f (codes frames code))) (shapes frames)) (behind (put e (frame_code f (codes frames code))) (shape f ∷ shapes frames))) (nat_le_false k (tightness (shape f)) lt);
+            tokens = refl;
+            stacked = s;
+            fits = t;
+            high = high;
+            looser = lt;
+          }
     ]
 
 -- where a text has come to: parts that are over, and an expression that has begun
@@ -311,11 +310,11 @@ nested_says : (limit : ℕ) (i : Instruction) (p : Pending) (code : List Instruc
 nested_says limit i p code waits s e =
     elim (cases_lt (depth_of waits) limit) [
       | inl lt ↦
-        let is : ◌≡◌ {A = Step} (Ok (waiting i p code waits)) (Ok s) = ap (λ b. cond b (Ok (waiting i p code waits)) (Err Nested)) (sym (ltb_true _ _ lt)) ∙ e in
-        record { below = lt; is = ok_is (waiting i p code waits) s is }
+          let is : ◌≡◌ {A = Step} (Ok (waiting i p code waits)) (Ok s) = ap (λ b. cond b (Ok (waiting i p code waits)) (Err Nested)) (sym (ltb_true _ _ lt)) ∙ e in
+          record { below = lt; is = ok_is (waiting i p code waits) s is }
       | inr le ↦
-        let is : ◌≡◌ {A = Step} (Err Nested) (Ok s) = ap (λ b. cond b (Ok (waiting i p code waits)) (Err Nested)) (sym (ltb_false _ _ le)) ∙ e in
-        absurd cc
+          let is : ◌≡◌ {A = Step} (Err Nested) (Ok s) = ap (λ b. cond b (Ok (waiting i p code waits)) (Err Nested)) (sym (ltb_false _ _ le)) ∙ e in
+          absurd cc
     ]
 
 at_end : (a b c d : List Token) → a ++ ((b ++ c) ++ d) ≡ (a ++ (b ++ [])) ++ (c ++ d)
@@ -347,8 +346,8 @@ opens limit p f token s g none single fits adm is =
       sound = record { expressions = g.expressions; each = g.each; stacked = (fits, adm, g.stacked); operand = tt };
       state = is;
       tokens = ap (λ l. over p.parts ++ ((spelled p.frames ++ l) ++ [])) single
-        ∙ at_end (over p.parts) (spelled p.frames) (token ∷ []) []
-        ∙ ap (λ o. (over p.parts ++ (spelled p.frames ++ top_tokens o)) ++ token ∷ []) (sym none)
+          ∙ at_end (over p.parts) (spelled p.frames) (token ∷ []) []
+          ∙ ap (λ o. (over p.parts ++ (spelled p.frames ++ top_tokens o)) ++ token ∷ []) (sym none);
     }
 
 admits_operand : (frames : List Frame) (n : ℕ) → 13 ≤ n → Admits (shapes frames) n
@@ -368,8 +367,8 @@ operand_read limit p e token s g none single fits high is =
       sound = record { expressions = g.expressions; each = g.each; stacked = g.stacked; operand = (fits, high) };
       state = is;
       tokens = ap (λ l. over p.parts ++ (spelled p.frames ++ l)) single
-        ∙ last_end (over p.parts) (spelled p.frames) (token ∷ [])
-        ∙ ap (λ o. (over p.parts ++ (spelled p.frames ++ top_tokens o)) ++ token ∷ []) (sym none)
+          ∙ last_end (over p.parts) (spelled p.frames) (token ∷ [])
+          ∙ ap (λ o. (over p.parts ++ (spelled p.frames ++ top_tokens o)) ++ token ∷ []) (sym none);
     }
 
 -- what begins fits by its depth alone
@@ -406,7 +405,7 @@ empty_read limit parts trees [] s g e =
       to = record { parts = parts ++ [] ∷ []; trees = trees; frames = []; operand = None };
       sound = record { expressions = filter_empty parts ∙ g.expressions; each = g.each; stacked = tt; operand = tt };
       state = ok_is _ s e;
-      tokens = append-nil (over (parts ++ [] ∷ [])) ∙ all_parts parts ∙ ap (λ l. l ++ Separator ∷ []) (sym (append-nil (over parts)))
+      tokens = append-nil (over (parts ++ [] ∷ [])) ∙ all_parts parts ∙ ap (λ l. l ++ Separator ∷ []) (sym (append-nil (over parts)));
     }
 empty_read limit parts trees (f ∷ frames) s g e = absurd cc
 
@@ -440,8 +439,8 @@ operator_read limit parts trees frames left e tree f token s ex each same stacke
       sound = record { expressions = ex; each = each; stacked = stacked; operand = tt };
       state = is;
       tokens = ap (λ l. over parts ++ ((spelled left ++ l) ++ [])) single
-        ∙ regroup_last (over parts) (spelled left) (tokens_of tree) (token ∷ [])
-        ∙ ap (λ l. (over parts ++ l) ++ token ∷ []) (sym same)
+          ∙ regroup_last (over parts) (spelled left) (tokens_of tree) (token ∷ [])
+          ∙ ap (λ l. (over parts ++ l) ++ token ∷ []) (sym same);
     }
 
 admits_left : (limit : ℕ) (op : BinaryOperator) (left : List Frame) → Stacked limit left → IsLooser (level_of op) (shapes left) → Admits (shapes left) (level_of op)
@@ -475,15 +474,15 @@ binary_read : (limit : ℕ) (parts : List (List Token)) (trees : List Tree) (fra
 binary_read limit parts trees frames e op s g h =
     let c = closed_at limit (level_of op) parts trees frames e (omega (arith, level_of_from op)) (omega (arith, level_of_to op)) g in
     operator_read limit parts trees frames c.left e c.tree (Left op c.tree) (Binary op) s g.expressions g.each c.tokens
-      ((c.fits.grammar, c.high, c.fits.depth), admits_left limit op c.left c.stacked c.looser, c.stacked) refl
-      (ok_is _ s (ap (λ (t : State). let r : Step = Ok (waiting (Infix op) (Operator op) t.code t.waits) in r) (sym c.is) ∙ h))
+    ((c.fits.grammar, c.high, c.fits.depth), admits_left limit op c.left c.stacked c.looser, c.stacked) refl
+    (ok_is _ s (ap (λ (t : State). let r : Step = Ok (waiting (Infix op) (Operator op) t.code t.waits) in r) (sym c.is) ∙ h))
 
 question_read : (limit : ℕ) (parts : List (List Token)) (trees : List Tree) (frames : List Frame) (e : Tree) (s : State) → Sound limit (record { parts = parts; trees = trees; frames = frames; operand = Some e }) → next_step limit Question (state_with trees frames (Some e)) ≡ Ok s → Goes limit (record { parts = parts; trees = trees; frames = frames; operand = Some e }) Question s
 question_read limit parts trees frames e s g h =
     let c = closed_at limit 3 parts trees frames e (omega arith) (omega arith) g in
     let says = nested_says limit Then Condition (put c.tree (codes c.left (put_all trees []))) (shapes c.left) s (ap (λ (t : State). nested limit Then Condition t.code t.waits) (sym c.is) ∙ h) in
     operator_read limit parts trees frames c.left e c.tree (Asked c.tree) Question s g.expressions g.each c.tokens
-      ((c.fits.grammar, c.high, c.fits.depth, omega (arith, says.below)), admits_choice c.left c.looser, c.stacked) refl says.is
+    ((c.fits.grammar, c.high, c.fits.depth, omega (arith, says.below)), admits_choice c.left c.looser, c.stacked) refl says.is
 
 choice_read : (limit : ℕ) (parts : List (List Token)) (trees : List Tree) (frames left : List Frame) (e tree : Tree) (s : State) → Sound limit (record { parts = parts; trees = trees; frames = frames; operand = Some e }) → spelled frames ++ tokens_of e ≡ spelled left ++ tokens_of tree → Stacked limit left → TopFits limit tree left → second_choice (put tree (codes left (put_all trees []))) (shapes left) ≡ Ok s → Goes limit (record { parts = parts; trees = trees; frames = frames; operand = Some e }) Colon s
 choice_read limit parts trees frames [] e tree s g same st fits h = absurd cc
@@ -498,8 +497,8 @@ choice_read limit parts trees frames (Asked c ∷ left) e tree s g same st fits 
       sound = record { expressions = g.expressions; each = g.each; stacked = ((st.0.0, st.0.1, st.0.2, fits.grammar, omega (arith, fits.depth)), st.1, st.2); operand = tt };
       state = ok_is _ s h;
       tokens = ap (λ l. over parts ++ l) (choice_tokens (spelled left) (tokens_of c) (tokens_of tree) Question Colon)
-        ∙ sym (append_assoc (over parts) ((spelled left ++ (tokens_of c ++ Question ∷ [])) ++ tokens_of tree) (Colon ∷ []))
-        ∙ ap (λ l. (over parts ++ l) ++ Colon ∷ []) (sym same)
+          ∙ sym (append_assoc (over parts) ((spelled left ++ (tokens_of c ++ Question ∷ [])) ++ tokens_of tree) (Colon ∷ []))
+          ∙ ap (λ l. (over parts ++ l) ++ Colon ∷ []) (sym same);
     }
 
 colon_read : (limit : ℕ) (parts : List (List Token)) (trees : List Tree) (frames : List Frame) (e : Tree) (s : State) → Sound limit (record { parts = parts; trees = trees; frames = frames; operand = Some e }) → next_step limit Colon (state_with trees frames (Some e)) ≡ Ok s → Goes limit (record { parts = parts; trees = trees; frames = frames; operand = Some e }) Colon s
@@ -520,8 +519,8 @@ close_read limit parts trees frames (Opened ∷ left) e tree s g same st fits h 
       sound = record { expressions = g.expressions; each = g.each; stacked = st.2; operand = (fill_fits limit Opened left tree st fits, omega arith) };
       state = ok_is _ s h;
       tokens = ap (λ l. over parts ++ l) (close_tokens (spelled left) (tokens_of tree) (LeftParenthesis ∷ []) (RightParenthesis ∷ []))
-        ∙ sym (append_assoc (over parts) ((spelled left ++ LeftParenthesis ∷ []) ++ tokens_of tree) (RightParenthesis ∷ []))
-        ∙ ap (λ l. (over parts ++ l) ++ RightParenthesis ∷ []) (sym same)
+          ∙ sym (append_assoc (over parts) ((spelled left ++ LeftParenthesis ∷ []) ++ tokens_of tree) (RightParenthesis ∷ []))
+          ∙ ap (λ l. (over parts ++ l) ++ RightParenthesis ∷ []) (sym same);
     }
 
 parenthesis_read : (limit : ℕ) (parts : List (List Token)) (trees : List Tree) (frames : List Frame) (e : Tree) (s : State) → Sound limit (record { parts = parts; trees = trees; frames = frames; operand = Some e }) → next_step limit RightParenthesis (state_with trees frames (Some e)) ≡ Ok s → Goes limit (record { parts = parts; trees = trees; frames = frames; operand = Some e }) RightParenthesis s
@@ -537,7 +536,7 @@ name_read limit parts trees frames x op s g t may h =
       to = record { parts = parts; trees = trees; frames = Named x op ∷ frames; operand = None };
       sound = record { expressions = g.expressions; each = g.each; stacked = ((g.operand.0.grammar, t, omega (arith, says.below)), admits_name frames may, g.stacked); operand = tt };
       state = says.is;
-      tokens = regroup_last (over parts) (spelled frames) (Name x ∷ []) (Assign op ∷ [])
+      tokens = regroup_last (over parts) (spelled frames) (Name x ∷ []) (Assign op ∷ []);
     }
 
 may_or_not : (b : Bool) (x : Step) (s : State) → cond b x (Err Misplaced) ≡ Ok s → (b ≡ true) × (x ≡ Ok s)
@@ -617,8 +616,8 @@ separator_read limit parts trees frames e s g h =
       sound = record { expressions = expressions_more parts trees d.tree g.expressions; each = all_more limit trees d.tree g.each d.fits; stacked = tt; operand = tt };
       state = d.state ∙ ap (λ l. awaiting l []) (sym (put_all_more trees d.tree []));
       tokens = append-nil (over (parts ++ tokens_of d.tree ∷ [])) ∙ over_more parts (tokens_of d.tree)
-        ∙ sym (append_assoc (over parts) (tokens_of d.tree) (Separator ∷ []))
-        ∙ ap (λ l. (over parts ++ l) ++ Separator ∷ []) (sym d.tokens)
+          ∙ sym (append_assoc (over parts) (tokens_of d.tree) (Separator ∷ []))
+          ∙ ap (λ l. (over parts ++ l) ++ Separator ∷ []) (sym d.tokens);
     }
 
 -- a token behind an operand
@@ -658,7 +657,7 @@ parts_of (q ∷ parts) last =
       first = q;
       more = parts ++ last ∷ [];
       all = refl;
-      tokens = append_assoc (q ++ Separator ∷ []) (over parts) last ∙ append_assoc q (Separator ∷ []) (over parts ++ last) ∙ sym (joined_parts q parts last)
+      tokens = append_assoc (q ++ Separator ∷ []) (over parts) last ∙ append_assoc q (Separator ∷ []) (over parts ++ last) ∙ sym (joined_parts q parts last);
     }
 
 pub program_with : (limit : ℕ) (parts : List (List Token)) (trees : List Tree) (e : Tree) → filter is_some_part parts ≡ map tokens_of trees → AllByRecursion (Fits limit) trees → Fits limit e → IsProgram limit (over parts ++ tokens_of e) (trees ++ e ∷ [])
@@ -669,7 +668,7 @@ program_with limit parts trees e ex each fits =
       more = p.more;
       parts = p.tokens;
       expressions = ap (filter is_some_part) p.all ∙ expressions_more parts trees e ex;
-      each = all_more limit trees e each fits
+      each = all_more limit trees e each fits;
     }
 
 pub program_without : (limit : ℕ) (parts : List (List Token)) (trees : List Tree) → filter is_some_part parts ≡ map tokens_of trees → AllByRecursion (Fits limit) trees → IsProgram limit (over parts ++ []) trees
@@ -685,8 +684,8 @@ begins_from limit parts trees frames None g =
       rest = Number 0 ∷ d.rest;
       trees = trees ++ d.tree ∷ [];
       program = subst (λ l. IsProgram limit l (trees ++ d.tree ∷ []))
-        (ap (λ l. over parts ++ l) (sym d.is) ∙ begun_tokens (over parts) (spelled frames) (Number 0) d.rest)
-        (program_with limit parts trees d.tree g.expressions g.each d.fits)
+          (ap (λ l. over parts ++ l) (sym d.is) ∙ begun_tokens (over parts) (spelled frames) (Number 0) d.rest)
+          (program_with limit parts trees d.tree g.expressions g.each d.fits);
     }
 begins_from limit parts trees frames (Some e) g =
     let d = finish limit frames e g.stacked g.operand.0 in
@@ -694,8 +693,8 @@ begins_from limit parts trees frames (Some e) g =
       rest = d.rest;
       trees = trees ++ d.tree ∷ [];
       program = subst (λ l. IsProgram limit l (trees ++ d.tree ∷ []))
-        (ap (λ l. over parts ++ l) (sym d.is) ∙ regroup_rest (over parts) (spelled frames) (tokens_of e) d.rest)
-        (program_with limit parts trees d.tree g.expressions g.each d.fits)
+          (ap (λ l. over parts ++ l) (sym d.is) ∙ regroup_rest (over parts) (spelled frames) (tokens_of e) d.rest)
+          (program_with limit parts trees d.tree g.expressions g.each d.fits);
     }
 
 pub begins : (limit : ℕ) (p : Position) → Sound limit p → Begins limit (tokens_at p)
@@ -715,7 +714,7 @@ end_from limit parts trees frames (Some o) s g e =
     record {
       trees = trees ++ d.tree ∷ [];
       program = subst (λ l. IsProgram limit l (trees ++ d.tree ∷ [])) (ap (λ l. over parts ++ l) (sym d.tokens)) (program_with limit parts trees d.tree g.expressions g.each d.fits);
-      state = d.state ∙ ap (λ l. awaiting l []) (sym (put_all_more trees d.tree []))
+      state = d.state ∙ ap (λ l. awaiting l []) (sym (put_all_more trees d.tree []));
     }
 
 pub end_sound : (limit : ℕ) (p : Position) (s : State) → Sound limit p → step limit End (state_at p) ≡ Ok s → Whole limit (tokens_at p) s

@@ -1,6 +1,6 @@
 -- Runs of letters, digits and `_`, and what the tokens of a text are.
-use Rattle.std.proofs.Common.{◌≡◌, ◌≢◌, ℕ, zero, suc, ◌+◌, ◌-◌, ◌*◌, ◌^◌, ◌<◌, ◌≤◌, Bool, true, false, cond, Option, Some, None, List, [], ◌∷◌, ◌++◌, length, take, drop, get_or, refl, sym, ap, subst, ◌∙◌, arith, inl, inr}
-use Rattle.std.specs.Prelude.{nat_lt, nat_le, ◌==◌, ◌&&◌, ◌||◌, ◌⊎◌}
+use Rattle.std.proofs.Common.{◌≡◌, ◌≢◌, ℕ, zero, suc, ◌+◌, ◌-◌, ◌^◌, ◌<◌, ◌≤◌, Bool, true, false, cond, Option, Some, None, List, [], ◌∷◌, length, take, drop, get_or, refl, sym, ap, subst, ◌∙◌, arith, inl, inr}
+use Rattle.std.specs.Prelude.{nat_lt, nat_le, ◌==◌, ◌&&◌, ◌||◌}
 use Rattle.std.specs.List.{list_all, prefix_len}
 use Rattle.std.specs.Str.{IsAscii}
 use Rattle.std.proofs.lemmas.Bool.{cases_lt}
@@ -12,8 +12,8 @@ use Rattle.arith_syntax.specs.declared.operators.BinaryOperator.{BinaryOperator}
 use Rattle.arith_syntax.specs.declared.operators.BinaryOperator.TheVariants.{LogicalOr, LogicalAnd, BitOr, BitXor, BitAnd, EqualTo, NotEqualTo, LessThan, LessOrEqual, GreaterThan, GreaterOrEqual, ShiftLeft, ShiftRight, Add, Subtract, Multiply, Divide, Remainder}
 use Rattle.arith_syntax.specs.declared.token.Token.{Token}
 use Rattle.arith_syntax.specs.declared.token.Token.TheVariants.{Number, TooLarge, Name, Binary, Tilde, Exclamation, Assign, Question, Colon, LeftParenthesis, RightParenthesis, Separator, End, Bad}
-use Rattle.arith_syntax.specs.Tree.{is_digit, is_letter, is_word, begins_name, IsName, assigns}
-use Rattle.arith_syntax.specs.Lexical.{is_blank, value_after, number, constant_of, is_octal, is_hexadecimal, begins_hexadecimal, constant, word, run_of, with_equals, doubled, single, shifts, is_bad, or_shorter, symbol, token_at, Lexeme, found, scan, lexemes}
+use Rattle.arith_syntax.specs.Tree.{is_digit, is_letter, is_word, begins_name, assigns}
+use Rattle.arith_syntax.specs.Lexical.{is_blank, value_after, number, constant_of, is_octal, is_hexadecimal, begins_hexadecimal, constant, word, run_of, with_equals, doubled, single, shifts, is_bad, symbol, token_at, Lexeme, scan, lexemes}
 use Rattle.arith_syntax.proofs.Sound.{IsToken}
 use Rattle.arith_syntax.proofs.Faults.{Proper}
 
@@ -67,8 +67,8 @@ shifts_fine c = choose (c == 60) _ _ (assign (Some ShiftLeft) refl) (choose (c =
 equals_fine : (c : ℕ) → Fine (with_equals c)
 equals_fine c =
     choose (c == 61) _ _ (binary EqualTo) (choose (c == 33) _ _ (binary NotEqualTo) (choose (c == 60) _ _ (binary LessOrEqual) (choose (c == 62) _ _ (binary GreaterOrEqual)
-      (choose (c == 42) _ _ (assign (Some Multiply) refl) (choose (c == 47) _ _ (assign (Some Divide) refl) (choose (c == 37) _ _ (assign (Some Remainder) refl) (choose (c == 43) _ _ (assign (Some Add) refl)
-        (choose (c == 45) _ _ (assign (Some Subtract) refl) (choose (c == 38) _ _ (assign (Some BitAnd) refl) (choose (c == 94) _ _ (assign (Some BitXor) refl) (choose (c == 124) _ _ (assign (Some BitOr) refl) bad)))))))))))
+    (choose (c == 42) _ _ (assign (Some Multiply) refl) (choose (c == 47) _ _ (assign (Some Divide) refl) (choose (c == 37) _ _ (assign (Some Remainder) refl) (choose (c == 43) _ _ (assign (Some Add) refl)
+    (choose (c == 45) _ _ (assign (Some Subtract) refl) (choose (c == 38) _ _ (assign (Some BitAnd) refl) (choose (c == 94) _ _ (assign (Some BitXor) refl) (choose (c == 124) _ _ (assign (Some BitOr) refl) bad)))))))))))
 
 doubled_fine : (c : ℕ) → Fine (doubled c)
 doubled_fine c = choose (c == 60) _ _ (binary ShiftLeft) (choose (c == 62) _ _ (binary ShiftRight) (choose (c == 38) _ _ (binary LogicalAnd) (choose (c == 124) _ _ (binary LogicalOr) bad)))
@@ -79,10 +79,10 @@ plain token h ne = record { is = h; not_end = ne }
 single_fine : (c : ℕ) → Fine (single c)
 single_fine c =
     choose (c == 43) _ _ (binary Add) (choose (c == 45) _ _ (binary Subtract) (choose (c == 42) _ _ (binary Multiply) (choose (c == 47) _ _ (binary Divide) (choose (c == 37) _ _ (binary Remainder)
-      (choose (c == 60) _ _ (binary LessThan) (choose (c == 62) _ _ (binary GreaterThan) (choose (c == 38) _ _ (binary BitAnd) (choose (c == 94) _ _ (binary BitXor) (choose (c == 124) _ _ (binary BitOr)
-        (choose (c == 126) _ _ (plain Tilde tt (λ e. cc)) (choose (c == 33) _ _ (plain Exclamation tt (λ e. cc)) (choose (c == 61) _ _ (assign None refl)
-          (choose (c == 63) _ _ (plain Question tt (λ e. cc)) (choose (c == 58) _ _ (plain Colon tt (λ e. cc)) (choose (c == 40) _ _ (plain LeftParenthesis tt (λ e. cc))
-            (choose (c == 41) _ _ (plain RightParenthesis tt (λ e. cc)) (choose (c == 59 || c == 10) _ _ (plain Separator tt (λ e. cc)) bad)))))))))))))))))
+    (choose (c == 60) _ _ (binary LessThan) (choose (c == 62) _ _ (binary GreaterThan) (choose (c == 38) _ _ (binary BitAnd) (choose (c == 94) _ _ (binary BitXor) (choose (c == 124) _ _ (binary BitOr)
+    (choose (c == 126) _ _ (plain Tilde tt (λ e. cc)) (choose (c == 33) _ _ (plain Exclamation tt (λ e. cc)) (choose (c == 61) _ _ (assign None refl)
+    (choose (c == 63) _ _ (plain Question tt (λ e. cc)) (choose (c == 58) _ _ (plain Colon tt (λ e. cc)) (choose (c == 40) _ _ (plain LeftParenthesis tt (λ e. cc))
+    (choose (c == 41) _ _ (plain RightParenthesis tt (λ e. cc)) (choose (c == 59 || c == 10) _ _ (plain Separator tt (λ e. cc)) bad)))))))))))))))))
 
 -- a token and its length, where it is one
 pub record Long (t : Token × ℕ) (n : ℕ) : Type 0 where
@@ -110,7 +110,7 @@ constant_fine : (run : List ℕ) → Fine (constant run)
 unfolding constant
 constant_fine run =
     choose (begins_hexadecimal run) _ _ (constant_of_fine 16 is_hexadecimal (drop 2 run))
-      (choose (nat_le 49 (get_or run 0 0)) _ _ (constant_of_fine 10 is_digit run) (constant_of_fine 8 is_octal run))
+    (choose (nat_le 49 (get_or run 0 0)) _ _ (constant_of_fine 10 is_digit run) (constant_of_fine 8 is_octal run))
 
 begins_is : (run : List ℕ) → is_letter (get_or run 0 0) ≡ true → begins_name run ≡ true
 begins_is [] h = absurd cc
@@ -167,10 +167,10 @@ twice_at text h =
     elim (cases_lt 1 (length text)) [
       | inl lt ↦ omega arith
       | inr le ↦
-        let second : get_or text 1 0 ≡ 0 = get_or_past text 1 0 le in
-        let first : get_or text 0 0 ≡ 0 = sym (eq_means (get_or text 1 0) (get_or text 0 0) parts.0) ∙ second in
-        let zero : is_bad (doubled (get_or text 0 0)) ≡ true = doubled_zero (get_or text 0 0) first in
-        absurd (not_two (is_bad (doubled (get_or text 0 0))) zero parts.1)
+          let second : get_or text 1 0 ≡ 0 = get_or_past text 1 0 le in
+          let first : get_or text 0 0 ≡ 0 = sym (eq_means (get_or text 1 0) (get_or text 0 0) parts.0) ∙ second in
+          let zero : is_bad (doubled (get_or text 0 0)) ≡ true = doubled_zero (get_or text 0 0) first in
+          absurd (not_two (is_bad (doubled (get_or text 0 0))) zero parts.1)
     ]
 
 symbol_long : (text : List ℕ) → 0 < length text → Long (symbol (get_or text 0 0) (get_or text 1 0) (get_or text 2 0)) (length text)
@@ -180,9 +180,9 @@ symbol_long text some =
     let b = get_or text 1 0 in
     let c = get_or text 2 0 in
     longer _ (cond ((b == a) && (c == 61)) (shifts a) Bad) 3 _ (length text) refl (choose ((b == a) && (c == 61)) _ _ (shifts_fine a) bad) (omega arith) (third_at text (b == a) (shifts a))
-      (longer _ (cond (b == 61) (with_equals a) Bad) 2 _ (length text) refl (choose (b == 61) _ _ (equals_fine a) bad) (omega arith) (second_at text (with_equals a))
-        (longer _ (cond (b == a) (doubled a) Bad) 2 _ (length text) refl (choose (b == a) _ _ (doubled_fine a) bad) (omega arith) (twice_at text)
-          (record { fine = single_fine a; some = omega arith; within = λ h. omega arith })))
+    (longer _ (cond (b == 61) (with_equals a) Bad) 2 _ (length text) refl (choose (b == 61) _ _ (equals_fine a) bad) (omega arith) (second_at text (with_equals a))
+    (longer _ (cond (b == a) (doubled a) Bad) 2 _ (length text) refl (choose (b == a) _ _ (doubled_fine a) bad) (omega arith) (twice_at text)
+    (record { fine = single_fine a; some = omega arith; within = λ h. omega arith })))
 
 run_some : (text : List ℕ) → is_word (get_or text 0 0) ≡ true → 1 ≤ prefix_len is_word text
 run_some [] h = absurd cc
@@ -193,7 +193,7 @@ token_long_at text true e some =
     record {
       fine = word_fine (run_of text) (is_letter (get_or (run_of text) 0 0)) refl (run_words is_word text);
       some = run_some text e;
-      within = λ h. prefix_len-le-length is_word text
+      within = λ h. prefix_len-le-length is_word text;
     }
 token_long_at text false e some = symbol_long text some
 
@@ -216,7 +216,7 @@ scan_proper (suc n) at (c ∷ text) = scan_proper n (at + 1) text
 scan_proper zero at (c ∷ text) =
     let long = token_long (c ∷ text) (omega arith) in
     proper_blank (is_blank c) _ _ (scan_proper zero (at + 1) text)
-      (proper_found (token_at (c ∷ text)).0 at _ (is_bad (token_at (c ∷ text)).0) long.fine (scan_proper ((token_at (c ∷ text)).1 - 1) (at + 1) text))
+    (proper_found (token_at (c ∷ text)).0 at _ (is_bad (token_at (c ∷ text)).0) long.fine (scan_proper ((token_at (c ∷ text)).1 - 1) (at + 1) text))
 
 pub lexemes_proper : (text : List ℕ) → Proper (lexemes text)
 unfolding lexemes

@@ -1,34 +1,23 @@
 -- Trees are written out as instructions, and built from them again.
-use Rattle.std.proofs.Common.{◌≡◌, ℕ, suc, ◌+◌, ◌-◌, ◌^◌, ◌<◌, ◌≤◌, max, Bool, true, false, cond, List, [], ◌∷◌, ◌++◌, Option, Some, None, Result, Ok, Err, refl, sym, ap, subst, ◌∙◌, append_assoc, arith}
-use Rattle.std.specs.Prelude.{nat_le, nat_lt, map}
-use Rattle.std.specs.List.{filter, AllByRecursion}
-use Rattle.arith_syntax.specs.declared.operators.UnaryOperator.{UnaryOperator}
-use Rattle.arith_syntax.specs.declared.operators.UnaryOperator.TheVariants.{Plus, Minus, Complement, Not}
-use Rattle.arith_syntax.specs.declared.operators.BinaryOperator.{BinaryOperator}
-use Rattle.arith_syntax.specs.declared.operators.BinaryOperator.TheVariants.{LogicalOr, LogicalAnd, BitOr, BitXor, BitAnd, EqualTo, NotEqualTo, LessThan, LessOrEqual, GreaterThan, GreaterOrEqual, ShiftLeft, ShiftRight, Add, Subtract, Multiply, Divide, Remainder}
-use Rattle.arith_syntax.specs.declared.token.Token.{Token}
-use Rattle.arith_syntax.specs.declared.token.Token.TheVariants.{Number, TooLarge, Name, Binary, Tilde, Exclamation, Assign, Question, Colon, LeftParenthesis, RightParenthesis, Separator, End, Bad}
+use Rattle.std.proofs.Common.{◌≡◌, ℕ, ◌≤◌, List, [], ◌∷◌, ◌++◌, Result, Ok, Err, refl, sym, ap, subst, ◌∙◌, append_assoc}
+use Rattle.std.specs.List.{AllByRecursion}
 use Rattle.arith_syntax.specs.declared.instruction.Instruction.{Instruction}
-use Rattle.arith_syntax.specs.declared.instruction.Instruction.TheVariants.{Push, Load, Open, Close, Sign, Apply, Infix, Combine, Then, Else, Choose, Target, Store, Finish}
-use Rattle.arith_syntax.specs.declared.pending.Pending.{Pending}
-use Rattle.arith_syntax.specs.declared.pending.Pending.TheVariants.{Parenthesis, Prefixed, Operator, Condition, Alternative, Assigned}
-use Rattle.arith_syntax.specs.declared.refusal.Fault.{Fault}
-use Rattle.arith_syntax.specs.declared.refusal.Fault.TheVariants.{NoToken, Misplaced, Nested, Large}
-use Rattle.arith_syntax.specs.Tree.{Tree, Constant, Variable, Parenthesized, Unary, Operation, Conditional, Assignment, level, level_of, IsExpression, nesting, tokens_of, sign}
-use Rattle.arith_syntax.specs.Grammar.{Fits, joined, is_some_part, IsProgram}
-use Rattle.arith_syntax.specs.Reading.{State, nothing_read, tightness, nests, depth_of, ending, close, Step, waiting, nested, operand, empty_expression, first_step, second_choice, parenthesized, expression_end, may_assign, assignment, next_step, step, steps, after, IsLooser}
-use Rattle.std.specs.Prelude.{flat_map, reverse}
+use Rattle.arith_syntax.specs.declared.instruction.Instruction.TheVariants.{Open, Close, Sign, Apply, Infix, Combine, Then, Else, Choose, Target, Store, Finish}
+use Rattle.arith_syntax.specs.Tree.{Tree, Constant, Variable, Parenthesized, Unary, Operation, Conditional, Assignment}
+use Rattle.arith_syntax.specs.Grammar.{Fits}
+use Rattle.arith_syntax.specs.Reading.{State, nothing_read}
+use Rattle.std.specs.Prelude.{reverse}
 use Rattle.std.proofs.Common.{length, ◌≢◌}
 use Rattle.std.proofs.lemmas.List.{append-nil, reverse-append, reverse-reverse}
 use Rattle.arith_syntax.specs.declared.error.SyntaxError.{SyntaxError}
 use Rattle.arith_syntax.specs.declared.error.SyntaxError.TheVariants as errors
 use Rattle.arith_syntax.specs.Grammar.{Grammar, FirstFault}
-use Rattle.arith_syntax.specs.Lexical.{Lexeme, lexemes, scan}
+use Rattle.arith_syntax.specs.Lexical.{lexemes, scan}
 use Rattle.arith_syntax.specs.Reading.{run}
 use Rattle.arith_syntax.specs.Written.{written, all_written, trees_of, IsWhole}
 use Rattle.arith_syntax.specs.Apart.{trees_back}
 use Rattle.arith_syntax.proofs.Complete.{put, put_all, awaiting}
-use Rattle.arith_syntax.proofs.Faults.{Read, read_program, fault_first, program_run, fault_read}
+use Rattle.arith_syntax.proofs.Faults.{read_program, fault_first, program_run, fault_read}
 use Rattle.arith_syntax.proofs.Words.{lexemes_proper}
 
 -- what is written tells its trees
@@ -104,7 +93,7 @@ pub whole_code : (text : List ℕ) (code : List Instruction) → WholeText text 
 whole_code text code w =
     record {
       each = subst (AllByRecursion (Fits 64)) (sym w.back) w.grammar.program.each;
-      is = w.is ∙ ap all_written (sym w.back)
+      is = w.is ∙ ap all_written (sym w.back);
     }
 
 pub text_fault : (text : List ℕ) (e : SyntaxError) → length text ≤ 65536 → run nothing_read (scan 0 0 text) ≡ Err e → FirstFault text e

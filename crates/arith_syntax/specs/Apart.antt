@@ -4,7 +4,7 @@ use Rattle.std.specs.Coded.{Coded, code_by}
 use Rattle.std.proofs.Common.{sym, ap, ◌∙◌, append_assoc}
 use Rattle.std.proofs.lemmas.List.{append-nil, reverse-append, reverse-reverse}
 use Rattle.arith_syntax.specs.declared.instruction.Instruction.{Instruction}
-use Rattle.arith_syntax.specs.declared.instruction.Instruction.TheVariants.{Push, Load, Open, Close, Sign, Apply, Infix, Combine, Then, Else, Choose, Target, Store, Finish}
+use Rattle.arith_syntax.specs.declared.instruction.Instruction.TheVariants.{Close, Apply, Infix, Combine, Then, Else, Choose, Store, Finish}
 use Rattle.arith_syntax.specs.Tree.{Tree, Constant, Variable, Parenthesized, Unary, Operation, Conditional, Assignment}
 use Rattle.arith_syntax.specs.Written.{written, all_written, built, trees_of}
 

@@ -1,11 +1,10 @@
 -- The tokens of a text: at each place the longest one that stands there.
-use Rattle.std.specs.Prelude.{◌≡◌, ℕ, zero, suc, ◌+◌, ◌-◌, ◌*◌, ◌^◌, List, [], ◌∷◌, ◌++◌, length, take, drop, Option, Some, None, Bool, true, false, ◌&&◌, ◌||◌, not, nat_le, nat_lt, ◌==◌, if◌then◌else◌, get_or}
+use Rattle.std.specs.Prelude.{ℕ, zero, suc, ◌+◌, ◌-◌, ◌*◌, ◌^◌, List, [], ◌∷◌, length, take, drop, Some, None, Bool, true, false, ◌&&◌, ◌||◌, nat_le, nat_lt, ◌==◌, if◌then◌else◌, get_or}
 use Rattle.std.specs.List.{list_all, prefix_len}
-use Rattle.arith_syntax.specs.declared.operators.BinaryOperator.{BinaryOperator}
 use Rattle.arith_syntax.specs.declared.operators.BinaryOperator.TheVariants.{LogicalOr, LogicalAnd, BitOr, BitXor, BitAnd, EqualTo, NotEqualTo, LessThan, LessOrEqual, GreaterThan, GreaterOrEqual, ShiftLeft, ShiftRight, Add, Subtract, Multiply, Divide, Remainder}
 use Rattle.arith_syntax.specs.declared.token.Token.{Token}
 use Rattle.arith_syntax.specs.declared.token.Token.TheVariants.{Number, TooLarge, Name, Binary, Tilde, Exclamation, Assign, Question, Colon, LeftParenthesis, RightParenthesis, Separator, End, Bad}
-use Rattle.arith_syntax.specs.Tree.{is_digit, is_letter, is_word, begins_name}
+use Rattle.arith_syntax.specs.Tree.{is_digit, is_letter, is_word}
 
 -- space, tab and carriage return
 abbrev pub is_blank : ℕ → Bool
@@ -118,8 +117,8 @@ or_shorter token n shorter = if is_bad token then shorter else (token, n)
 unfoldable pub symbol : ℕ → ℕ → ℕ → Token × ℕ
 symbol a b c =
     or_shorter (if b == a && c == 61 then shifts a else Bad) 3
-      (or_shorter (if b == 61 then with_equals a else Bad) 2
-        (or_shorter (if b == a then doubled a else Bad) 2 (single a, 1)))
+    (or_shorter (if b == 61 then with_equals a else Bad) 2
+    (or_shorter (if b == a then doubled a else Bad) 2 (single a, 1)))
 
 -- the token that stands first, and its length
 unfoldable pub token_at : List ℕ → Token × ℕ

@@ -1,7 +1,6 @@
 -- Reading a program token by token, by operator precedence: what has begun waits, the newest first, until a token comes
 -- that binds less tight.
-use Rattle.std.specs.Prelude.{◌≡◌, ℕ, ◌+◌, ◌<◌, List, [], ◌∷◌, ◌++◌, Option, Some, None, Result, Ok, Err, Bool, true, false, nat_le, nat_lt, ◌⊎◌, if◌then◌else◌}
-use Rattle.arith_syntax.specs.declared.operators.UnaryOperator.{UnaryOperator}
+use Rattle.std.specs.Prelude.{◌≡◌, ℕ, ◌+◌, ◌<◌, List, [], ◌∷◌, Option, Result, Ok, Err, Bool, true, false, nat_le, nat_lt, ◌⊎◌, if◌then◌else◌}
 use Rattle.arith_syntax.specs.declared.operators.UnaryOperator.TheVariants.{Plus, Minus, Complement, Not}
 use Rattle.arith_syntax.specs.declared.operators.BinaryOperator.{BinaryOperator}
 use Rattle.arith_syntax.specs.declared.operators.BinaryOperator.TheVariants.{Add, Subtract}

@@ -234,7 +234,8 @@ impl Reader {
         ensures { result ≡ may_assign self.now.waits }
     {
         match self.waits.last() {
-            None | Some(Pending::Parenthesis | Pending::Condition | Pending::Assigned(_, _)) => true,
+            None | Some(Pending::Parenthesis | Pending::Condition | Pending::Assigned(_, _)) =>
+                true,
             Some(_) => false,
         }
     }

@@ -1,4 +1,4 @@
-use Rattle.std.proofs.Common.{◌≡◌, ◌∙◌, ap, sym, to_z, of_z, neg_ℤ}
+use Rattle.std.proofs.Common.{◌∙◌, ap, to_z, of_z, neg_ℤ}
 use Rattle.std.specs.Int.{w64, int_wrap, int_wrapping_neg}
 use Rattle.std.proofs.lemmas.Int.{wrapping_neg_is, to_z-of_z, SFits-int_wrap}
 use Rattle.arith_eval.proofs.operation.negated.Goals as goal

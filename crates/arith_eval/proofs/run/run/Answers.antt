@@ -1,14 +1,13 @@
-use Rattle.std.proofs.Common.{rules, ◌≡◌, ◌∙◌, ◌≤◌, ◌<◌, ℕ, ℤ, suc, List, [], ◌∷◌, length, drop, get_or, sym, ap, subst, Ok, Err, Result, to_z, of_z, arith}
+use Rattle.std.proofs.Common.{rules, ◌∙◌, ℤ, suc, ◌∷◌, drop, sym, ap, subst, Ok, Err, Result}
 use Rattle.std.specs.Prelude.{FitsSigned}
 use Rattle.std.specs.Int.{w64}
 use Rattle.std.proofs.Math.Seq.{drop-cons}
 use Rattle.std.proofs.lemmas.List.{drop_all}
 use Rattle.std.proofs.lemmas.Int.{to_z-of_z}
 use Rattle.std.proofs.lemmas.Result.{err_from_is_err_and}
-use Rattle.arith_syntax.specs.Written.{all_written}
 use Rattle.arith_eval.specs.declared.error.ArithError.{ArithError}
 use Rattle.arith_eval.specs.Names.{value_in}
-use Rattle.arith_eval.specs.Value.{Outcome, outcome, value_of_program, Evaluates}
+use Rattle.arith_eval.specs.Value.{Outcome, value_of_program, Evaluates}
 use Rattle.arith_eval.specs.Machine.{at_rest, play}
 use Rattle.arith_eval.proofs.Plays.{plays, stops}
 use Rattle.arith_eval.proofs.run.run.Goals as goal
@@ -24,7 +23,7 @@ returns-in_err-step c =
     let o = sym whole ∙ c.loop-instruction.invariant.same ∙ ap (λ l. play l c.loop-instruction.machine (value_in c.loop-instruction.names)) next in
     let end = stops c.in_err-step.field-0.0 c.instruction-item.result (drop (suc at) items) c.loop-instruction.machine c.step.new.self (value_in c.loop-instruction.names) (value_in c.step.new.names) c.in_err-step.ensures.moves in
     subst (λ (r : Result ℤ ArithError). Evaluates r (value_of_program c.args.program.now before) (value_in c.step.new.names)) (ap Err (sym p.2) ∙ sym p.1)
-      (subst (λ (x : Outcome). Evaluates (Err c.in_err-step.field-0.0) x (value_in c.step.new.names)) (sym o) end)
+    (subst (λ (x : Outcome). Evaluates (Err c.in_err-step.field-0.0) x (value_in c.step.new.names)) (sym o) end)
 
 pub returns : goal.returns
 returns c =

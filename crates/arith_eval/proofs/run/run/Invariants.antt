@@ -6,5 +6,5 @@ use Rattle.arith_eval.proofs.run.run.Given as goal
 abbrev pub invariant-loop-instruction : goal.invariant-loop-instruction
 invariant-loop-instruction l = record {
   skip : l.machine.skip ≤ l.instruction-index;
-  same : play l.instruction-items at_rest (value_in l.fn.names) ≡ play (drop l.instruction-index l.instruction-items) l.machine (value_in l.names)
+  same : play l.instruction-items at_rest (value_in l.fn.names) ≡ play (drop l.instruction-index l.instruction-items) l.machine (value_in l.names);
 }

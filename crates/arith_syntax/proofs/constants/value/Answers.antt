@@ -1,4 +1,4 @@
-use Rattle.std.proofs.Common.{◌≡◌, ℕ, ◌*◌, ◌+◌, ◌^◌, ◌∙◌, ap, sym, min, take, get_or}
+use Rattle.std.proofs.Common.{ℕ, ◌*◌, ◌+◌, ◌∙◌, ap, sym, min, take, get_or}
 use Rattle.std.proofs.lemmas.List.{take_more}
 use Rattle.arith_syntax.specs.Lexical.{digit_value, value_after}
 use Rattle.arith_syntax.proofs.Digits.{value_after_more, value_step}

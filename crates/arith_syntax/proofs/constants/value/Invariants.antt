@@ -1,4 +1,4 @@
-use Rattle.std.proofs.Common.{◌≡◌, ℕ, ◌^◌, take, min}
+use Rattle.std.proofs.Common.{◌≡◌, ◌^◌, take, min}
 use Rattle.arith_syntax.specs.Lexical.{value_after}
 use Rattle.arith_syntax.proofs.constants.value.Given as goal
 

@@ -7,8 +7,7 @@ use Rattle.arith_syntax.specs.Tree.{Tree}
 use Rattle.arith_syntax.specs.Grammar.{Grammar, FirstFault, IsFault}
 use Rattle.arith_syntax.specs.Lexical.{scan}
 use Rattle.arith_syntax.specs.Reading.{run, nothing_read}
-use Rattle.arith_syntax.specs.Written.{IsWhole, trees_of}
-use Rattle.arith_syntax.proofs.Writing.{WholeText, whole_text, whole_code, text_fault, no_fault, one_program, fault_only, fault_none}
+use Rattle.arith_syntax.proofs.Writing.{whole_text, whole_code, text_fault, no_fault, one_program, fault_only, fault_none}
 use Rattle.arith_syntax.proofs.parser.parse.Goals as goal
 
 -- what stands after a fault
@@ -25,7 +24,7 @@ returns-in_err-reader-clause-only c =
     let p = err_from_is_err_and c.from_residual.result c.from_residual.ensures.1 in
     let here = subst (λ t. (c.in_err-reader.field-0.0 ≡ OutOfMemory) ⊎ (run nothing_read (scan 0 0 t) ≡ Err c.in_err-reader.field-0.0)) c.as_bytes.ensures.value c.in_err-reader.ensures.err in
     λ trees g. subst (λ (r : Result (List Tree) SyntaxError). MatchResult r (λ q. q ≡ trees) (λ e. e ≡ OutOfMemory)) (sym p.1)
-      (p.2 ∙ only_memory c.args.text.now c.in_err-reader.field-0.0 here trees g)
+    (p.2 ∙ only_memory c.args.text.now c.in_err-reader.field-0.0 here trees g)
 
 pub returns-in_err-reader-clause-fault : goal.returns-in_err-reader-clause-fault
 returns-in_err-reader-clause-fault c =
@@ -33,7 +32,7 @@ returns-in_err-reader-clause-fault c =
     let here = subst (λ t. (c.in_err-reader.field-0.0 ≡ OutOfMemory) ⊎ (run nothing_read (scan 0 0 t) ≡ Err c.in_err-reader.field-0.0)) c.as_bytes.ensures.value c.in_err-reader.ensures.err in
     let short : length c.args.text.now ≤ 65536 = omega arith in
     subst (λ (r : Result (List Tree) SyntaxError). IfErr r (λ e. FirstFault c.args.text.now e)) (sym p.1)
-      (subst (FirstFault c.args.text.now) (sym p.2) (first_or_memory c.args.text.now c.in_err-reader.field-0.0 short here))
+    (subst (FirstFault c.args.text.now) (sym p.2) (first_or_memory c.args.text.now c.in_err-reader.field-0.0 short here))
 
 pub from_code-requires : goal.from_code-requires
 from_code-requires c =
@@ -74,7 +73,7 @@ returns-in_err-reader-clause-faults c =
     let here = subst (λ t. (c.in_err-reader.field-0.0 ≡ OutOfMemory) ⊎ (run nothing_read (scan 0 0 t) ≡ Err c.in_err-reader.field-0.0)) c.as_bytes.ensures.value c.in_err-reader.ensures.err in
     let short : length c.args.text.now ≤ 65536 = omega arith in
     λ e first nm. subst (λ (r : Result (List Tree) SyntaxError). IsFault e r) (sym (p.1 ∙ ap Err p.2))
-      (one_fault c.args.text.now c.in_err-reader.field-0.0 e short here first nm)
+    (one_fault c.args.text.now c.in_err-reader.field-0.0 e short here first nm)
 
 pub returns-clause-faults : goal.returns-clause-faults
 returns-clause-faults c =

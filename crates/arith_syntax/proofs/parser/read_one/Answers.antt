@@ -1,4 +1,4 @@
-use Rattle.std.proofs.Common.{◌+◌, ◌<◌, ◌≤◌, arith}
+use Rattle.std.proofs.Common.{arith}
 use Rattle.arith_syntax.proofs.Scans.{Taken, taken}
 use Rattle.arith_syntax.proofs.parser.read_one.Goals as goal
 

@@ -1,4 +1,3 @@
-use Rattle.std.proofs.Common.{◌≡◌, true, refl}
 use Rattle.arith_syntax.specs.Tree.{is_word}
 use Rattle.arith_syntax.proofs.Words.{run_words}
 use Rattle.arith_syntax.proofs.scanner.token_at.Goals as goal

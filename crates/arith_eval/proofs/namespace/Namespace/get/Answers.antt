@@ -1,4 +1,4 @@
-use Rattle.std.proofs.Common.{◌≡◌, ◌∙◌, sym, ap}
+use Rattle.std.proofs.Common.{◌∙◌, ap}
 use Rattle.arith_eval.specs.Names.{value_in, named}
 use Rattle.arith_eval.proofs.Naming.{named_value}
 use Rattle.arith_eval.proofs.namespace.Namespace.get.Goals as goal

@@ -1,4 +1,4 @@
-use Rattle.std.proofs.Common.{◌≡◌, ◌∙◌, sym, ap, List, ℕ, to_z, of_z}
+use Rattle.std.proofs.Common.{◌≡◌, ◌∙◌, ap, List, ℕ, to_z, of_z}
 use Rattle.std.specs.Prelude.{string_bytes}
 use Rattle.std.specs.Int.{w64}
 use Rattle.std.proofs.lemmas.Int.{to_z-of_z}
@@ -13,8 +13,8 @@ returns-clause-ok c =
     let value = to_z w64 (of_z w64 c.args.value) in
     let name_is : name ≡ c.args.name.now = c.in_ok-key.ensures.ok ∙ c.as_str.ensures in
     let at : (y : List ℕ) → value_in (named c.insert.new.self.entries) y ≡ assign (value_in c.args.self.now) c.args.name.now c.args.value y = λ y.
-      named_assigned old c.insert.new.self name value c.in_ok-insert.ensures.updates y
-      ∙ ap (λ x. assign (value_in (named old.entries)) x value y) name_is
-      ∙ ap (λ v. assign (value_in (named old.entries)) c.args.name.now v y) (to_z-of_z w64 c.args.value c.ranges.value)
-      ∙ ap (λ m. assign (value_in m) c.args.name.now c.args.value y) c.self.view_is in
+    named_assigned old c.insert.new.self name value c.in_ok-insert.ensures.updates y
+    ∙ ap (λ x. assign (value_in (named old.entries)) x value y) name_is
+    ∙ ap (λ v. assign (value_in (named old.entries)) c.args.name.now v y) (to_z-of_z w64 c.args.value c.ranges.value)
+    ∙ ap (λ m. assign (value_in m) c.args.name.now c.args.value y) c.self.view_is in
     λ i y. at y i
