@@ -2,6 +2,7 @@ pub mod Complete
 pub mod Digits
 pub mod Faults
 pub mod Printed
+mod Rows
 pub mod Scans
 pub mod Sound
 pub mod Words
