@@ -17,7 +17,9 @@ use Rattle.arith_syntax.specs.Reading.{run}
 use Rattle.arith_syntax.specs.Written.{written, all_written, trees_of, IsWhole}
 use Rattle.arith_syntax.specs.Apart.{trees_back}
 use Rattle.arith_syntax.proofs.Complete.{put, put_all, awaiting}
-use Rattle.arith_syntax.proofs.Faults.{read_program, fault_first, program_run, fault_read}
+use Rattle.std.proofs.Common.{inl, inr}
+use Rattle.std.proofs.lemmas.Bool.{cases_lt}
+use Rattle.arith_syntax.proofs.Faults.{read_program, fault_first, program_run, fault_read, long_fault}
 use Rattle.arith_syntax.proofs.Words.{lexemes_proper}
 
 -- what is written tells its trees
@@ -121,3 +123,17 @@ fault_only text e f short first nm r =
 pub fault_none : (text : List ℕ) (e : SyntaxError) (s : State) → length text ≤ 65536 → FirstFault text e → e ≢ errors.OutOfMemory → run nothing_read (scan 0 0 text) ≡ Ok s → ⊥
 fault_none text e s short first nm r =
     let x : ◌≡◌ {A = Result State SyntaxError} (Ok s) (Err e) = sym r ∙ ap (run nothing_read) (sym (scan_lexemes text)) ∙ fault_read text e (lexemes_proper text) first short nm in cc
+
+-- a text has one first fault
+pub same_fault : (text : List ℕ) (d e : SyntaxError) → FirstFault text d → FirstFault text e → d ≢ errors.OutOfMemory → e ≢ errors.OutOfMemory → d ≡ e
+same_fault text d e f g nd ne =
+    elim (cases_lt 65536 (length text)) [
+      | inl long ↦ long_fault text d long f nd ∙ sym (long_fault text e long g ne)
+      | inr short ↦
+          let x : ◌≡◌ {A = Result State SyntaxError} (Err d) (Err e) = sym (fault_read text d (lexemes_proper text) f short nd) ∙ fault_read text e (lexemes_proper text) g short ne in cc
+    ]
+
+-- and no program beside it
+pub fault_or_program : (text : List ℕ) (trees : List Tree) (e : SyntaxError) → Grammar text trees → FirstFault text e → e ≢ errors.OutOfMemory → ⊥
+fault_or_program text trees e g f ne =
+    let x : ◌≡◌ {A = Result State SyntaxError} (Err e) (Ok (awaiting (put_all trees []) [])) = sym (fault_read text e (lexemes_proper text) f g.short ne) ∙ program_run text trees g in cc

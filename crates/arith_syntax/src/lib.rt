@@ -8,6 +8,7 @@
 mod constants;
 pub mod error;
 pub mod instruction;
+pub mod laws;
 pub mod operators;
 pub mod parser;
 pub mod pending;
