@@ -1,5 +1,6 @@
 pub mod Complete
 pub mod Digits
+pub mod Exact
 pub mod Faults
 pub mod Printed
 mod Rows

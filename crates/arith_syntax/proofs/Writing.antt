@@ -19,7 +19,8 @@ use Rattle.arith_syntax.specs.Apart.{trees_back}
 use Rattle.arith_syntax.proofs.Complete.{put, put_all, awaiting}
 use Rattle.std.proofs.Common.{inl, inr}
 use Rattle.std.proofs.lemmas.Bool.{cases_lt}
-use Rattle.arith_syntax.proofs.Faults.{read_program, fault_first, program_run, fault_read, long_fault}
+use Rattle.arith_syntax.proofs.Exact.{fault_read, long_fault}
+use Rattle.arith_syntax.proofs.Faults.{read_program, fault_first, program_run}
 use Rattle.arith_syntax.proofs.Words.{lexemes_proper}
 
 -- what is written tells its trees
