@@ -19,11 +19,12 @@ impl Model for Program {
     ghost use Rattle.arith_syntax.specs.Tree.{Tree};
     ghost use Rattle.arith_syntax.specs.Written.{trees_of, IsWhole};
     ghost use Rattle.arith_syntax.specs.Apart.{program_code};
-    ghost use Rattle.std.specs.Coded.{codes};
+    ghost use Rattle.std.specs.Coded.{coded_list};
+    ghost use Rattle.arith_syntax.specs.contracts.instruction.Instruction as instruction;
 
     ghost Value = { List Tree };
 
-    ghost coded = { program_code (Prim.hlevel codes) };
+    ghost coded = { program_code (coded_list instruction.the_row.coded) };
 
     ghost view = { λ p. trees_of p.code.items };
 
