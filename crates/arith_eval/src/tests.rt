@@ -1,0 +1,116 @@
+//! The values and faults of programs, and the names that they leave.
+
+use crate::error::ArithError;
+use crate::namespace::Namespace;
+use crate::run::run;
+use arith_syntax::error::SyntaxError;
+use arith_syntax::parser::parse;
+use cluster_types::text::Text;
+use std::alloc::{AllocError, Global};
+use std::test::Fail;
+
+/// What a text gives in a namespace: the name of a fault, and the value, or the count of ShiftRange.
+fn outcome(
+    alloc: Global,
+    names: &mut Namespace,
+    text: &str,
+) -> Result<(&'static str, i64), SyntaxError> {
+    let program = parse(alloc, text)?;
+    Ok(match run(alloc, &program, names) {
+        Ok(value) => ("Ok", value),
+        Err(ArithError::NameError(_)) => ("NameError", 0),
+        Err(ArithError::ZeroDivision) => ("ZeroDivision", 0),
+        Err(ArithError::ShiftRange(count)) => ("ShiftRange", count),
+        Err(ArithError::OutOfMemory) => ("OutOfMemory", 0),
+    })
+}
+
+/// What a text gives where no name has a value.
+fn alone(alloc: Global, text: &str) -> Result<(&'static str, i64), SyntaxError> {
+    outcome(alloc, &mut Namespace::new(alloc), text)
+}
+
+/// The value of a name.
+fn named(alloc: Global, names: &Namespace, name: &str) -> Result<Option<i64>, AllocError> {
+    Ok(names.get(&Text::new(alloc, name)?))
+}
+
+#[test]
+fn values(rt: HostRuntime) -> Result<(), Fail> {
+    for (text, value) in [
+        ("(-9223372036854775807-1)/-1", -9_223_372_036_854_775_808),
+        ("(-9223372036854775807-1)%-1", 0),
+        ("x=3;x*x", 9),
+        ("", 0),
+        ("2+3*4", 14),
+        ("10-4-3", 3),
+        ("-7/2*10+-7%2", -31),
+        ("-1>>1", -1),
+        ("1<<63", -9_223_372_036_854_775_808),
+        ("9223372036854775807+1", -9_223_372_036_854_775_808),
+        ("1?2?3:4:5", 3),
+        ("0x10|010^3&6", 26),
+        ("~5+!0*8", 2),
+        ("x=y=4;x+y", 8),
+    ] {
+        assert_eq!(rt; alone(rt.alloc(), text)?, ("Ok", value), "at {text}");
+    }
+    Ok(())
+}
+
+#[test]
+fn only_what_is_needed(rt: HostRuntime) -> Result<(), Fail> {
+    for (text, value) in [
+        ("0&&1/0", 0),
+        ("5||1/0", 1),
+        ("1?2:1/0", 2),
+        ("0?1/0:3", 3),
+        ("0&&(1?x:y)||7", 1),
+        ("2&&3", 1),
+        ("0||0", 0),
+    ] {
+        assert_eq!(rt; alone(rt.alloc(), text)?, ("Ok", value), "at {text}");
+    }
+    Ok(())
+}
+
+#[test]
+fn faults(rt: HostRuntime) -> Result<(), Fail> {
+    for (text, name, count) in [
+        ("1<<64", "ShiftRange", 64),
+        ("1>>-1", "ShiftRange", -1),
+        ("x", "NameError", 0),
+        ("x+=1", "NameError", 0),
+        ("1/0", "ZeroDivision", 0),
+        ("1%0", "ZeroDivision", 0),
+        ("1/0+x", "ZeroDivision", 0),
+    ] {
+        assert_eq!(rt; alone(rt.alloc(), text)?, (name, count), "at {text}");
+    }
+    Ok(())
+}
+
+#[test]
+fn assignments_before_a_fault_stand(rt: HostRuntime) -> Result<(), Fail> {
+    let alloc = rt.alloc();
+    let mut names = Namespace::new(alloc);
+    assert_eq!(rt;
+        outcome(alloc, &mut names, "a=2;b=(a=7)+1/0")?,
+        ("ZeroDivision", 0)
+    );
+    assert_eq!(rt; named(alloc, &names, "a")?, Some(7));
+    assert_eq!(rt; named(alloc, &names, "b")?, None);
+    assert_eq!(rt; outcome(alloc, &mut names, "a+=(a=1)")?, ("Ok", 8));
+    Ok(())
+}
+
+#[test]
+fn a_long_chain(rt: HostRuntime) -> Result<(), Fail> {
+    let alloc = rt.alloc();
+    let mut text = String::from_str(alloc, "1")?;
+    for _ in 0..30_000 {
+        text.push_str("+1")?;
+    }
+    assert_eq!(rt; alone(alloc, text.as_str())?, ("Ok", 30_001));
+    Ok(())
+}

@@ -1,0 +1,137 @@
+//! Texts that are programs, and the first faults of texts that are none.
+
+use crate::error::SyntaxError;
+use crate::parser::parse;
+use crate::printing::print;
+use std::alloc::{AllocError, Global};
+use std::test::Fail;
+
+/// The name of a parse's outcome, and the place of its fault, or 0.
+fn outcome(alloc: Global, text: &str) -> (&'static str, usize) {
+    match parse(alloc, text) {
+        Ok(_) => ("Ok", 0),
+        Err(SyntaxError::BadToken(at)) => ("BadToken", at),
+        Err(SyntaxError::BadSyntax(at)) => ("BadSyntax", at),
+        Err(SyntaxError::TooDeep(at)) => ("TooDeep", at),
+        Err(SyntaxError::ConstantTooLarge(at)) => ("ConstantTooLarge", at),
+        Err(SyntaxError::TooLong) => ("TooLong", 0),
+        Err(SyntaxError::OutOfMemory) => ("OutOfMemory", 0),
+    }
+}
+
+/// A text with a number of equal pieces in its middle.
+fn repeated(
+    alloc: Global,
+    front: &str,
+    piece: &str,
+    times: usize,
+    back: &str,
+) -> Result<String, AllocError> {
+    let mut text = String::from_str(alloc, front)?;
+    for _ in 0..times {
+        text.push_str(piece)?;
+    }
+    text.push_str(back)?;
+    Ok(text)
+}
+
+/// The text of the program of a text.
+fn printed(alloc: Global, text: &str) -> Result<String, SyntaxError> {
+    let program = parse(alloc, text)?;
+    Ok(print(alloc, &program)?)
+}
+
+#[test]
+fn first_faults(rt: HostRuntime) {
+    for (text, name, at) in [
+        ("08", "BadToken", 0),
+        ("1+", "BadSyntax", 2),
+        ("9223372036854775808", "ConstantTooLarge", 0),
+        ("1 9223372036854775808", "BadSyntax", 2),
+        ("x+1=3", "BadSyntax", 3),
+        ("(x)=1", "BadSyntax", 3),
+        ("a?b:c=1", "BadSyntax", 5),
+        ("@", "BadToken", 0),
+        ("1+1@", "BadToken", 3),
+        (")", "BadSyntax", 0),
+        ("(1", "BadSyntax", 2),
+        ("1 2 @", "BadSyntax", 2),
+        ("1;2)", "BadSyntax", 3),
+        ("1+9223372036854775808", "ConstantTooLarge", 2),
+        ("x===1", "BadSyntax", 3),
+        ("1 ? 2", "BadSyntax", 5),
+        ("(1;2)", "BadSyntax", 2),
+        ("1+\u{e9}", "BadToken", 2),
+    ] {
+        assert_eq!(rt; outcome(rt.alloc(), text), (name, at), "at {text}");
+    }
+}
+
+#[test]
+fn constants_at_their_limits(rt: HostRuntime) {
+    for (text, name) in [
+        ("9223372036854775807", "Ok"),
+        ("0777777777777777777777", "Ok"),
+        ("01000000000000000000000", "ConstantTooLarge"),
+        ("0x7fffFFFFffffFFFF", "Ok"),
+        ("0X8000000000000000", "ConstantTooLarge"),
+        ("0x", "BadToken"),
+        ("0xg", "BadToken"),
+        ("1a", "BadToken"),
+        ("0", "Ok"),
+    ] {
+        assert_eq!(rt; outcome(rt.alloc(), text), (name, 0), "at {text}");
+    }
+}
+
+#[test]
+fn nesting(rt: HostRuntime) -> Result<(), Fail> {
+    let alloc = rt.alloc();
+    for (open, close, times, name, at) in [
+        ("(", ")", 64, "Ok", 0),
+        ("(", ")", 65, "TooDeep", 64),
+        ("- ", "", 64, "Ok", 0),
+        ("- ", "", 65, "TooDeep", 128),
+        ("a=", "", 65, "TooDeep", 129),
+        ("a?1:", "", 65, "TooDeep", 257),
+    ] {
+        let front = repeated(alloc, "", open, times, "1")?;
+        let text = repeated(alloc, front.as_str(), close, times, "")?;
+        assert_eq!(rt; outcome(alloc, text.as_str()), (name, at), "at {open}");
+    }
+    Ok(())
+}
+
+#[test]
+fn lengths(rt: HostRuntime) -> Result<(), Fail> {
+    let alloc = rt.alloc();
+    for (front, piece, times, name) in [
+        ("", " ", 65_536, "Ok"),
+        ("", "@", 65_537, "TooLong"),
+        ("1", "+1", 30_000, "Ok"),
+        ("", "x", 255, "Ok"),
+        ("", "x", 256, "BadToken"),
+    ] {
+        let text = repeated(alloc, front, piece, times, "")?;
+        assert_eq!(rt; outcome(alloc, text.as_str()), (name, 0), "at {piece}");
+    }
+    Ok(())
+}
+
+#[test]
+fn prints_programs(rt: HostRuntime) -> Result<(), Fail> {
+    for (text, want) in [
+        ("x=3;x*x", "x = 3 \nx * x \n"),
+        (
+            "a>>=0x10\n\n-(b?~1:!c)--010",
+            "a >>= 16 \n- ( b ? ~ 1 : ! c ) - - 8 \n",
+        ),
+        ("", ""),
+    ] {
+        let first = printed(rt.alloc(), text)?;
+        assert_eq!(rt; first.as_str(), want);
+        let again = printed(rt.alloc(), first.as_str())?;
+        assert_eq!(rt; again.as_str(), want);
+    }
+    Ok(())
+}
