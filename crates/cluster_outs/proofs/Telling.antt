@@ -54,8 +54,11 @@ use Rattle.std.proofs.lemmas.Bool.{both_ways}
 
 -- WHAT THE DATA STAND FOR
 
+pub facts_from : (p : Plain) (h : History) → Legal h → p ≡ plain_of (facts h) → facts_in p ≡ facts h
+facts_from p h legal is = ap facts_in is ∙ exact h legal
+
 pub facts_are : (p : Plain) (r : Reached p) → facts_in p ≡ facts r.history
-facts_are p r = ap facts_in r.is ∙ exact r.history r.legal
+facts_are p r = facts_from p r.history r.legal r.is
 
 abbrev pub reached : (p : Plain) (e : Entry) → IsNext p e → Reached p
 reached p e n = record { history = n.history; legal = n.legal.1; is = n.is }
