@@ -1,4 +1,4 @@
-use Rattle.std.proofs.Common.{◌≡◌, ap, ◌∙◌}
+use Rattle.std.proofs.Common.{ap, ◌∙◌}
 use Rattle.cluster_defs.specs.Outs.{outs_as}
 use Rattle.cluster_state.specs.Stands.{plain}
 use Rattle.cluster_outs.proofs.Telling.{facts_from}
