@@ -20,6 +20,7 @@ use Rattle.cluster_defs.proofs.Says.{due_says}
 use Rattle.cluster_state.specs.Plain.{Plain, plain_of, facts_in, after, InTime}
 use Rattle.cluster_state.proofs.Exact.{exact}
 use Rattle.cluster_state.proofs.Steps.{taken_is}
+use Rattle.whole_core.specs.More.{IsMore}
 use Rattle.whole_core.specs.Steps.{PlanView, planned, AllInTime, kept_one, kept_from, Stands, IsGrown}
 
 -- ENTRIES
@@ -138,15 +139,6 @@ grown_first old before at p event s allowed time meant none placed data_is sends
       kept_are = keeps ∙ ap (λ f. kept_one (is_kept_as f (Input p.input) event) (Input p.input)) told ∙ ap (λ o. kept_one (is_kept_as (facts old) (Input p.input) o) (Input p.input)) meant
           ∙ sym (kept_first (Input p.input) old) ∙ ap (kept_from (length old)) (sym alone);
     }
-
--- a plan with a decision more
-pub record IsMore (p q : PlanView) (d : Entry) : Type 0 where
-  pub input : q.input ≡ p.input
-  pub decisions : q.decisions ≡ p.decisions ++ d ∷ []
-  pub place : q.place ≡ suc p.place
-  pub plain : q.plain ≡ after (facts_in p.plain) d None p.plain
-  pub outs : q.outs ≡ p.outs ++ outs_as q.place (facts_in p.plain) d None
-  pub kept : q.kept ≡ p.kept ++ d ∷ []
 
 more_planned : (old : History) (p q : PlanView) (d : Entry) → IsMore p q d → planned old q ≡ d ∷ planned old p
 more_planned old p q d more =

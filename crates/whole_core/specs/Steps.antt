@@ -1,9 +1,10 @@
 -- One step of a core: an input, and all decisions that are then due.
-use Rattle.std.specs.Prelude.{◌≡◌, ◌≤◌, ◌+◌, ℕ, ⊤, nat_lt, Bool, true, false, List, [], ◌∷◌, ◌++◌, length, reverse, Option, Some, None, Result, Ok, Err, if◌then◌else◌}
+use Rattle.std.specs.Prelude.{◌≡◌, ◌≤◌, ◌+◌, ℕ, suc, ⊤, nat_lt, Bool, true, false, List, [], ◌∷◌, ◌++◌, length, reverse, Option, Some, None, Result, Ok, Err, if◌then◌else◌}
 use Rattle.cluster_types.specs.declared.event.Event.{Event}
 use Rattle.cluster_types.specs.declared.event.Reason.{Reason}
 use Rattle.cluster_types.specs.declared.entry.Entry.{Entry}
 use Rattle.cluster_types.specs.declared.entry.Entry.TheVariants.{Input}
+use Rattle.cluster_types.specs.declared.entry.Input.TheVariants.{Open}
 use Rattle.cluster_types.specs.declared.entry.Input.{Input as InputType}
 use Rattle.cluster_types.specs.declared.out.Out.{Out}
 use Rattle.cluster_defs.specs.Facts.{Facts, event_in}
@@ -68,3 +69,8 @@ pub record IsPlan (core : CoreView) (p : PlanView) : Type 0 where
 abbrev pub understood : Result Event Reason → Option Event
 understood (Ok event) = Some event
 understood (Err reason) = None
+
+-- the place of an entry behind one at a place
+abbrev pub place_after : Entry → ℕ → ℕ
+place_after (Input (Open moment scheme hwm misses)) at = 0
+place_after _ at = suc at

@@ -1,0 +1,199 @@
+//! The state machine.
+
+ghost use Rattle.std.specs.Prelude.{◌≡◌, ◌≤◌, ◌+◌, ◌∷◌, ◌++◌, [], reverse, length, vec_len, vec_capacity, true, None, Some, IfOk, OnOk};
+ghost use Rattle.std.specs.Option.{ForSome};
+ghost use Rattle.cluster_types.specs.declared.entry.Entry.{Entry};
+ghost use Rattle.cluster_defs.specs.Facts.{event_in};
+ghost use Rattle.cluster_defs.specs.Scheduling.{due, may_take};
+ghost use Rattle.cluster_defs.specs.Histories.{facts, Legal, decide_all};
+ghost use Rattle.cluster_defs.specs.Outs.{outs_from};
+ghost use Rattle.cluster_state.specs.Plain.{InTime, facts_in};
+ghost use Rattle.cluster_state.specs.Stands.{plain};
+ghost use Rattle.whole_core.specs.Steps.{IsPlan, planned, kept_from, AllInTime, Stands};
+
+use crate::intake::{Known, event_of_input, rebuilt};
+use crate::plan::Plan;
+use cluster_types::entry::{Entries, Entry, Input};
+use cluster_types::event::Event;
+use cluster_types::out::Outs;
+use load_schemes::chooser::Chooser;
+use std::alloc::{AllocError, Global};
+use std::marker::Model;
+
+/// What a step made.
+#[derive(Drop)]
+pub struct Made {
+    /// What it sends, in order.
+    pub outs: Outs,
+    /// The entries that a journal keeps, in order.
+    pub kept: Entries,
+}
+
+/// A controller without connections, disk and clock. Contracts see its history, the newest entry first, and for how
+/// many entries it has room. The history is legal, and no decision is due after it.
+#[derive(Drop)]
+pub struct Core {
+    entries: Vec<Entry>,
+    /// What is known after the entries, where no step was given up for want of memory.
+    known: Option<Known>,
+    chooser: Chooser,
+}
+
+impl Model for Core {
+    ghost use Rattle.std.specs.Prelude.{◌≡◌, ◌-◌, reverse, vec_len, vec_capacity, None};
+    ghost use Rattle.std.specs.Option.{ForSome};
+    ghost use Rattle.cluster_defs.specs.Scheduling.{due};
+    ghost use Rattle.cluster_defs.specs.Histories.{facts, Legal};
+    ghost use Rattle.cluster_state.specs.Stands.{plain};
+    ghost use Rattle.whole_core.specs.Steps.{CoreView, AllInTime, Stands};
+
+    ghost Value = { CoreView };
+
+    ghost view = { λ c. record { history = reverse c.entries.items; spare = vec_capacity c.entries - vec_len c.entries } };
+
+    ghost invariant = { λ c. Legal (reverse c.entries.items) × (due (facts (reverse c.entries.items)) ≡ None) × AllInTime (reverse c.entries.items) × ForSome c.known (λ k. Stands (reverse c.entries.items) (plain k.state) k.place) };
+}
+
+impl Core {
+    /// A core with an empty history. It takes no memory.
+    pub fn new(alloc: Global, chooser: Chooser) -> Core
+        ensures { result.history ≡ [] }
+    {
+        Core {
+            entries: Vec::new(alloc),
+            known: None,
+            chooser,
+        }
+    }
+
+    /// The history, in the order in which its entries came.
+    pub fn history(&self) -> &[Entry]
+        ensures is { reverse result.now ≡ self.now.history }
+        ensures legal { Legal self.now.history }
+        ensures rests { due (facts self.now.history) ≡ None }
+        ensures time { AllInTime self.now.history }
+    {
+        self.entries.as_slice()
+    }
+
+    /// What is known after the history. Where a step was given up, it is read off the entries again.
+    fn take_known(&mut self) -> Result<Known, AllocError>
+        ensures same { self.new.history ≡ self.old.history }
+        ensures known { IfOk result (λ k. Stands self.old.history (plain k.state) k.place) }
+    {
+        let cached = self.known.take();
+        known_after(*self.entries.allocator(), cached, self.entries.as_slice())
+    }
+
+    /// Keeps what is known.
+    fn keep_known(&mut self, known: Known)
+        requires { Stands self.old.history (plain known.state) known.place }
+        ensures { self.new.history ≡ self.old.history }
+    {
+        self.known = Some(known);
+    }
+
+    /// The allocator that the core takes its memory from.
+    pub fn allocator(&self) -> Global {
+        *self.entries.allocator()
+    }
+
+    /// What the message of an input means: none for other inputs, and for a message that is junk or on no connection.
+    pub fn understand(&mut self, input: &Input) -> Result<Option<Event>, AllocError>
+        ensures same { self.new.history ≡ self.old.history }
+        ensures event { IfOk result (λ e. e ≡ event_in (facts self.old.history) (Entry.Input input.now)) }
+    {
+        let known = self.take_known()?;
+        let event = event_of_input(self.allocator(), &known.state, input)?;
+        self.keep_known(known);
+        Ok(event)
+    }
+
+    /// Makes room for so many further entries.
+    fn reserve(&mut self, more: usize) -> Result<(), AllocError>
+        ensures same { self.new.history ≡ self.old.history }
+        ensures room { OnOk result (more ≤ self.new.spare) }
+    {
+        self.entries.reserve(more)
+    }
+
+    /// Works out the step of an input that may come. `event` is what its message means. It takes all the memory of the
+    /// step.
+    fn plan_with(&mut self, input: Input, event: &Option<Event>) -> Result<Plan, AllocError>
+        requires event { event.now ≡ event_in (facts self.old.history) (Entry.Input input) }
+        requires taken { may_take (facts self.old.history) input event.now ≡ true }
+        requires time { InTime (Entry.Input input) }
+        ensures same { self.new.history ≡ self.old.history }
+        ensures ok { IfOk result (λ p. IsPlan self.new p) }
+        ensures input { IfOk result (λ p. p.input ≡ input) }
+    {
+        let known = self.take_known()?;
+        let plan = Plan::work_out(self.allocator(), self.history(), known, input, event, &self.chooser)?;
+        self.reserve(plan.steps())?;
+        Ok(plan)
+    }
+
+    /// Works out the step of an input that may come. `event` is what its message means. It takes all the memory of the
+    /// step.
+    pub fn plan(&mut self, input: Input, event: Option<Event>) -> Result<Plan, AllocError>
+        requires event { event ≡ event_in (facts self.old.history) (Entry.Input input) }
+        requires taken { may_take (facts self.old.history) input event ≡ true }
+        requires time { InTime (Entry.Input input) }
+        ensures same { self.new.history ≡ self.old.history }
+        ensures ok { IfOk result (λ p. IsPlan self.new p) }
+        ensures input { IfOk result (λ p. p.input ≡ input) }
+    {
+        self.plan_with(input, &event)
+    }
+
+    /// Takes the step that was planned last: the input and all decisions that are then due. It takes no memory.
+    pub fn apply(&mut self, plan: Plan) -> Made
+        requires { IsPlan self.old plan }
+        ensures history { self.new.history ≡ decide_all (Entry.Input plan.input ∷ self.old.history) }
+        ensures outs { result.outs ≡ outs_from (length self.old.history) self.new.history }
+        ensures kept { result.kept ≡ kept_from (length self.old.history) self.new.history }
+    {
+        let Plan {
+            input,
+            decisions,
+            outs,
+            kept,
+            known,
+        } = plan;
+        add_step(&mut self.entries, input, decisions);
+        self.known = Some(known);
+        Made {
+            outs: Outs::from_vec(outs),
+            kept: Entries::from_vec(kept),
+        }
+    }
+}
+
+/// What is known after a history: what is kept of it, or what its entries say.
+fn known_after(
+    alloc: Global,
+    cached: Option<Known>,
+    entries: &[Entry],
+) -> Result<Known, AllocError>
+    requires legal { Legal (reverse entries.now) }
+    requires time { AllInTime (reverse entries.now) }
+    requires cached { ForSome cached (λ k. Stands (reverse entries.now) (plain k.state) k.place) }
+    ensures { IfOk result (λ k. Stands (reverse entries.now) (plain k.state) k.place) }
+{
+    match cached {
+        Some(known) => Ok(known),
+        None => {
+            let known = rebuilt(alloc, entries)?;
+            Ok(known)
+        }
+    }
+}
+
+/// Adds an input and the decisions after it, into the room that is there.
+fn add_step(entries: &mut Vec<Entry>, input: Input, mut decisions: Vec<Entry>)
+    requires { vec_len entries.old + vec_len decisions + 1 ≤ vec_capacity entries.old }
+    ensures { reverse entries.new.items ≡ reverse decisions.items ++ Entry.Input input ∷ reverse entries.old.items }
+{
+    entries.push_reserved(Entry::Input(input));
+    let _ = entries.append(&mut decisions);
+}
