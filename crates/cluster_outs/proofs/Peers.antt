@@ -1,5 +1,5 @@
 -- The connection of a peer, where one more connection comes.
-use Rattle.std.proofs.Common.{◌≡◌, ℕ, List, [], ◌∷◌, ◌++◌, map, filter, true, false, cond, refl, sym, ap, ◌∙◌, Option, Some, None}
+use Rattle.std.proofs.Common.{◌≡◌, ℕ, List, [], ◌∷◌, ◌++◌, map, filter, true, false, cond, refl, ap, ◌∙◌, Some}
 use Rattle.std.specs.Prelude.{max, fold}
 use Rattle.cluster_defs.specs.declared.connection.Connection.{Connection}
 use Rattle.cluster_defs.specs.Connections.{Peer, is_of_peer, highest, reached}
@@ -18,7 +18,7 @@ numbers_on : (peer : Peer) (live : List Connection) (c : Connection) → is_of_p
 numbers_on peer [] c on = rw on refl
 numbers_on peer (d ∷ live) c on =
     elim (is_of_peer peer d) as (λ b. map (λ (x : Connection). x.number) (cond b (d ∷ filter (is_of_peer peer) (live ++ c ∷ [])) (filter (is_of_peer peer) (live ++ c ∷ [])))
-        ≡ map (λ (x : Connection). x.number) (cond b (d ∷ filter (is_of_peer peer) live) (filter (is_of_peer peer) live)) ++ c.number ∷ []) [
+    ≡ map (λ (x : Connection). x.number) (cond b (d ∷ filter (is_of_peer peer) live) (filter (is_of_peer peer) live)) ++ c.number ∷ []) [
       | true ↦ ap (λ ns. d.number ∷ ns) (numbers_on peer live c on)
       | false ↦ numbers_on peer live c on
     ]

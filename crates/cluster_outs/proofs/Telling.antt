@@ -1,5 +1,5 @@
 -- What the data of a legal history tell.
-use Rattle.std.proofs.Common.{◌≡◌, ℕ, List, [], ◌∷◌, ◌++◌, map, Bool, true, false, cond, ◌&&◌, ◌<◌, refl, sym, ap, ◌∙◌, subst, bytes_eq, Option, Some, None}
+use Rattle.std.proofs.Common.{◌≡◌, ℕ, List, [], ◌∷◌, ◌++◌, map, Bool, true, false, cond, ◌&&◌, refl, sym, ap, ◌∙◌, subst, bytes_eq, Option, Some, None}
 use Rattle.std.specs.Prelude.{find, nat_lt, not, ◌==◌, option_map}
 use Rattle.std.specs.List.{list_all}
 use Rattle.std.specs.Option.{option_and_then}
@@ -20,10 +20,10 @@ use Rattle.cluster_defs.specs.declared.acceptance.Acceptance.TheVariants.{Reserv
 use Rattle.cluster_defs.specs.declared.engine.Engine.{Engine}
 use Rattle.cluster_defs.specs.Words.{Id, is_listed, once, begins_with}
 use Rattle.cluster_defs.specs.Connections.{reached as reached_conn}
-use Rattle.cluster_defs.specs.Tasks.{Settled, settled_as}
+use Rattle.cluster_defs.specs.Tasks.{settled_as}
 use Rattle.cluster_defs.specs.Requests.{Request}
 use Rattle.cluster_defs.specs.Facts.{Facts, is_settled}
-use Rattle.cluster_defs.specs.Acceptance.{Demand, acceptance, acceptance_new, reserved_front, most_ids}
+use Rattle.cluster_defs.specs.Acceptance.{Demand, acceptance, reserved_front, most_ids}
 use Rattle.cluster_defs.specs.Purges.{purge_list, purging, resubmitting}
 use Rattle.cluster_defs.specs.Steps.{step}
 use Rattle.cluster_defs.specs.Histories.{History, facts, Legal}
@@ -54,8 +54,11 @@ use Rattle.std.proofs.lemmas.Bool.{both_ways}
 
 -- WHAT THE DATA STAND FOR
 
+pub facts_from : (p : Plain) (h : History) → Legal h → p ≡ plain_of (facts h) → facts_in p ≡ facts h
+facts_from p h legal is = ap facts_in is ∙ exact h legal
+
 pub facts_are : (p : Plain) (r : Reached p) → facts_in p ≡ facts r.history
-facts_are p r = ap facts_in r.is ∙ exact r.history r.legal
+facts_are p r = facts_from p r.history r.legal r.is
 
 abbrev pub reached : (p : Plain) (e : Entry) → IsNext p e → Reached p
 reached p e n = record { history = n.history; legal = n.legal.1; is = n.is }
@@ -205,7 +208,7 @@ settle_told : (p : Plain) (id : Id) (v : Verdict) (c : Cause) (t : Seen) → Rea
     outcome_for (settled_as v c p.moment t.attempts) c t ≡ outcome (step (facts_in p) (Settle id v c) None) id
 settle_told p id v c t r =
     subst (λ q. seen_in q.tasks id ≡ Some t → is_settled (facts_in q) id ≡ false → outcome_for (settled_as v c q.moment t.attempts) c t ≡ outcome (step (facts_in q) (Settle id v c) None) id)
-        (sym r.is) (settle_then r.history id v c t r.legal)
+    (sym r.is) (settle_then r.history id v c t r.legal)
 
 owner_told : (p : Plain) (id : Id) (t : Seen) (q : Request) → seen_in p.tasks id ≡ Some t → t.request ≡ Some q → option_and_then (reached_conn p.connections) q.owner ≡ owner_conn (facts_in p) ((facts_in p).request_of id)
 owner_told p id t q is has = rw (is, has) refl

@@ -35,11 +35,7 @@ pub fn submit_refused(alloc: Global) -> Result<Text, AllocError>
 }
 
 /// The refusal of a request for a task, by the ids concerned.
-fn refused(
-    alloc: Global,
-    ename: &str,
-    evalue: &str,
-) -> Result<Option<Answer>, AllocError>
+fn refused(alloc: Global, ename: &str, evalue: &str) -> Result<Option<Answer>, AllocError>
     ensures { IfOk result (λ a. a ≡ Some (refusal ename.now evalue.now [])) }
 {
     let answer = refusal(alloc, ename, evalue, &Ids::new(alloc))?;

@@ -83,10 +83,30 @@ fn input_outs(
     }
 }
 
-/// What an entry at a place after the last Open sends, where it may stand next after what the state stands for. `event`
-/// is what the message of an input means, where it isn't junk. The moment of the last input has to be one before the year
-/// 10000.
-#[tactic(auto, using(crate::proofs::Telling::reached, crate::proofs::Telling::settles_open))]
+/// What an entry that may stand next sends.
+#[tactic(auto, using(crate::proofs::Telling::reached))]
+fn entry_outs(
+    alloc: Global,
+    place: u64,
+    state: &State,
+    entry: &Entry,
+    event: &Option<Event>,
+) -> Result<Outs, AllocError>
+    requires next { IsNext (plain state.now) entry.now }
+    requires moment { state.now.moment ≤ 253402300799999 }
+    ensures { IfOk result (λ outs. outs ≡ outs_as place (facts_in (plain state.now)) entry.now event.now) }
+{
+    match entry {
+        Entry::Input(input) => input_outs(alloc, place, state, input, event),
+        Entry::Hand { id, engine } => hand_outs(alloc, state, id, *engine),
+        Entry::Settle { id, verdict, cause } => settle_outs(alloc, state, id, *verdict, *cause),
+        Entry::Lose { engine: _ } => Ok(Outs::new(alloc)),
+    }
+}
+
+/// What an entry sends at a place after the last Open, which has the place 0. The state is that before the entry, and
+/// the moment of its last input is one before the year 10000. `event` is what the message of an input means, where it
+/// isn't junk.
 pub fn outs(
     alloc: Global,
     place: u64,
@@ -96,12 +116,9 @@ pub fn outs(
 ) -> Result<Outs, AllocError>
     requires next { IsNext (plain state.now) entry.now }
     requires moment { state.now.moment ≤ 253402300799999 }
-    ensures data { IfOk result (λ outs. outs ≡ outs_as place (facts_in (plain state.now)) entry.now event.now) }
+    ensures state { IfOk result (λ outs. outs ≡ outs_as place (facts_in (plain state.now)) entry.now event.now) }
+    ensures history { IfOk result (λ outs. (history : History) → Legal history → plain state.now ≡ plain_of (facts history) → outs ≡ outs_as place (facts history) entry.now event.now) }
 {
-    match entry {
-        Entry::Input(input) => input_outs(alloc, place, state, input, event),
-        Entry::Hand { id, engine } => hand_outs(alloc, state, id, *engine),
-        Entry::Settle { id, verdict, cause } => settle_outs(alloc, state, id, *verdict, *cause),
-        Entry::Lose { engine: _ } => Ok(Outs::new(alloc)),
-    }
+    let sent = entry_outs(alloc, place, state, entry, event)?;
+    Ok(sent)
 }

@@ -134,12 +134,7 @@ fn hand_out(alloc: Global, state: &State, id: &Text) -> Result<Option<Message>, 
 }
 
 /// What a Hand sends: the request, to the engine.
-pub fn hand_outs(
-    alloc: Global,
-    state: &State,
-    id: &Text,
-    engine: u32,
-) -> Result<Outs, AllocError>
+pub fn hand_outs(alloc: Global, state: &State, id: &Text, engine: u32) -> Result<Outs, AllocError>
     ensures { IfOk result (λ outs. outs ≡ pass_to (conn_in engine state.now.engines.items) (hand_out (facts_in (plain state.now)) id.now)) }
 {
     let message = hand_out(alloc, state, id)?;

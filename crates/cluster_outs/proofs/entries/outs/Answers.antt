@@ -1,9 +1,9 @@
-use Rattle.std.proofs.Common.{subst}
+use Rattle.std.proofs.Common.{ap, ◌∙◌}
+use Rattle.cluster_defs.specs.Outs.{outs_as}
 use Rattle.cluster_state.specs.Stands.{plain}
-use Rattle.cluster_outs.specs.Reached.{IsNext}
-use Rattle.cluster_outs.proofs.Telling.{settles_open}
+use Rattle.cluster_outs.proofs.Telling.{facts_from}
 use Rattle.cluster_outs.proofs.entries.outs.Goals as goal
 
-pub settle_outs-requires-clause-unsettled : goal.settle_outs-requires-clause-unsettled
-settle_outs-requires-clause-unsettled c =
-    settles_open (plain c.args.state.now) c.in-Settle.id c.in-Settle.verdict c.in-Settle.cause (subst (IsNext (plain c.args.state.now)) c.in-Settle.is c.requires.next)
+pub returns-clause-history : goal.returns-clause-history
+returns-clause-history c = λ h legal is.
+    c.in_ok-sent.ensures ∙ ap (λ f. outs_as c.args.place f c.args.entry.now c.args.event.now) (facts_from (plain c.args.state.now) h legal is)

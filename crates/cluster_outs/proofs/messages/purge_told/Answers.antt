@@ -1,4 +1,4 @@
-use Rattle.std.proofs.Common.{◌≡◌, ap, ◌∙◌}
+use Rattle.std.proofs.Common.{ap, ◌∙◌}
 use Rattle.cluster_defs.specs.RecordPlans.{purge_list_in, purge_in}
 use Rattle.cluster_defs.specs.Queries.{limited, purge_answer}
 use Rattle.cluster_state.specs.Stands.{plain}
@@ -9,4 +9,4 @@ pub returns : goal.returns
 returns c =
     c.in_ok-answer.ensures
     ∙ ap (λ x. limited c.args.channel (purge_answer x))
-        (c.in_ok-plan.ensures ∙ ap (λ rs. purge_in rs (purge_list_in rs c.args.all c.args.ids.now)) c.new-rows.ensures ∙ purge_told (plain c.args.state.now) c.args.all c.args.ids.now c.requires)
+    (c.in_ok-plan.ensures ∙ ap (λ rs. purge_in rs (purge_list_in rs c.args.all c.args.ids.now)) c.new-rows.ensures ∙ purge_told (plain c.args.state.now) c.args.all c.args.ids.now c.requires)

@@ -1,4 +1,4 @@
-use Rattle.std.proofs.Common.{◌≡◌, sym, ap, ◌∙◌, inl, inr}
+use Rattle.std.proofs.Common.{sym, ◌∙◌, inl, inr}
 use Rattle.cluster_outs.proofs.Telling.{has_memory}
 use Rattle.cluster_outs.proofs.messages.refused_or_memory.Goals as goal
 

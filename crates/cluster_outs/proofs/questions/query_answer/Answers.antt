@@ -1,10 +1,10 @@
-use Rattle.std.proofs.Common.{◌≡◌, ℕ, List, map, sym, ap, ◌∙◌, subst}
+use Rattle.std.proofs.Common.{ℕ, List, map, sym, ap, ◌∙◌, subst}
 use Rattle.cluster_defs.specs.declared.engine.Engine.{Engine}
 use Rattle.cluster_defs.specs.RecordAnswers.{answer_in}
 use Rattle.cluster_state.specs.Seen.{Seen}
 use Rattle.cluster_state.specs.Stands.{plain}
 use Rattle.hub_queries.specs.Ascending.{Ascends}
-use Rattle.cluster_outs.specs.Asked.{asked_type, asked_live}
+use Rattle.cluster_outs.specs.Asked.{asked_live}
 use Rattle.cluster_outs.proofs.Telling.{asked_answer, asked_ascends}
 use Rattle.cluster_outs.proofs.questions.query_answer.Goals as goal
 
