@@ -61,6 +61,7 @@ place_back id (x ∷ xs) ys h =
     left_off : (a b : Bool) → (a || b) ≡ false → a ≡ false
     left_off true b k = cc
     left_off false b k = refl
+
     right_off : (a b : Bool) → (a || b) ≡ false → b ≡ false
     right_off true b k = cc
     right_off false b k = k
@@ -151,7 +152,7 @@ accepted_tasks h conn moment word m event None legal is =
     let f = facts h in
     let g = after_accepted f conn moment word m event None in
     let same = λ (id : Id) (listed : is_listed id f.known ≡ true).
-        look_is g id ∙ rw (ap suc (place_front id f.known [] listed), or_else-None (f.request_of id), or_else-None (f.body_of id)) refl ∙ sym (look_is f id) in
+    look_is g id ∙ rw (ap suc (place_front id f.known [] listed), or_else-None (f.request_of id), or_else-None (f.body_of id)) refl ∙ sym (look_is f id) in
     let tasks : map (look g) (f.known ++ []) ≡ map (look f) f.known = ap (map (look g)) (append-nil f.known) ∙ map_listed (look g) (look f) f.known same in
     rw tasks refl
 accepted_tasks h conn moment word m event (Some d) legal is =
@@ -159,10 +160,10 @@ accepted_tasks h conn moment word m event (Some d) legal is =
     let g = after_accepted f conn moment word m event (Some d) in
     let off = (accepted_says f m event d is).unlisted in
     let front : map (look g) f.known ≡ map (look f) f.known =
-        map_listed (look g) (look f) f.known (λ id listed. old_look f conn moment word m event d id (has_request h id listed) (has_body h id listed) listed) in
+    map_listed (look g) (look f) f.known (λ id listed. old_look f conn moment word m event d id (has_request h id listed) (has_body h id listed) listed) in
     let count : length (map (look f) f.known) ≡ length f.known = length-map f.known (look f) in
     let tasks : map (look g) (f.known ++ d.submission.id ∷ []) ≡ map (look f) f.known ++ begun d.submission.id (length (map (look f) f.known) + 1) (request_made f conn moment m d) (body_of m) ∷ [] =
-        map-append (look g) f.known (d.submission.id ∷ []) ∙ rw (front, new_look h conn moment word m event d legal off, count) refl in
+    map-append (look g) f.known (d.submission.id ∷ []) ∙ rw (front, new_look h conn moment word m event d legal off, count) refl in
     rw tasks refl
 
 pub submit_plain : (h : History) (conn moment word : ℕ) (m : Message) (s : Submission) → Legal h →

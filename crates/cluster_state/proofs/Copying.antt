@@ -34,8 +34,8 @@ none_pass p (id ∷ ids) =
 pub made_is : (f : Facts) (ids : List Id) → made (resubmitting f ids) ≡ (if may_copy f ids then Some (copies_from (length f.known + 1) ids) else None)
 made_is f ids =
     rw (none_pass (λ id. not (is_listed id f.known)) ids, none_pass (λ id. f.purged id) ids, none_pass (λ id. not (is_settled f id)) ids)
-        (by (list_any (λ id. not (is_listed id f.known)) ids) (list_any (λ id. f.purged id) ids) (list_any (λ id. not (is_settled f id)) ids) (nat_lt most_ids (length f.known + length ids))
-            (filter (λ id. not (is_listed id f.known)) ids) (filter (λ id. f.purged id) ids) (filter (λ id. not (is_settled f id)) ids))
+    (by (list_any (λ id. not (is_listed id f.known)) ids) (list_any (λ id. f.purged id) ids) (list_any (λ id. not (is_settled f id)) ids) (nat_lt most_ids (length f.known + length ids))
+    (filter (λ id. not (is_listed id f.known)) ids) (filter (λ id. f.purged id) ids) (filter (λ id. not (is_settled f id)) ids))
   where
     by : (a b c d : Bool) (xs ys zs : List Id) →
         made (cond a (NeverKnown xs) (cond b (Gone ys) (cond c (Running zs) (cond d NoRoom (Makes (copies_from (length f.known + 1) ids))))))

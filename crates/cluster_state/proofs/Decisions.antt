@@ -40,7 +40,7 @@ pub hand_plain : (h : History) (id : Id) (n : ℕ) → plain_of (facts (Hand id 
 hand_plain h id n =
     let f = facts h in
     let tasks : map (look (after_hand f id n)) f.known ≡ changed id (handed_to n) (map (look f) f.known) =
-        changed_one f (after_hand f id n) (handed_to n) id f.known (known_once h) (λ i off. hand_other f id i n off) (hand_here f id n) in
+    changed_one f (after_hand f id n) (handed_to n) id f.known (known_once h) (λ i off. hand_other f id i n off) (hand_here f id n) in
     rw tasks refl
 
 -- A SETTLE
@@ -64,7 +64,7 @@ settle_here f id v c is off =
   where
     by_cause : (k : Cause) → f.settled id ≡ None → f.purged id ≡ false →
         seen_from id (number_of f id) (f.request_of id) (f.body_of id) (f.task id) (f.reply_of id)
-            (or_else (f.settled id) (cond (bytes_eq id id) (Some (settled_as v k f.moment (f.task id))) None)) (f.purged id)
+        (or_else (f.settled id) (cond (bytes_eq id id) (Some (settled_as v k f.moment (f.task id))) None)) (f.purged id)
         ≡ settled_at v k f.moment (seen_from id (number_of f id) (f.request_of id) (f.body_of id) (f.task id) (f.reply_of id) (f.settled id) (f.purged id))
     by_cause Reply none gone = rw (none, gone, id_self id) refl
     by_cause EngineError none gone = rw (none, gone, id_self id) refl
@@ -77,7 +77,7 @@ settle_plain h id v c legal =
     let f = facts h in
     let says = due_says f (Settle id v c) legal.0 in
     let tasks : map (look (after_settle f id v c)) f.known ≡ changed id (settled_at v c f.moment) (map (look f) f.known) =
-        changed_one f (after_settle f id v c) (settled_at v c f.moment) id f.known (known_once h) (λ i off. settle_other f id i v c off) (settle_here f id v c (closed h legal.1) says.open_yet) in
+    changed_one f (after_settle f id v c) (settled_at v c f.moment) id f.known (known_once h) (λ i off. settle_other f id i v c off) (settle_here f id v c (closed h legal.1) says.open_yet) in
     rw tasks refl
 
 -- AN ENGINE'S END
@@ -101,6 +101,7 @@ end_seen f id n is = ends ∙ sym (ap (on_unsettled (ended_on n)) (look_is f id)
   where
     from : Task → Option Settled → Seen
     from t o = seen_from id (number_of f id) (f.request_of id) (f.body_of id) t (f.reply_of id) o (f.purged id)
+
     ends : from (after_end (Some n) (f.task id)) (f.settled id) ≡ on_unsettled (ended_on n) (from (f.task id) (f.settled id))
     ends = elim (f.settled id) as (λ o. f.settled id ≡ o → from (after_end (Some n) (f.task id)) o ≡ on_unsettled (ended_on n) (from (f.task id) o)) [
       | None ↦ λ _. refl
@@ -114,5 +115,5 @@ pub lose_plain : (h : History) (n : ℕ) → Legal (Lose n ∷ h) → plain_of (
 lose_plain h n legal =
     let f = facts h in
     let tasks : map (look (step f (Lose n) None)) f.known ≡ map (on_unsettled (ended_on n)) (map (look f) f.known) =
-        map_all (look (step f (Lose n) None)) (λ i. on_unsettled (ended_on n) (look f i)) f.known (lose_look f n (closed h legal.1)) ∙ sym (map_twice (on_unsettled (ended_on n)) (look f) f.known) in
+    map_all (look (step f (Lose n) None)) (λ i. on_unsettled (ended_on n) (look f i)) f.known (lose_look f n (closed h legal.1)) ∙ sym (map_twice (on_unsettled (ended_on n)) (look f) f.known) in
     rw tasks refl

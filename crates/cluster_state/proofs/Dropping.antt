@@ -39,6 +39,7 @@ drop_one f id ids once = changed_one f (after_drop f (id ∷ [])) purged_out id 
   where
     others : (i : Id) → bytes_eq id i ≡ false → look (after_drop f (id ∷ [])) i ≡ look f i
     others i off = look_is (after_drop f (id ∷ [])) i ∙ rw (off, or_false (f.purged i)) (sym (look_is f i))
+
     here : look (after_drop f (id ∷ [])) id ≡ purged_out (look f id)
     here = look_is (after_drop f (id ∷ [])) id ∙ rw (id_self id, or_true (f.purged id)) (sym (ap purged_out (look_is f id)))
 
@@ -48,10 +49,10 @@ drop_all f known [] once =
 drop_all f known (id ∷ ids) once =
     let first = after_drop f (id ∷ []) in
     let same : map (look (after_drop f (id ∷ ids))) known ≡ map (look (after_drop first ids)) known =
-        map_all (look (after_drop f (id ∷ ids))) (look (after_drop first ids)) known (λ i.
-            look_is (after_drop f (id ∷ ids)) i
-            ∙ ap (seen_from i (number_of f i) (f.request_of i) (f.body_of i) (f.task i) (f.reply_of i) (f.settled i)) (sym (or_twice (f.purged i) (bytes_eq id i) (is_listed i ids)))
-            ∙ sym (look_is (after_drop first ids) i)) in
+    map_all (look (after_drop f (id ∷ ids))) (look (after_drop first ids)) known (λ i.
+    look_is (after_drop f (id ∷ ids)) i
+    ∙ ap (seen_from i (number_of f i) (f.request_of i) (f.body_of i) (f.task i) (f.reply_of i) (f.settled i)) (sym (or_twice (f.purged i) (bytes_eq id i) (is_listed i ids)))
+    ∙ sym (look_is (after_drop first ids) i)) in
     same ∙ drop_all first known ids once ∙ ap (purged_tasks ids) (drop_one f id known once)
 
 abbrev after_purge : Facts → ℕ → ℕ → ℕ → Message → Bool → List Id → Facts
@@ -83,7 +84,7 @@ purge_tasks f conn moment word m all ids None once is =
 purge_tasks f conn moment word m all ids (Some list) once is =
     let g = after_purge f conn moment word m all ids in
     let tasks : map (look g) f.known ≡ purged_tasks list (map (look f) f.known) =
-        map_all (look g) (look (after_drop f list)) f.known (λ i. look_is g i ∙ rw is (sym (look_is (after_drop f list) i))) ∙ drop_all f f.known list once in
+    map_all (look g) (look (after_drop f list)) f.known (λ i. look_is g i ∙ rw is (sym (look_is (after_drop f list) i))) ∙ drop_all f f.known list once in
     rw tasks refl
 
 pub purge_plain : (h : History) (conn moment word : ℕ) (m : Message) (all : Bool) (ids : List Id) →

@@ -39,6 +39,7 @@ open_look f moment scheme hwm misses is id =
   where
     from : Task → Option Settled → Seen
     from t o = seen_from id (number_of f id) (f.request_of id) (f.body_of id) t (f.reply_of id) o (f.purged id)
+
     ends : from (lost (f.task id).last (f.task id)) (f.settled id) ≡ on_unsettled lost_all (from (f.task id) (f.settled id))
     ends = elim (f.settled id) as (λ o. f.settled id ≡ o → from (lost (f.task id).last (f.task id)) o ≡ on_unsettled lost_all (from (f.task id) o)) [
       | None ↦ λ _. refl
@@ -50,7 +51,7 @@ open_plain h moment scheme hwm misses legal =
     let f = facts h in
     let g = step f (Input (Open moment scheme hwm misses)) None in
     let tasks : map (look g) f.known ≡ map (on_unsettled lost_all) (map (look f) f.known) =
-        map_all (look g) (λ i. on_unsettled lost_all (look f i)) f.known (open_look f moment scheme hwm misses (closed h legal)) ∙ sym (map_twice (on_unsettled lost_all) (look f) f.known) in
+    map_all (look g) (λ i. on_unsettled lost_all (look f i)) f.known (open_look f moment scheme hwm misses (closed h legal)) ∙ sym (map_twice (on_unsettled lost_all) (look f) f.known) in
     rw tasks refl
 
 -- A CONNECTION
@@ -63,7 +64,7 @@ pub up_plain : (h : History) (conn : ℕ) (channel : Channel) (moment word : ℕ
 up_plain h conn channel moment word identity =
     let f = facts h in
     let tasks : map (look (step f (Input (Up conn channel moment word identity)) None)) f.known ≡ map (look f) f.known =
-        map_all (look (step f (Input (Up conn channel moment word identity)) None)) (look f) f.known (up_look f conn channel moment word identity) in
+    map_all (look (step f (Input (Up conn channel moment word identity)) None)) (look f) f.known (up_look f conn channel moment word identity) in
     rw tasks refl
 
 -- what is seen of all ids, where an engine may have ended
@@ -81,7 +82,7 @@ down_plain h conn moment word legal =
     let f = facts h in
     let g = step f (Input (Down conn moment word)) None in
     let tasks : map (look g) f.known ≡ tasks_ended (option_map (λ e. e.number) (engine_on f.engines.live conn)) (map (look f) f.known) =
-        ends_seen f g (option_map (λ e. e.number) (engine_on f.engines.live conn)) (closed h legal) (λ id. look_is g id) in
+    ends_seen f g (option_map (λ e. e.number) (engine_on f.engines.live conn)) (closed h legal) (λ id. look_is g id) in
     rw tasks refl
 
 -- BEATS AND MOMENTS
@@ -93,7 +94,7 @@ pub beat_plain : (h : History) (moment word : ℕ) → plain_of (facts (Input (B
 beat_plain h moment word =
     let f = facts h in
     let tasks : map (look (step f (Input (Beat moment word)) None)) f.known ≡ map (look f) f.known =
-        map_all (look (step f (Input (Beat moment word)) None)) (look f) f.known (beat_look f moment word) in
+    map_all (look (step f (Input (Beat moment word)) None)) (look f) f.known (beat_look f moment word) in
     rw tasks refl
 
 time_look : (f : Facts) (moment word : ℕ) (id : Id) → look (step f (Input (Time moment word)) None) id ≡ look f id
@@ -103,5 +104,5 @@ pub time_plain : (h : History) (moment word : ℕ) → plain_of (facts (Input (T
 time_plain h moment word =
     let f = facts h in
     let tasks : map (look (step f (Input (Time moment word)) None)) f.known ≡ map (look f) f.known =
-        map_all (look (step f (Input (Time moment word)) None)) (look f) f.known (time_look f moment word) in
+    map_all (look (step f (Input (Time moment word)) None)) (look f) f.known (time_look f moment word) in
     rw tasks refl

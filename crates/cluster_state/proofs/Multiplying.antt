@@ -75,6 +75,7 @@ apart_front (x ∷ xs) ys id h =
     or_true : (b : Bool) → (b || true) ≡ true
     or_true true = refl
     or_true false = refl
+
     listed : (y : Id) → id ≡ y → is_listed y (xs ++ id ∷ ys) ≡ true
     listed y same = list_any-append (λ i. bytes_eq i y) xs (id ∷ ys)
         ∙ ap (λ b. is_listed y xs || (b || is_listed y ys)) (subst (λ z. bytes_eq z y ≡ true) (sym same) (id_self y))
@@ -89,6 +90,7 @@ find_back (d ∷ front) rest c h =
     first_off : (a b : Bool) → (a || b) ≡ false → a ≡ false
     first_off true b k = cc
     first_off false b k = refl
+
     second_off : (a b : Bool) → (a || b) ≡ false → b ≡ false
     second_off true b k = cc
     second_off false b k = k
@@ -109,8 +111,8 @@ new_apart : (h : History) (m : Message) (ids : List Id) (all front rest : List C
 new_apart h m ids all front rest c a =
     let names = λ (ds : List Copy). map (λ (d : Copy). d.new) ds in
     let split : (facts h).known ++ map (λ (d : Copy). d.new) all ≡ ((facts h).known ++ map (λ (d : Copy). d.new) front) ++ c.new ∷ map (λ (d : Copy). d.new) rest =
-        ap (λ ds. (facts h).known ++ map (λ (d : Copy). d.new) ds) a.parts ∙ ap (λ ns. (facts h).known ++ ns) (map-append (λ (d : Copy). d.new) front (c ∷ rest))
-        ∙ sym (append_assoc (facts h).known (map (λ (d : Copy). d.new) front) (c.new ∷ map (λ (d : Copy). d.new) rest)) in
+    ap (λ ds. (facts h).known ++ map (λ (d : Copy). d.new) ds) a.parts ∙ ap (λ ns. (facts h).known ++ ns) (map-append (λ (d : Copy). d.new) front (c ∷ rest))
+    ∙ sym (append_assoc (facts h).known (map (λ (d : Copy). d.new) front) (c.new ∷ map (λ (d : Copy). d.new) rest)) in
     apart_front ((facts h).known ++ map (λ (d : Copy). d.new) front) (map (λ (d : Copy). d.new) rest) c.new (subst EachOnce split a.once)
 
 in_front : (xs ys : List Id) (id : Id) → is_listed id (xs ++ ys) ≡ false → is_listed id xs ≡ false
@@ -138,16 +140,16 @@ copy_look h conn moment word m ids all front rest c r b a request body =
     let off : is_listed c.new f.known ≡ false = in_front f.known (map (λ (d : Copy). d.new) front) c.new apart in
     let none = blank h c.new a.legal off in
     let split : f.known ++ map (λ (d : Copy). d.new) all ≡ (f.known ++ map (λ (d : Copy). d.new) front) ++ c.new ∷ map (λ (d : Copy). d.new) rest =
-        ap (λ ds. f.known ++ map (λ (d : Copy). d.new) ds) a.parts ∙ ap (λ ns. f.known ++ ns) (map-append (λ (d : Copy). d.new) front (c ∷ rest))
-        ∙ sym (append_assoc f.known (map (λ (d : Copy). d.new) front) (c.new ∷ map (λ (d : Copy). d.new) rest)) in
+    ap (λ ds. f.known ++ map (λ (d : Copy). d.new) ds) a.parts ∙ ap (λ ns. f.known ++ ns) (map-append (λ (d : Copy). d.new) front (c ∷ rest))
+    ∙ sym (append_assoc f.known (map (λ (d : Copy). d.new) front) (c.new ∷ map (λ (d : Copy). d.new) rest)) in
     let place : position_or_len (λ i. bytes_eq i c.new) (f.known ++ map (λ (d : Copy). d.new) all) ≡ length (f.known ++ map (λ (d : Copy). d.new) front) =
-        ap (position_or_len (λ i. bytes_eq i c.new)) split ∙ place_back c.new (f.known ++ map (λ (d : Copy). d.new) front) (map (λ (d : Copy). d.new) rest) apart in
+    ap (position_or_len (λ i. bytes_eq i c.new)) split ∙ place_back c.new (f.known ++ map (λ (d : Copy). d.new) front) (map (λ (d : Copy). d.new) rest) apart in
     let count : length (f.known ++ map (λ (d : Copy). d.new) front) ≡ length f.known + length (map (λ (d : Copy). d.new) front) = length-append f.known (map (λ (d : Copy). d.new) front) in
     let named : length (map (λ (d : Copy). d.new) front) ≡ length front = length-map front (λ (d : Copy). d.new) in
     let at : number_of g c.new ≡ length f.known + 1 + length front = omega (arith, place, count, named) in
     let from : copied_from c.new (Some all) ≡ Some c.old =
-        ap (λ ds. option_map (λ (d : Copy). d.old) (find (λ (d : Copy). bytes_eq d.new c.new) ds)) a.parts
-        ∙ ap (option_map (λ (d : Copy). d.old)) (find_back front rest c (in_back f.known (map (λ (d : Copy). d.new) front) c.new apart)) in
+    ap (λ ds. option_map (λ (d : Copy). d.old) (find (λ (d : Copy). bytes_eq d.new c.new) ds)) a.parts
+    ∙ ap (option_map (λ (d : Copy). d.old)) (find_back front rest c (in_back f.known (map (λ (d : Copy). d.new) front) c.new apart)) in
     let open_yet : f.settled c.new ≡ None = unsettled f c.new (closed h a.legal) off in
     let unpurged_yet : f.purged c.new ≡ false = unpurged f c.new (closed h a.legal) off in
     let asked : g.request_of c.new ≡ Some (resubmitted f moment c.new r) = rw (none.request, from, request) refl in
@@ -173,8 +175,8 @@ copies_look h conn moment word m ids all front (c ∷ rest) legal once is parts 
     let first = copy_look h conn moment word m ids all front rest c request.0 body.0 a request.1 body.1 in
     let seen : seen_in (map (look f) f.known) c.old ≡ Some (look f c.old) = seen_is f f.known c.old ∙ rw olds.0.known refl in
     let copied : copy_of (resubmitted f moment) (length f.known + 1 + length front) c.new (seen_in (map (look f) f.known) c.old)
-        ≡ begun c.new (length f.known + 1 + length front) (resubmitted f moment c.new request.0) body.0 ∷ [] =
-        copied_one f (resubmitted f moment) (length f.known + 1 + length front) c.new c.old request.0 body.0 seen request.1 body.1 in
+    ≡ begun c.new (length f.known + 1 + length front) (resubmitted f moment c.new request.0) body.0 ∷ [] =
+    copied_one f (resubmitted f moment) (length f.known + 1 + length front) c.new c.old request.0 body.0 seen request.1 body.1 in
     let further : all ≡ (front ++ c ∷ []) ++ rest = parts ∙ sym (append_assoc front (c ∷ []) rest) in
     let others = copies_look h conn moment word m ids all (front ++ c ∷ []) rest legal once is further olds.1 in
     let count : length (front ++ c ∷ []) ≡ length front + 1 = length-append front (c ∷ []) in
@@ -189,19 +191,19 @@ copied_tasks h conn moment word m ids None legal once is =
     let f = facts h in
     let g = after_copies f conn moment word m ids None in
     let front : map (look g) f.known ≡ map (look f) f.known =
-        map_listed (look g) (look f) f.known (λ id listed. old_look f conn moment word m ids None id (has_request h id listed) (has_body h id listed) listed) in
+    map_listed (look g) (look f) f.known (λ id listed. old_look f conn moment word m ids None id (has_request h id listed) (has_body h id listed) listed) in
     let tasks : map (look g) (f.known ++ []) ≡ map (look f) f.known = ap (map (look g)) (append-nil f.known) ∙ front in
     rw tasks refl
 copied_tasks h conn moment word m ids (Some all) legal once is =
     let f = facts h in
     let g = after_copies f conn moment word m ids (Some all) in
     let front : map (look g) f.known ≡ map (look f) f.known =
-        map_listed (look g) (look f) f.known (λ id listed. old_look f conn moment word m ids (Some all) id (has_request h id listed) (has_body h id listed) listed) in
+    map_listed (look g) (look f) f.known (λ id listed. old_look f conn moment word m ids (Some all) id (has_request h id listed) (has_body h id listed) listed) in
     let news = copies_look h conn moment word m ids all [] all legal once is refl (all_copied f (Some (Resubmit ids)) all is) in
     let count : length (map (look f) f.known) + 1 ≡ length f.known + 1 + length {A = Copy} [] = let l = length-map f.known (look f) in omega (arith, l) in
     let tasks : map (look g) (f.known ++ map (λ (d : Copy). d.new) all) ≡ map (look f) f.known ++ copies_in (resubmitted f moment) (length (map (look f) f.known) + 1) all (map (look f) f.known) =
-        map-append (look g) f.known (map (λ (d : Copy). d.new) all) ∙ ap (λ ts. ts ++ map (look g) (map (λ (d : Copy). d.new) all)) front
-        ∙ ap (λ ts. map (look f) f.known ++ ts) (news ∙ sym (ap (λ n. copies_in (resubmitted f moment) n all (map (look f) f.known)) count)) in
+    map-append (look g) f.known (map (λ (d : Copy). d.new) all) ∙ ap (λ ts. ts ++ map (look g) (map (λ (d : Copy). d.new) all)) front
+    ∙ ap (λ ts. map (look f) f.known ++ ts) (news ∙ sym (ap (λ n. copies_in (resubmitted f moment) n all (map (look f) f.known)) count)) in
     rw tasks refl
 
 pub resubmit_plain : (h : History) (conn moment word : ℕ) (m : Message) (ids : List Id) → Legal h → EachOnce ((facts h).known ++ copied_ids (copied_by (facts h) (Some (Resubmit ids)))) →

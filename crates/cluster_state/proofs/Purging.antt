@@ -21,7 +21,7 @@ none_pass p (id ∷ ids) =
 pub dropped_is : (f : Facts) (ids : List Id) → dropped (purging f ids) ≡ (if may_drop f ids then Some ids else None)
 dropped_is f ids =
     rw (none_pass (λ id. not (is_listed id f.known) || f.purged id) ids, none_pass (λ id. not (is_settled f id)) ids)
-        (by (list_any (λ id. not (is_listed id f.known) || f.purged id) ids) (list_any (λ id. not (is_settled f id)) ids) (filter (λ id. not (is_listed id f.known) || f.purged id) ids) (filter (λ id. not (is_settled f id)) ids))
+    (by (list_any (λ id. not (is_listed id f.known) || f.purged id) ids) (list_any (λ id. not (is_settled f id)) ids) (filter (λ id. not (is_listed id f.known) || f.purged id) ids) (filter (λ id. not (is_settled f id)) ids))
   where
     by : (a b : Bool) (xs ys : List Id) → dropped (cond a (Unknown xs) (cond b (Inflight ys) (Drops ids))) ≡ cond (not a && not b) (Some ids) None
     by true b xs ys = refl

@@ -62,10 +62,13 @@ quiet f conn moment word m event no_task no_copy no_purge =
   where
     known_same : (step f (Input (In conn moment word m)) event).known ≡ f.known
     known_same = rw (no_task, no_copy, append-nil f.known, append-nil f.known) refl
+
     request_same : (id : Id) → (step f (Input (In conn moment word m)) event).request_of id ≡ f.request_of id
     request_same id = rw (no_task, no_copy) (or_else-None (f.request_of id))
+
     body_same : (id : Id) → (step f (Input (In conn moment word m)) event).body_of id ≡ f.body_of id
     body_same id = rw (no_task, no_copy) (or_else-None (f.body_of id))
+
     purged_same : (id : Id) → (step f (Input (In conn moment word m)) event).purged id ≡ f.purged id
     purged_same id = rw no_purge (or_false (f.purged id))
 
@@ -139,11 +142,11 @@ reply_here f conn moment word m name header ok declined is on =
     let none = counts_open f conn header name is on in
     let change = replied_with header (ending (is_direct_id f name) ok declined) (parts_of m) in
     let before : look f name ≡ seen_from name (number_of f name) (f.request_of name) (f.body_of name) (f.task name) (f.reply_of name) None (f.purged name) =
-        subst (λ o. look f name ≡ seen_from name (number_of f name) (f.request_of name) (f.body_of name) (f.task name) (f.reply_of name) o (f.purged name)) none (look_is f name) in
+    subst (λ o. look f name ≡ seen_from name (number_of f name) (f.request_of name) (f.body_of name) (f.task name) (f.reply_of name) o (f.purged name)) none (look_is f name) in
     let g = after_quiet f conn moment word m (Some (Reply name header ok declined)) in
     let here : seen_from name (number_of f name) (f.request_of name) (f.body_of name) (g.task name) (g.reply_of name) (f.settled name) (f.purged name)
-        ≡ change (seen_from name (number_of f name) (f.request_of name) (f.body_of name) (f.task name) (f.reply_of name) None (f.purged name)) =
-        rw (id_self name, on, none) refl in
+    ≡ change (seen_from name (number_of f name) (f.request_of name) (f.body_of name) (f.task name) (f.reply_of name) None (f.purged name)) =
+    rw (id_self name, on, none) refl in
     look_is g name ∙ here ∙ sym (ap change before)
 
 -- a reply that doesn't count changes nothing
@@ -160,12 +163,12 @@ reply_tasks : (f : Facts) (conn moment word : ℕ) (m : Message) (name : Id) (he
     record (plain_of f) { tasks = map (look (after_quiet f conn moment word m (Some (Reply name header ok declined)))) f.known } ≡ told f conn moment m (Reply name header ok declined) (plain_of f)
 reply_tasks f conn moment word m name header ok declined is once =
     elim (counts f.engines.live conn header (f.task name)) as (λ b. counts f.engines.live conn header (f.task name) ≡ b →
-        record (plain_of f) { tasks = map (look (after_quiet f conn moment word m (Some (Reply name header ok declined)))) f.known } ≡ replied_by b name header (ending (is_direct_id f name) ok declined) (parts_of m) (plain_of f)) [
+    record (plain_of f) { tasks = map (look (after_quiet f conn moment word m (Some (Reply name header ok declined)))) f.known } ≡ replied_by b name header (ending (is_direct_id f name) ok declined) (parts_of m) (plain_of f)) [
       | true ↦ λ on.
           let g = after_quiet f conn moment word m (Some (Reply name header ok declined)) in
           let change = replied_with header (ending (is_direct_id f name) ok declined) (parts_of m) in
           let tasks : map (look g) f.known ≡ changed name change (map (look f) f.known) =
-              changed_one f g change name f.known once (reply_other f conn moment word m name header ok declined) (reply_here f conn moment word m name header ok declined is on) in
+          changed_one f g change name f.known once (reply_other f conn moment word m name header ok declined) (reply_here f conn moment word m name header ok declined is on) in
           rw tasks refl
       | false ↦ λ off.
           let g = after_quiet f conn moment word m (Some (Reply name header ok declined)) in

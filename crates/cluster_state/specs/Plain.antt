@@ -106,6 +106,7 @@ facts_in p = record {
     attempts_or : Option Seen → Task
     attempts_or None = new_task
     attempts_or (Some t) = t.attempts
+
     purged_or : Option Seen → Bool
     purged_or None = false
     purged_or (Some t) = t.row.purged

@@ -132,7 +132,8 @@ fn names_unknown(tasks: &Tasks, id: &Text, ids: &[Text]) -> bool
 pub fn is_invalid(tasks: &Tasks, id: &Text, after: &Dep, follow: &Dep) -> bool
     ensures { result ≡ is_invalid (map (λ t. t.row.id) tasks.now) id.now after.now follow.now }
 {
-    names_unknown(tasks, id, after.ids.as_slice()) || names_unknown(tasks, id, follow.ids.as_slice())
+    names_unknown(tasks, id, after.ids.as_slice())
+        || names_unknown(tasks, id, follow.ids.as_slice())
 }
 
 /// The empty dependency.
@@ -232,10 +233,19 @@ impl State {
         request.after = submission.after.copy()?;
         request.follow = submission.follow.copy()?;
         request.listed = submission.targets.copy()?;
-        request.targets = targets_of(self.allocator(), &self.engines, submission.targets.as_slice())?;
+        request.targets = targets_of(
+            self.allocator(),
+            &self.engines,
+            submission.targets.as_slice(),
+        )?;
         request.timeout = submission.timeout;
         request.retries = submission.retries;
-        request.invalid = is_invalid(&self.tasks, &submission.id, &submission.after, &submission.follow);
+        request.invalid = is_invalid(
+            &self.tasks,
+            &submission.id,
+            &submission.after,
+            &submission.follow,
+        );
         Ok(request)
     }
 

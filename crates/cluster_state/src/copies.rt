@@ -43,7 +43,12 @@ fn copy_id(alloc: Global, number: u64) -> Result<Text, AllocError>
 }
 
 /// The header of a copy.
-fn copy_header(alloc: Global, id: &Text, request: &Request, moment: u64) -> Result<Octets, AllocError>
+fn copy_header(
+    alloc: Global,
+    id: &Text,
+    request: &Request,
+    moment: u64,
+) -> Result<Octets, AllocError>
     requires { moment ≤ 253402300799999 }
     ensures { IfOk result (λ o. o ≡ resubmit_header id.now request.now.session request.now.username request.now.msg_type (date_of moment)) }
 {

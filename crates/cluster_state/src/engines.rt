@@ -54,9 +54,13 @@ fn joining_again(uuid: &Text, engine: &Engine) -> Joining
     ensures { result ≡ joining_again uuid.now engine.now }
 {
     if engine.uuid.is(uuid) {
-        Joining::Repeat { engine: engine.number }
+        Joining::Repeat {
+            engine: engine.number,
+        }
     } else {
-        Joining::AlreadyJoined { engine: engine.number }
+        Joining::AlreadyJoined {
+            engine: engine.number,
+        }
     }
 }
 
@@ -64,7 +68,9 @@ fn joining_new(next: u32, holder: Option<&Engine>) -> Joining
     ensures { result ≡ joining_new next (option_copied holder.entry) }
 {
     match holder {
-        Some(holder) => Joining::UuidInUse { engine: holder.number },
+        Some(holder) => Joining::UuidInUse {
+            engine: holder.number,
+        },
         None if next == u32::MAX => Joining::UsedUp,
         None => Joining::Accepted,
     }

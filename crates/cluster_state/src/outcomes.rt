@@ -53,7 +53,12 @@ fn empty_object(alloc: Global) -> Result<Octets, AllocError>
 }
 
 /// The header of an outcome that the controller makes.
-fn outcome_header(alloc: Global, number: u64, msg_type: &Text, moment: u64) -> Result<Octets, AllocError>
+fn outcome_header(
+    alloc: Global,
+    number: u64,
+    msg_type: &Text,
+    moment: u64,
+) -> Result<Octets, AllocError>
     requires { moment ≤ 253402300799999 }
     ensures { IfOk result (λ o. o ≡ made_header (outcome_id number) (reply_type msg_type.now) (date_of moment)) }
 {

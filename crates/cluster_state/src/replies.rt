@@ -51,7 +51,11 @@ fn ending(direct: bool, ok: bool, declined: bool) -> Ending
     ensures { ending_as result ≡ ending direct ok declined }
 {
     if declined {
-        if direct { Ending::Badly } else { Ending::Declines }
+        if direct {
+            Ending::Badly
+        } else {
+            Ending::Declines
+        }
     } else if ok {
         Ending::Well
     } else {

@@ -11,10 +11,10 @@ returns-in-Some c =
     let s = c.in-Some.field-0 in
     let p = plain c.args.self.now in
     ap (λ ts. record p { tasks = ts }) (c.settle.ensures ∙ settle_some c.args.verdict c.args.cause c.args.self.now.moment c.args.id.now c.args.self.now.tasks c.in-Some.field-0
-        (subst (λ (o : Option Settling). IsSettling c.args.verdict c.args.cause c.args.self.now.moment (seen_in c.args.self.now.tasks c.args.id.now) o) c.in-Some.is c.in_ok-settled.ensures))
+    (subst (λ (o : Option Settling). IsSettling c.args.verdict c.args.cause c.args.self.now.moment (seen_in c.args.self.now.tasks c.args.id.now) o) c.in-Some.is c.in_ok-settled.ensures))
 
 pub returns-in-None : goal.returns-in-None
 returns-in-None c =
     let p = plain c.args.self.now in
     ap (λ ts. record p { tasks = ts }) (settle_none c.args.verdict c.args.cause c.args.self.now.moment c.args.id.now c.args.self.now.tasks
-        (subst (λ (o : Option Settling). IsSettling c.args.verdict c.args.cause c.args.self.now.moment (seen_in c.args.self.now.tasks c.args.id.now) o) c.in-None.is c.in_ok-settled.ensures))
+    (subst (λ (o : Option Settling). IsSettling c.args.verdict c.args.cause c.args.self.now.moment (seen_in c.args.self.now.tasks c.args.id.now) o) c.in-None.is c.in_ok-settled.ensures))
