@@ -1,2 +1,4 @@
+pub mod Goes
 pub mod Growing
+pub mod Lives
 pub mod Plans

@@ -1,2 +1,3 @@
-pub mod Events
+pub mod More
 pub mod Steps
+pub mod Told

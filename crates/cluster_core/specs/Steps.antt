@@ -1,12 +1,17 @@
 -- One step of a core: an input, and all decisions that are then due.
-use Rattle.std.specs.Prelude.{◌≡◌, ◌≤◌, ◌+◌, ℕ, true, List, [], ◌∷◌, ◌++◌, length, reverse, None}
+use Rattle.std.specs.Prelude.{◌≡◌, ◌≤◌, ◌+◌, ℕ, suc, ⊤, nat_lt, Bool, true, false, ◌||◌, List, [], ◌∷◌, ◌++◌, length, reverse, Option, Some, None, Result, Ok, Err, if◌then◌else◌}
+use Rattle.cluster_types.specs.declared.event.Event.{Event}
+use Rattle.cluster_types.specs.declared.event.Reason.{Reason}
 use Rattle.cluster_types.specs.declared.entry.Entry.{Entry}
 use Rattle.cluster_types.specs.declared.entry.Entry.TheVariants.{Input}
+use Rattle.cluster_types.specs.declared.entry.Input.TheVariants.{Open}
 use Rattle.cluster_types.specs.declared.entry.Input.{Input as InputType}
 use Rattle.cluster_types.specs.declared.out.Out.{Out}
-use Rattle.steady_cluster.specs.Facts.{Facts}
-use Rattle.steady_cluster.specs.Due.{due}
-use Rattle.steady_cluster.specs.History.{History, facts, Legal, outs_from, entries_from, stepped}
+use Rattle.cluster_defs.specs.Facts.{Facts, event_in}
+use Rattle.cluster_defs.specs.Scheduling.{due, is_kept}
+use Rattle.cluster_defs.specs.Histories.{History, facts, Legal, place, asks_shutdown, is_stopping, decide_all}
+use Rattle.cluster_defs.specs.Outs.{outs_from}
+use Rattle.cluster_state.specs.Plain.{Plain, plain_of, InTime}
 
 -- what contracts see of a core: its history, the newest entry first, and for how many entries it has room
 pub record CoreView : Type 0 where
@@ -14,27 +19,65 @@ pub record CoreView : Type 0 where
   pub spare : ℕ
 
 -- what a plan has worked out: an input and the decisions after it, in order, what they send, the entries that are
--- kept, and the facts after them
+-- kept, the data after them, the place of the newest of them, and whether a shutdown was asked
 pub record PlanView : Type 0 where
   pub input : InputType
   pub decisions : List Entry
   pub outs : List Out
   pub kept : List Entry
-  pub facts : Facts
+  pub plain : Plain
+  pub place : ℕ
+  pub stops : Bool
 
 -- the history after a plan's input and decisions
 abbrev pub planned : History → PlanView → History
 planned old p = reverse p.decisions ++ Input p.input ∷ old
 
--- outs, kept entries and facts are those of the input and the decisions so far
+-- all moments are before the year 10000
+abbrev pub AllInTime : History → Type 0
+AllInTime [] = ⊤
+AllInTime (e ∷ older) = InTime e × AllInTime older
+
+abbrev pub kept_one : Bool → Entry → List Entry
+kept_one true e = e ∷ []
+kept_one false e = []
+
+-- the kept ones of the entries from a place on, in order
+abbrev pub kept_from : ℕ → History → List Entry
+kept_from at [] = []
+kept_from at (e ∷ older) = if nat_lt (length older) at then [] else kept_from at older ++ kept_one (is_kept (facts older) e) e
+
+-- a legal history in time, with the data that are read off it
+pub record Stands (history : History) (p : Plain) (at : ℕ) : Type 0 where
+  pub legal : Legal history
+  pub time : AllInTime history
+  pub data_are : p ≡ plain_of (facts history)
+  pub place_is : at ≡ place history
+
+-- outs, kept entries and data are those of the input and the decisions so far
 pub record IsGrown (old : History) (p : PlanView) : Type 0 where
-  pub facts_are : p.facts ≡ facts (planned old p)
+  pub stands : Stands (planned old p) p.plain p.place
   pub outs_are : p.outs ≡ outs_from (length old) (planned old p)
-  pub kept_are : p.kept ≡ entries_from (length old) (planned old p)
+  pub kept_are : p.kept ≡ kept_from (length old) (planned old p)
+  pub stops_is : p.stops ≡ is_stopping (planned old p)
 
 -- a plan for a core: its decisions are all that are due after its input, and the core has room for them
 pub record IsPlan (core : CoreView) (p : PlanView) : Type 0 where
   pub grown : IsGrown core.history p
-  pub all : planned core.history p ≡ stepped core.history (Input p.input)
-  pub legal : Legal (planned core.history p)
+  pub all : planned core.history p ≡ decide_all (Input p.input ∷ core.history)
   pub room : length p.decisions + 1 ≤ core.spare
+
+-- an event, where a message isn't junk
+abbrev pub understood : Result Event Reason → Option Event
+understood (Ok event) = Some event
+understood (Err reason) = None
+
+-- whether a shutdown was asked since the last Open, after an input
+abbrev pub stops_after : Bool → InputType → Option Event → Bool
+stops_after was (Open moment scheme hwm misses) event = false
+stops_after was input event = asks_shutdown event || was
+
+-- the place of an entry behind one at a place
+abbrev pub place_after : Entry → ℕ → ℕ
+place_after (Input (Open moment scheme hwm misses)) at = 0
+place_after _ at = suc at

@@ -1,10 +1,9 @@
-//! The core of a controller: it takes inputs, makes the decisions that are due, and says what to send.
+//! The core of a controller: it takes inputs, makes the decisions that are due, and says what to send and to keep.
 #![tactic(auto)]
 
-pub mod due;
+mod intake;
+mod live;
 pub mod machine;
-pub mod outs;
 pub mod plan;
-pub mod rebuild;
-pub mod state;
-pub mod texts;
+#[cfg(test)]
+mod tests;

@@ -1,42 +1,27 @@
 //! The state machine.
 
 ghost use Rattle.std.specs.Prelude.{◌≡◌, ◌≤◌, ◌+◌, ◌∷◌, ◌++◌, [], reverse, length, vec_len, vec_capacity, true, false, None, Some, IfOk, OnOk};
-ghost use Rattle.std.specs.Option.{ForSome};
+ghost use Rattle.std.specs.Option.{ForSome, is_some};
 ghost use Rattle.cluster_types.specs.declared.entry.Entry.{Entry};
-ghost use Rattle.steady_cluster.specs.Facts.{event_in, is_live, connection_of};
-ghost use Rattle.steady_cluster.specs.Taken.{may_take};
-ghost use Rattle.steady_cluster.specs.Due.{due};
-ghost use Rattle.steady_cluster.specs.History.{facts, Legal, outs_from, entries_from, stepped};
-ghost use Rattle.cluster_core.specs.Steps.{IsPlan, planned};
+ghost use Rattle.cluster_defs.specs.Connections.{channel_on};
+ghost use Rattle.cluster_defs.specs.Facts.{event_in};
+ghost use Rattle.cluster_defs.specs.Scheduling.{due, may_take};
+ghost use Rattle.cluster_defs.specs.Histories.{facts, Legal, is_stopping, decide_all};
+ghost use Rattle.cluster_defs.specs.Outs.{outs_from};
+ghost use Rattle.cluster_state.specs.Plain.{InTime, facts_in};
+ghost use Rattle.cluster_state.specs.Stands.{plain};
+ghost use Rattle.cluster_core.specs.Steps.{IsPlan, planned, kept_from, AllInTime, Stands};
 
+use crate::intake::{Known, event_of_input, may_take, rebuilt};
+use crate::live::channel_told;
 use crate::plan::Plan;
-use crate::rebuild::{event_of_input, rebuilt};
-use crate::state::State;
 use cluster_types::config::Channel;
 use cluster_types::entry::{Entries, Entry, Input};
 use cluster_types::event::Event;
 use cluster_types::out::Outs;
+use load_schemes::chooser::Chooser;
 use std::alloc::{AllocError, Global};
 use std::marker::Model;
-
-/// Why there is no plan.
-#[derive(Clone, Copy, Debug, PartialEq, Eq)]
-pub enum PlanError {
-    /// The input is none that a steady cluster takes.
-    NotBuilt,
-    OutOfMemory,
-}
-
-impl From<AllocError> for PlanError {
-    ghost use Rattle.std.specs.Prelude.{◌≡◌};
-    ghost use Rattle.cluster_core.specs.declared.machine.PlanError.{PlanError};
-
-    ghost from_gives = { λ _ e. e ≡ PlanError.OutOfMemory };
-
-    fn from(_: AllocError) -> Self {
-        PlanError::OutOfMemory
-    }
-}
 
 /// What a step made.
 #[derive(Drop)]
@@ -53,21 +38,26 @@ pub struct Made {
 pub struct Core {
     entries: Vec<Entry>,
     /// What is known after the entries, where no step was given up for want of memory.
-    state: Option<State>,
+    known: Option<Known>,
+    /// How many connections are live.
+    live: usize,
+    /// Whether a shutdown was asked since the last Open.
+    stops: bool,
 }
 
 impl Model for Core {
-    ghost use Rattle.std.specs.Prelude.{◌≡◌, ◌-◌, reverse, vec_len, vec_capacity, None};
+    ghost use Rattle.std.specs.Prelude.{◌≡◌, ◌-◌, reverse, length, vec_len, vec_capacity, None};
     ghost use Rattle.std.specs.Option.{ForSome};
-    ghost use Rattle.steady_cluster.specs.Due.{due};
-    ghost use Rattle.steady_cluster.specs.History.{facts, Legal};
-    ghost use Rattle.cluster_core.specs.Steps.{CoreView};
+    ghost use Rattle.cluster_defs.specs.Scheduling.{due};
+    ghost use Rattle.cluster_defs.specs.Histories.{facts, Legal, is_stopping};
+    ghost use Rattle.cluster_state.specs.Stands.{plain};
+    ghost use Rattle.cluster_core.specs.Steps.{CoreView, AllInTime, Stands};
 
     ghost Value = { CoreView };
 
     ghost view = { λ c. record { history = reverse c.entries.items; spare = vec_capacity c.entries - vec_len c.entries } };
 
-    ghost invariant = { λ c. Legal (reverse c.entries.items) × (due (facts (reverse c.entries.items)) ≡ None) × ForSome c.state (λ s. s ≡ facts (reverse c.entries.items)) };
+    ghost invariant = { λ c. Legal (reverse c.entries.items) × (due (facts (reverse c.entries.items)) ≡ None) × AllInTime (reverse c.entries.items) × (c.live ≡ length (facts (reverse c.entries.items)).connections) × (c.stops ≡ is_stopping (reverse c.entries.items)) × ForSome c.known (λ k. Stands (reverse c.entries.items) (plain k.state) k.place) };
 }
 
 impl Core {
@@ -77,7 +67,9 @@ impl Core {
     {
         Core {
             entries: Vec::new(alloc),
-            state: None,
+            known: None,
+            live: 0,
+            stops: false,
         }
     }
 
@@ -86,41 +78,82 @@ impl Core {
         ensures is { reverse result.now ≡ self.now.history }
         ensures legal { Legal self.now.history }
         ensures rests { due (facts self.now.history) ≡ None }
+        ensures time { AllInTime self.now.history }
     {
         self.entries.as_slice()
     }
 
-    /// What is known after the history. Where a step was given up, it is read off the entries again.
-    fn take_state(&mut self) -> Result<State, AllocError>
-        ensures same { self.new.history ≡ self.old.history }
-        ensures state { IfOk result (λ s. s ≡ facts self.old.history) }
+    /// Whether a shutdown was asked since the last Open.
+    pub fn stopping(&self) -> bool
+        ensures { result ≡ is_stopping self.now.history }
     {
-        let cached = self.state.take();
-        known_state(*self.entries.allocator(), cached, self.entries.as_slice())
+        self.stops
     }
 
-    /// Keeps what is known.
-    fn keep_state(&mut self, state: State)
-        requires { state ≡ facts self.old.history }
-        ensures { self.new.history ≡ self.old.history }
+    /// How many connections are live.
+    pub fn live_conns(&self) -> usize
+        ensures { result ≡ length (facts self.now.history).connections }
     {
-        self.state = Some(state);
+        self.live
     }
 
-    /// What the message of an input means: none for other inputs, and for a message that is junk or on no connection.
-    pub fn understand(&mut self, input: &Input) -> Result<Option<Event>, AllocError>
-        ensures same { self.new.history ≡ self.old.history }
-        ensures event { IfOk result (λ e. e ≡ event_in (facts self.old.history) input.now) }
+    /// The channel of a connection, where it is live.
+    pub fn channel_of(&self, conn: u32) -> Option<Channel>
+        ensures { result ≡ channel_on (facts self.now.history).connections conn }
     {
-        let state = self.take_state()?;
-        let event = event_of_input(self.allocator(), &state, input)?;
-        self.keep_state(state);
-        Ok(event)
+        channel_in(self.known.as_ref(), self.history(), conn)
+    }
+
+    /// Whether a connection is live.
+    pub fn is_live(&self, conn: u32) -> bool
+        ensures { result ≡ is_some (channel_on (facts self.now.history).connections conn) }
+    {
+        self.channel_of(conn).is_some()
     }
 
     /// The allocator that the core takes its memory from.
     pub fn allocator(&self) -> Global {
         *self.entries.allocator()
+    }
+
+    /// What is known after the history. Where a step was given up, it is read off the entries again.
+    fn take_known(&mut self) -> Result<Known, AllocError>
+        ensures same { self.new.history ≡ self.old.history }
+        ensures known { IfOk result (λ k. Stands self.old.history (plain k.state) k.place) }
+    {
+        let cached = self.known.take();
+        known_after(*self.entries.allocator(), cached, self.entries.as_slice())
+    }
+
+    /// Keeps what is known.
+    fn keep_known(&mut self, known: Known)
+        requires { Stands self.old.history (plain known.state) known.place }
+        ensures { self.new.history ≡ self.old.history }
+    {
+        self.known = Some(known);
+    }
+
+    /// What the message of an input means: none for other inputs, and for a message that is junk or on no connection.
+    pub fn understand(&mut self, input: &Input) -> Result<Option<Event>, AllocError>
+        ensures same { self.new.history ≡ self.old.history }
+        ensures event { IfOk result (λ e. e ≡ event_in (facts self.old.history) (Entry.Input input.now)) }
+    {
+        let known = self.take_known()?;
+        let event = event_of_input(self.allocator(), &known.state, input)?;
+        self.keep_known(known);
+        Ok(event)
+    }
+
+    /// Whether an input may come: an Up of a connection that isn't live, a Down of one that is, a message that means
+    /// something. `event` is what its message means.
+    pub fn may_take(&mut self, input: &Input, event: &Option<Event>) -> Result<bool, AllocError>
+        ensures same { self.new.history ≡ self.old.history }
+        ensures may { IfOk result (λ b. b ≡ may_take (facts self.old.history) input.now event.now) }
+    {
+        let known = self.take_known()?;
+        let may = may_take(&known.state, input, event);
+        self.keep_known(known);
+        Ok(may)
     }
 
     /// Makes room for so many further entries.
@@ -131,83 +164,73 @@ impl Core {
         self.entries.reserve(more)
     }
 
-    /// Works out the step of an input that may come.
-    fn plan_from(
+    /// Works out the step of an input that may come. `event` is what its message means. It takes all the memory of the
+    /// step.
+    fn plan_with(
         &mut self,
-        state: State,
+        chooser: &Chooser,
         input: Input,
         event: &Option<Event>,
     ) -> Result<Plan, AllocError>
-        requires state { state ≡ facts self.old.history }
-        requires event { event.now ≡ event_in state input }
-        requires taken { may_take state input ≡ true }
+        requires event { event.now ≡ event_in (facts self.old.history) (Entry.Input input) }
+        requires taken { may_take (facts self.old.history) input event.now ≡ true }
+        requires time { InTime (Entry.Input input) }
         ensures same { self.new.history ≡ self.old.history }
         ensures ok { IfOk result (λ p. IsPlan self.new p) }
         ensures input { IfOk result (λ p. p.input ≡ input) }
     {
-        let plan = Plan::work_out(self.allocator(), self.history(), state, input, event)?;
+        let known = self.take_known()?;
+        let stopping = self.stopping();
+        let plan = Plan::work_out(
+            self.allocator(),
+            self.history(),
+            known,
+            input,
+            event,
+            stopping,
+            chooser,
+        )?;
         self.reserve(plan.steps())?;
         Ok(plan)
     }
 
-    /// What is known after the history, where an input may come.
-    fn state_for(&mut self, input: &Input, event: &Option<Event>) -> Result<State, PlanError>
-        requires { event.now ≡ event_in (facts self.old.history) input.now }
-        ensures same { self.new.history ≡ self.old.history }
-        ensures state { IfOk result (λ s. s ≡ facts self.old.history) }
-        ensures taken { IfOk result (λ _. may_take (facts self.old.history) input.now ≡ true) }
-        ensures refused { result ≡ Err PlanError.NotBuilt → may_take (facts self.old.history) input.now ≡ false }
-    {
-        let state = self.take_state()?;
-        if state.may_take(input, event) {
-            Ok(state)
-        } else {
-            Err(PlanError::NotBuilt)
-        }
-    }
-
-    /// Works out the step of an input. `event` is what a message means.
-    fn plan_with(&mut self, input: Input, event: &Option<Event>) -> Result<Plan, PlanError>
-        requires { event.now ≡ event_in (facts self.old.history) input }
+    /// Works out the step of an input that may come. `event` is what its message means. It takes all the memory of the
+    /// step. Where it can't have it, the history stays as it is.
+    pub fn plan(
+        &mut self,
+        chooser: &Chooser,
+        input: Input,
+        event: Option<Event>,
+    ) -> Result<Plan, AllocError>
+        requires event { event ≡ event_in (facts self.old.history) (Entry.Input input) }
+        requires taken { may_take (facts self.old.history) input event ≡ true }
+        requires time { InTime (Entry.Input input) }
         ensures same { self.new.history ≡ self.old.history }
         ensures ok { IfOk result (λ p. IsPlan self.new p) }
         ensures input { IfOk result (λ p. p.input ≡ input) }
-        ensures taken { IfOk result (λ _. may_take (facts self.old.history) input ≡ true) }
-        ensures refused { result ≡ Err PlanError.NotBuilt → may_take (facts self.old.history) input ≡ false }
     {
-        let state = self.state_for(&input, event)?;
-        let plan = self.plan_from(state, input, event)?;
-        Ok(plan)
-    }
-
-    /// Works out the step of an input. `event` is what a message means. It takes all the memory of the step.
-    pub fn plan(&mut self, input: Input, event: Option<Event>) -> Result<Plan, PlanError>
-        requires { event ≡ event_in (facts self.old.history) input }
-        ensures same { self.new.history ≡ self.old.history }
-        ensures ok { IfOk result (λ p. IsPlan self.new p) }
-        ensures input { IfOk result (λ p. p.input ≡ input) }
-        ensures taken { IfOk result (λ _. may_take (facts self.old.history) input ≡ true) }
-        ensures refused { result ≡ Err PlanError.NotBuilt → may_take (facts self.old.history) input ≡ false }
-    {
-        self.plan_with(input, &event)
+        self.plan_with(chooser, input, &event)
     }
 
     /// Takes the step that was planned last: the input and all decisions that are then due. It takes no memory.
     pub fn apply(&mut self, plan: Plan) -> Made
         requires { IsPlan self.old plan }
-        ensures history { self.new.history ≡ stepped self.old.history (Entry.Input plan.input) }
+        ensures history { self.new.history ≡ decide_all (Entry.Input plan.input ∷ self.old.history) }
         ensures outs { result.outs ≡ outs_from (length self.old.history) self.new.history }
-        ensures kept { result.kept ≡ entries_from (length self.old.history) self.new.history }
+        ensures kept { result.kept ≡ kept_from (length self.old.history) self.new.history }
     {
         let Plan {
             input,
             decisions,
             outs,
             kept,
-            state,
+            known,
+            stops,
         } = plan;
         add_step(&mut self.entries, input, decisions);
-        self.state = Some(state);
+        self.live = known.live();
+        self.stops = stops;
+        self.known = Some(known);
         Made {
             outs: Outs::from_vec(outs),
             kept: Entries::from_vec(kept),
@@ -215,17 +238,30 @@ impl Core {
     }
 }
 
-/// What is known after a history: what is kept of it, or what its entries say.
-fn known_state(alloc: Global, cached: Option<State>, entries: &[Entry]) -> Result<State, AllocError>
+/// The channel of a connection, by what is known, or else by the entries.
+fn channel_in(known: Option<&Known>, entries: &[Entry], conn: u32) -> Option<Channel>
     requires legal { Legal (reverse entries.now) }
-    requires cached { ForSome cached (λ s. s ≡ facts (reverse entries.now)) }
-    ensures { IfOk result (λ s. s ≡ facts (reverse entries.now)) }
+    requires known { ForSome known (λ k. Stands (reverse entries.now) (plain k.now.state) k.now.place) }
+    ensures { result ≡ channel_on (facts (reverse entries.now)).connections conn }
+{
+    match known {
+        Some(known) => known.channel_of(conn),
+        None => channel_told(entries, conn),
+    }
+}
+
+/// What is known after a history: what is kept of it, or what its entries say.
+fn known_after(alloc: Global, cached: Option<Known>, entries: &[Entry]) -> Result<Known, AllocError>
+    requires legal { Legal (reverse entries.now) }
+    requires time { AllInTime (reverse entries.now) }
+    requires cached { ForSome cached (λ k. Stands (reverse entries.now) (plain k.state) k.place) }
+    ensures { IfOk result (λ k. Stands (reverse entries.now) (plain k.state) k.place) }
 {
     match cached {
-        Some(state) => Ok(state),
+        Some(known) => Ok(known),
         None => {
-            let state = rebuilt(alloc, entries)?;
-            Ok(state)
+            let known = rebuilt(alloc, entries)?;
+            Ok(known)
         }
     }
 }

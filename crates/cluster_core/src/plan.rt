@@ -1,18 +1,26 @@
 //! Plans of steps.
 
-ghost use Rattle.std.specs.Prelude.{◌≡◌, ◌++◌, ◌∷◌, ◌+◌, [], length, reverse, true, Some, None, IfOk, OnOk};
-ghost use Rattle.steady_cluster.specs.Facts.{Facts, event_in, next};
-ghost use Rattle.steady_cluster.specs.Taken.{may_take};
-ghost use Rattle.steady_cluster.specs.Due.{due};
-ghost use Rattle.steady_cluster.specs.Outs.{outs};
-ghost use Rattle.steady_cluster.specs.History.{facts, decide_all, stepped};
-ghost use Rattle.cluster_core.specs.Steps.{PlanView, IsGrown, planned};
+ghost use Rattle.std.specs.Prelude.{◌≡◌, ◌≤◌, ◌++◌, ◌∷◌, ◌+◌, [], length, reverse, true, Some, None, IfOk, OnOk};
+ghost use Rattle.cluster_types.specs.declared.entry.Entry.{Entry};
+ghost use Rattle.cluster_defs.specs.Facts.{event_in};
+ghost use Rattle.cluster_defs.specs.Scheduling.{due, is_kept_as, Allowed};
+ghost use Rattle.cluster_defs.specs.Histories.{facts, asks_shutdown, is_stopping, decide_all};
+ghost use Rattle.cluster_defs.specs.Outs.{outs_as};
+ghost use Rattle.cluster_state.specs.Plain.{facts_in, after, InTime};
+ghost use Rattle.cluster_state.specs.Stands.{plain};
+ghost use Rattle.cluster_outs.specs.Reached.{IsNext};
+ghost use Rattle.cluster_core.specs.Steps.{PlanView, Stands, IsGrown, planned, kept_one, place_after, stops_after};
+ghost use Rattle.cluster_core.specs.More.{IsMore};
 
-use crate::state::State;
+use crate::intake::{Known, next_place};
+use cluster_outs::entries::outs;
+use cluster_state::state::State;
 use cluster_types::copying::TryCopy;
 use cluster_types::entry::{Entries, Entry, Input};
-use cluster_types::event::Event;
+use cluster_types::event::{Event, Query};
 use cluster_types::out::{Out, Outs};
+use due_decisions::due::due;
+use load_schemes::chooser::Chooser;
 use std::alloc::{AllocError, Global};
 use std::marker::Model;
 
@@ -23,122 +31,170 @@ pub struct Plan {
     pub(crate) decisions: Vec<Entry>,
     pub(crate) outs: Vec<Out>,
     pub(crate) kept: Vec<Entry>,
-    pub(crate) state: State,
+    pub(crate) known: Known,
+    /// Whether a shutdown was asked since the last Open, after the step.
+    pub(crate) stops: bool,
 }
 
 impl Model for Plan {
+    ghost use Rattle.cluster_state.specs.Stands.{plain};
     ghost use Rattle.cluster_core.specs.Steps.{PlanView};
 
     ghost Value = { PlanView };
 
-    ghost view = { λ p. record { input = p.input; decisions = p.decisions.items; outs = p.outs.items; kept = p.kept.items; facts = p.state } };
+    ghost view = { λ p. record { input = p.input; decisions = p.decisions.items; outs = p.outs.items; kept = p.kept.items; plain = plain p.known.state; place = p.known.place; stops = p.stops } };
+}
+
+/// The entry, where it is kept.
+fn kept_one(alloc: Global, is_kept: bool, entry: Entry) -> Result<Vec<Entry>, AllocError>
+    ensures { IfOk result (λ v. v.items ≡ kept_one is_kept entry) }
+{
+    let mut kept = Vec::new(alloc);
+    if is_kept {
+        kept.push(entry)?;
+    }
+    Ok(kept)
+}
+
+/// Whether a message asks for a shutdown.
+fn asks_shutdown(event: &Option<Event>) -> bool
+    ensures { result ≡ asks_shutdown event.now }
+{
+    match event {
+        Some(Event::Ask(Query::Shutdown)) => true,
+        _ => false,
+    }
+}
+
+/// Whether a shutdown was asked since the last Open, after an input.
+fn stops_after(was: bool, input: &Input, event: &Option<Event>) -> bool
+    ensures { result ≡ stops_after was input.now event.now }
+{
+    match input {
+        Input::Open { .. } => false,
+        _ => asks_shutdown(event) || was,
+    }
 }
 
 impl Plan {
-    /// A plan that has an input alone so far. `place` is that of the input, `event` is what its message means.
+    /// A plan that has an input alone so far. `event` is what its message means, `was_stopping` whether a shutdown was
+    /// asked before.
     fn begin(
         alloc: Global,
-        mut state: State,
-        place: u64,
+        known: Known,
         input: Input,
         event: &Option<Event>,
+        was_stopping: bool,
     ) -> Result<Plan, AllocError>
-        requires event { event.now ≡ event_in state input }
-        requires taken { may_take state input ≡ true }
-        requires rests { due state ≡ None }
+        requires next { IsNext (plain known.state) (Entry.Input input) }
+        requires time { InTime (Entry.Input input) }
+        requires now { known.state.moment ≤ 253402300799999 }
         ensures input { IfOk result (λ p. p.input ≡ input) }
         ensures decisions { IfOk result (λ p. p.decisions ≡ []) }
-        ensures outs { IfOk result (λ p. p.outs ≡ outs place state (Entry.Input input)) }
-        ensures kept { IfOk result (λ p. p.kept ≡ Entry.Input input ∷ []) }
-        ensures facts { IfOk result (λ p. p.facts ≡ next state (Entry.Input input)) }
+        ensures place { IfOk result (λ p. p.place ≡ place_after (Entry.Input input) known.place) }
+        ensures data { IfOk result (λ p. p.plain ≡ after (facts_in (plain known.state)) (Entry.Input input) event.now (plain known.state)) }
+        ensures outs { IfOk result (λ p. p.outs ≡ outs_as p.place (facts_in (plain known.state)) (Entry.Input input) event.now) }
+        ensures kept { IfOk result (λ p. p.kept ≡ kept_one (is_kept_as (facts_in (plain known.state)) (Entry.Input input) event.now) (Entry.Input input)) }
+        ensures stops { IfOk result (λ p. p.stops ≡ stops_after was_stopping input event.now) }
     {
+        let Known { mut state, place } = known;
         let entry = Entry::Input(input.copy()?);
-        let outs = state.outs(alloc, place, &entry, event)?.into_vec();
-        state.take(&entry, event)?;
-        let mut kept = Vec::new(alloc);
-        kept.push(entry)?;
+        let place = next_place(place, &entry)?;
+        let outs = outs(alloc, place, &state, &entry, event)?.into_vec();
+        let is_kept = state.take(&entry, event)?;
+        let stops = stops_after(was_stopping, &input, event);
+        let kept = kept_one(alloc, is_kept, entry)?;
         Ok(Plan {
             input,
             decisions: Vec::new(alloc),
             outs,
             kept,
-            state,
+            known: Known { state, place },
+            stops,
         })
     }
 
-    /// The decision that is due after those that it has.
-    fn due(&self) -> Result<Option<Entry>, AllocError>
-        ensures { IfOk result (λ d. d ≡ due self.now.facts) }
+    /// The decision that is due after those that it has. `history` is the history before the input.
+    fn due(
+        &self,
+        alloc: Global,
+        history: &[Entry],
+        chooser: &Chooser,
+    ) -> Result<Option<Entry>, AllocError>
+        requires { IsGrown (reverse history.now) self.now }
+        ensures { IfOk result (λ d. d ≡ due (facts (planned (reverse history.now) self.now))) }
     {
-        self.state.due()
+        let decision = due(alloc, &self.known.state, chooser)?;
+        Ok(decision)
     }
 
-    /// The place of the next entry. `history` is the history before the input.
-    fn place(&self, history: &[Entry]) -> u64
-        ensures { result ≡ length history.now + length self.now.decisions + 1 }
+    /// Adds a decision.
+    fn add(&mut self, alloc: Global, decision: Entry) -> Result<(), AllocError>
+        requires next { IsNext self.old.plain decision }
+        requires time { InTime decision }
+        requires now { self.old.plain.moment ≤ 253402300799999 }
+        requires no_open { place_after decision self.old.place ≡ self.old.place + 1 }
+        ensures { OnOk result (IsMore self.old self.new decision) }
     {
-        history.len() as u64 + self.decisions.len() as u64 + 1
-    }
-
-    /// Adds the decision that is due.
-    fn add(&mut self, alloc: Global, place: u64, decision: Entry) -> Result<(), AllocError>
-        requires { due self.old.facts ≡ Some decision }
-        ensures { OnOk result (self.new ≡ record self.old {
-          decisions = self.old.decisions ++ decision ∷ [];
-          outs = self.old.outs ++ outs place self.old.facts decision;
-          kept = self.old.kept ++ decision ∷ [];
-          facts = next self.old.facts decision;
-        }) }
-    {
-        let mut outs = self.state.outs(alloc, place, &decision, &None)?.into_vec();
+        let place = next_place(self.known.place, &decision)?;
+        let mut outs = outs(alloc, place, &self.known.state, &decision, &None)?.into_vec();
         self.outs.append(&mut outs)?;
         self.kept.push(decision.copy()?)?;
-        self.state.take(&decision, &None)?;
+        self.known.state.take(&decision, &None)?;
+        self.known.place = place;
         self.decisions.push(decision)?;
         Ok(())
     }
-}
 
-/// Adds the decisions that are due, until none is. `history` is the history before the input.
-fn decide_rest(alloc: Global, history: &[Entry], plan: &mut Plan) -> Result<(), AllocError>
-    requires { IsGrown (reverse history.now) plan.old }
-    ensures input { OnOk result (plan.new.input ≡ plan.old.input) }
-    ensures grown { OnOk result (IsGrown (reverse history.now) plan.new) }
-    ensures all { OnOk result (planned (reverse history.now) plan.new ≡ decide_all (planned (reverse history.now) plan.old)) }
-{
-    while let Some(decision) = plan.due()? {
-        let place = plan.place(history);
-        plan.add(alloc, place, decision)?;
-    }
-    Ok(())
-}
-
-impl Plan {
     /// How many entries it has.
     pub(crate) fn steps(&self) -> usize
         ensures { result ≡ length self.now.decisions + 1 }
     {
         self.decisions.len() + 1
     }
+}
 
-    /// Works a step out. `history` is the history before it, `event` is what a message means.
+/// Adds the decisions that are due, until none is. `history` is the history before the input.
+fn decide_rest(
+    alloc: Global,
+    history: &[Entry],
+    plan: &mut Plan,
+    chooser: &Chooser,
+) -> Result<(), AllocError>
+    requires { IsGrown (reverse history.now) plan.old }
+    ensures input { OnOk result (plan.new.input ≡ plan.old.input) }
+    ensures grown { OnOk result (IsGrown (reverse history.now) plan.new) }
+    ensures all { OnOk result (planned (reverse history.now) plan.new ≡ decide_all (planned (reverse history.now) plan.old)) }
+{
+    while let Some(decision) = plan.due(alloc, history, chooser)? {
+        plan.add(alloc, decision)?;
+    }
+    Ok(())
+}
+
+impl Plan {
+    /// Works a step out. `history` is the history before it, `event` is what a message means, `was_stopping` whether a
+    /// shutdown was asked.
     pub(crate) fn work_out(
         alloc: Global,
         history: &[Entry],
-        state: State,
+        known: Known,
         input: Input,
         event: &Option<Event>,
+        was_stopping: bool,
+        chooser: &Chooser,
     ) -> Result<Plan, AllocError>
-        requires state { state ≡ facts (reverse history.now) }
-        requires event { event.now ≡ event_in state input }
-        requires taken { may_take state input ≡ true }
-        requires rests { due state ≡ None }
+        requires stands { Stands (reverse history.now) (plain known.state) known.place }
+        requires event { event.now ≡ event_in (facts (reverse history.now)) (Entry.Input input) }
+        requires allowed { Allowed (facts (reverse history.now)) (Entry.Input input) }
+        requires time { InTime (Entry.Input input) }
+        requires stopping { was_stopping ≡ is_stopping (reverse history.now) }
         ensures input { IfOk result (λ p. p.input ≡ input) }
         ensures grown { IfOk result (λ p. IsGrown (reverse history.now) p) }
-        ensures all { IfOk result (λ p. planned (reverse history.now) p ≡ stepped (reverse history.now) (Entry.Input input)) }
+        ensures all { IfOk result (λ p. planned (reverse history.now) p ≡ decide_all (Entry.Input input ∷ reverse history.now)) }
     {
-        let mut plan = Plan::begin(alloc, state, history.len() as u64, input, event)?;
-        decide_rest(alloc, history, &mut plan)?;
+        let mut plan = Plan::begin(alloc, known, input, event, was_stopping)?;
+        decide_rest(alloc, history, &mut plan, chooser)?;
         Ok(plan)
     }
 }

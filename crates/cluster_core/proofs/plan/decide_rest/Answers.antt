@@ -1,33 +1,41 @@
-use Rattle.std.proofs.Common.{◌≡◌, ◌∙◌, sym, ap, subst, reverse, arith}
-use Rattle.std.proofs.lemmas.List.{length-reverse}
-use Rattle.std.specs.Prelude.{Some, length, ◌+◌, ◌<◌}
-use Rattle.steady_cluster.specs.Facts.{Facts}
-use Rattle.steady_cluster.specs.Due.{due, open_work}
-use Rattle.steady_cluster.specs.History.{decide_all}
-use Rattle.steady_cluster.proofs.Falls.{due_falls}
-use Rattle.cluster_core.specs.Steps.{PlanView, IsGrown, planned}
-use Rattle.cluster_core.proofs.Growing.{with_decision, grown_more, all_more, all_none}
+use Rattle.std.proofs.Common.{◌≡◌, ◌∙◌, sym, ap, subst, reverse}
+use Rattle.cluster_defs.specs.Scheduling.{due}
+use Rattle.cluster_defs.specs.Histories.{facts}
+use Rattle.cluster_defs.proofs.Decide.{decide_all_none}
+use Rattle.cluster_core.specs.Steps.{planned}
+use Rattle.cluster_core.proofs.Goes.{next_is, next_time, now_time, next_place}
+use Rattle.cluster_core.proofs.Growing.{grown_more, all_more, work_less}
 use Rattle.cluster_core.proofs.plan.decide_rest.Goals as goal
 
+pub add-requires-clause-next : goal.add-requires-clause-next
+add-requires-clause-next g c =
+    next_is (reverse c.args.history.now) c.loop-decision.plan c.in-Some.decision c.loop-decision.invariant.grown (sym c.in_ok-decision.ensures ∙ c.in-Some.is)
+
+pub add-requires-clause-time : goal.add-requires-clause-time
+add-requires-clause-time g c =
+    next_time (reverse c.args.history.now) c.loop-decision.plan c.in-Some.decision (sym c.in_ok-decision.ensures ∙ c.in-Some.is)
+
+pub add-requires-clause-now : goal.add-requires-clause-now
+add-requires-clause-now g c = now_time (reverse c.args.history.now) c.loop-decision.plan c.loop-decision.invariant.grown
+
+pub add-requires-clause-no_open : goal.add-requires-clause-no_open
+add-requires-clause-no_open g c =
+    next_place (reverse c.args.history.now) c.loop-decision.plan c.in-Some.decision c.loop-decision.invariant.grown (sym c.in_ok-decision.ensures ∙ c.in-Some.is)
+
 pub loop-decision-smaller : goal.loop-decision-smaller
-loop-decision-smaller c =
-    let is_due = sym c.in_ok-decision.ensures ∙ c.in-Some.is in
-    rw c.in_ok-add.ensures (due_falls c.loop-decision.plan.facts c.in-Some.decision is_due)
+loop-decision-smaller g c =
+    work_less (reverse c.args.history.now) c.loop-decision.plan c.add.new.self c.in-Some.decision (sym c.in_ok-decision.ensures ∙ c.in-Some.is) c.in_ok-add.ensures
 
 pub loop-decision-preserved : goal.loop-decision-preserved
-loop-decision-preserved c =
+loop-decision-preserved g c =
     let is_due = sym c.in_ok-decision.ensures ∙ c.in-Some.is in
-    let at : c.place-place.result ≡ length (reverse c.args.history.now) + length c.loop-decision.plan.decisions + 1 =
-    c.place-place.ensures ∙ ap (λ n. n + length c.loop-decision.plan.decisions + 1) (sym (length-reverse c.args.history.now)) in
     record {
-      input = ap (λ (p : PlanView). p.input) c.in_ok-add.ensures ∙ c.loop-decision.invariant.input;
-      grown = subst (IsGrown (reverse c.args.history.now)) (sym c.in_ok-add.ensures) (grown_more (reverse c.args.history.now) c.loop-decision.plan c.place-place.result c.in-Some.decision at c.loop-decision.invariant.grown);
-      all = ap (λ (p : PlanView). decide_all (planned (reverse c.args.history.now) p)) c.in_ok-add.ensures
-          ∙ all_more (reverse c.args.history.now) c.loop-decision.plan c.place-place.result c.in-Some.decision c.loop-decision.invariant.grown is_due
-          ∙ c.loop-decision.invariant.all;
+      input = c.in_ok-add.ensures.input ∙ c.loop-decision.invariant.input;
+      grown = grown_more (reverse c.args.history.now) c.loop-decision.plan c.add.new.self c.in-Some.decision c.loop-decision.invariant.grown is_due c.in_ok-add.ensures;
+      all = all_more (reverse c.args.history.now) c.loop-decision.plan c.add.new.self c.in-Some.decision is_due c.in_ok-add.ensures ∙ c.loop-decision.invariant.all;
     }
 
 pub returns-clause-all : goal.returns-clause-all
-returns-clause-all c =
+returns-clause-all g c =
     let none = sym c.in_ok-decision.ensures ∙ c.in_default.is in
-    sym (all_none (reverse c.args.history.now) c.loop-decision.plan c.loop-decision.invariant.grown none) ∙ c.loop-decision.invariant.all
+    sym (decide_all_none (planned (reverse c.args.history.now) c.loop-decision.plan) none) ∙ c.loop-decision.invariant.all

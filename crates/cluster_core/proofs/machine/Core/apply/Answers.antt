@@ -1,4 +1,7 @@
-use Rattle.std.proofs.Common.{◌≡◌, ◌∙◌, reverse, arith, vec_len, length}
+use Rattle.std.proofs.Common.{◌≡◌, ◌∙◌, ap, reverse, length, arith}
+use Rattle.cluster_state.specs.Plain.{Plain}
+use Rattle.cluster_state.specs.Stands.{plain}
+use Rattle.cluster_core.specs.Steps.{Stands}
 use Rattle.cluster_core.proofs.Plans.{applied_in, room_in, only_some}
 use Rattle.cluster_core.proofs.machine.Core.apply.Goals as goal
 
@@ -9,8 +12,14 @@ add_step-requires c =
 
 pub invariant_of-self : goal.invariant_of-self
 invariant_of-self c =
-    let a = applied_in c.args.self.now c.args.plan _ _ (reverse c.add_step.new.entries.items) c.self.view_is c.plan.view_is c.requires c.add_step.ensures in
-    (a.legal, a.rests, only_some _ _ a.stands)
+    let a = applied_in c.args.self.now c.args.plan _ _ (reverse c.add_step.new.entries.items) c.self.view_is c.plan.view_is c.requires c.add_step.ensures in (
+      a.stands.legal,
+      a.rests,
+      a.stands.time,
+      c.live-self-inside.ensures ∙ ap (λ (p : Plain). length p.connections) a.stands.data_are,
+      a.stops,
+      only_some (λ k. Stands (reverse c.add_step.new.entries.items) (plain k.state) k.place) c.plan.inside.known a.stands,
+    )
 
 pub returns-clause-history : goal.returns-clause-history
 returns-clause-history c =

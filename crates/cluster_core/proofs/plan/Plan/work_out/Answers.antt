@@ -1,9 +1,31 @@
-use Rattle.std.proofs.Common.{◌≡◌, sym, reverse}
-use Rattle.std.proofs.lemmas.List.{length-reverse}
-use Rattle.cluster_core.proofs.Growing.{grown_begun, begun_is}
+use Rattle.std.proofs.Common.{◌≡◌, ◌∙◌, ap, reverse}
+use Rattle.cluster_state.specs.Stands.{plain}
+use Rattle.cluster_core.specs.Steps.{stops_after}
+use Rattle.cluster_core.proofs.Goes.{grown_begun}
+use Rattle.cluster_core.proofs.Growing.{begun_is, plain_time}
 use Rattle.cluster_core.proofs.plan.Plan.work_out.Goals as goal
 
+pub begin-requires-clause-next : goal.begin-requires-clause-next
+begin-requires-clause-next g c = record {
+  history = reverse c.args.history.now;
+  legal = (c.requires.allowed, c.requires.stands.legal);
+  is = c.requires.stands.data_are;
+}
+
+pub begin-requires-clause-now : goal.begin-requires-clause-now
+begin-requires-clause-now g c = plain_time (reverse c.args.history.now) (plain c.args.known.state) c.args.known.place c.requires.stands
+
 pub decide_rest-requires : goal.decide_rest-requires
-decide_rest-requires c =
+decide_rest-requires g c =
     let e = c.in_ok-plan.ensures in
-    grown_begun (reverse c.args.history.now) c.args.state c.args.input c.in_ok-plan.plan _ c.requires.state (sym (length-reverse c.args.history.now)) e.input e.decisions e.outs e.kept e.facts
+    grown_begun (reverse c.args.history.now) (plain c.args.known.state) c.args.known.place c.in_ok-plan.plan c.args.input c.args.event.now c.requires.stands e.input (record {
+      allowed = c.requires.allowed;
+      time = c.requires.time;
+      event_is = c.requires.event;
+      alone = e.decisions;
+      place = e.place;
+      plain = e.«data»;
+      outs = e.outs;
+      kept = e.kept;
+      stops = e.stops ∙ ap (λ was. stops_after was c.args.input c.args.event.now) c.requires.stopping;
+    })

@@ -1,5 +1,0 @@
-pub mod Facts
-pub mod Taken
-pub mod Due
-pub mod Outs
-pub mod History
