@@ -55,6 +55,6 @@ links_at links (Piece conn octets) = heard_on conn octets links
 links_at links _ = links
 
 -- the links behind a record: a Down takes one off
-abbrev pub links_after : List Link → TapeKind → List Link
-links_after links (Down conn) = filter (λ l. not (l.conn == conn)) links
-links_after links kind = links_at links kind
+abbrev pub links_left : List Link → TapeKind → List Link
+links_left links (Down conn) = filter (λ l. not (l.conn == conn)) links
+links_left links _ = links

@@ -1,0 +1,12 @@
+-- Nothing is sent where no entry comes.
+use Rattle.std.proofs.Common.{◌≡◌, ℕ, suc, ◌+◌, ◌<◌, List, [], ◌∷◌, ◌++◌, length, true, refl, arith}
+use Rattle.std.specs.Prelude.{nat_lt}
+use Rattle.std.proofs.lemmas.Bool.{lt-ltb}
+use Rattle.cluster_types.specs.declared.out.Out.{Out}
+use Rattle.cluster_types.specs.declared.entry.Entry.{Entry}
+use Rattle.cluster_defs.specs.Histories.{History}
+use Rattle.cluster_defs.specs.Outs.{outs_from}
+
+pub none_sent : (history : History) → outs_from (length history) history ≡ []
+none_sent [] = refl
+none_sent (e ∷ older) = let below : nat_lt (length older) (length (e ∷ older)) ≡ true = lt-ltb (length older) (length (e ∷ older)) (omega arith) in rw below refl
