@@ -1,9 +1,7 @@
 -- Nothing is sent where no entry comes.
-use Rattle.std.proofs.Common.{◌≡◌, ℕ, suc, ◌+◌, ◌<◌, List, [], ◌∷◌, ◌++◌, length, true, refl, arith}
+use Rattle.std.proofs.Common.{◌≡◌, [], ◌∷◌, length, true, refl, arith}
 use Rattle.std.specs.Prelude.{nat_lt}
 use Rattle.std.proofs.lemmas.Bool.{lt-ltb}
-use Rattle.cluster_types.specs.declared.out.Out.{Out}
-use Rattle.cluster_types.specs.declared.entry.Entry.{Entry}
 use Rattle.cluster_defs.specs.Histories.{History}
 use Rattle.cluster_defs.specs.Outs.{outs_from}
 

@@ -3,12 +3,11 @@ use Rattle.std.specs.Prelude.{map}
 use Rattle.tape.specs.Spelling.{written}
 use Rattle.tape_drive.specs.Steps.{stepped_all, AreInTime}
 use Rattle.tape_drive.specs.Sends.{steps_send, sent_at}
-use Rattle.tape_drive.specs.Drive.{Stand}
 use Rattle.tape_drive.proofs.drive.Drive.serve_inputs.Given as goal
 
 -- where the history will have come to, and what will be written, with what is left
 abbrev pub invariant-loop-input : goal.invariant-loop-input
-invariant-loop-input l = record {
+invariant-loop-input g l = record {
   time : AreInTime (reverse l.inputs.items);
   stand : record l.self { history = stepped_all l.self.history (reverse l.inputs.items) } ≡ record l.fn.self { history = stepped_all l.fn.self.history (reverse l.fn.inputs.items) };
   octets : l.into.items ++ written (map (sent_at l.moment) (steps_send l.key l.self.links l.self.history (reverse l.inputs.items)))
@@ -16,4 +15,4 @@ invariant-loop-input l = record {
 }
 
 abbrev pub decreases-loop-input : goal.decreases-loop-input
-decreases-loop-input l = length l.inputs.items
+decreases-loop-input g l = length l.inputs.items
