@@ -3,6 +3,7 @@
 
 pub mod drive;
 pub mod inputs;
+pub mod laws;
 pub mod links;
 pub mod order;
 pub mod records;
