@@ -11,3 +11,5 @@ pub mod rules;
 pub mod sends;
 pub mod sizes;
 pub mod steps;
+#[cfg(test)]
+mod tests;
