@@ -1,0 +1,9 @@
+pub mod Drive
+pub mod Inputs
+pub mod Links
+pub mod Rules
+pub mod Sends
+pub mod Steps
+pub mod Order
+pub mod Places
+pub mod Sizes
