@@ -1,0 +1,21 @@
+-- How the program ends: its status, and the line that says why.
+use Rattle.std.specs.Prelude.{ℕ, List, [], ◌++◌, codes, decimal}
+use Rattle.command_words.specs.declared.ending.Ending.{Ending}
+use Rattle.command_words.specs.declared.ending.Ending.TheVariants.{Done, Usage, ReadFault, WriteFault, BadTape, OutOfMemory}
+
+abbrev pub status : Ending → ℕ
+status Done = 0
+status Usage = 2
+status ReadFault = 3
+status WriteFault = 4
+status (BadTape place) = 6
+status OutOfMemory = 8
+
+-- the line of an end, with its line feed
+unfoldable pub line : Ending → List ℕ
+line Done = []
+line Usage = codes "ipcluster: the command line has no reading\n"
+line ReadFault = codes "ipcluster: read fault\n"
+line WriteFault = codes "ipcluster: write fault\n"
+line (BadTape place) = codes "ipcluster: bad tape at " ++ decimal place ++ codes "\n"
+line OutOfMemory = codes "ipcluster: out of memory\n"

@@ -1,0 +1,98 @@
+//! How the program ends.
+
+ghost use Rattle.std.specs.Prelude.{◌≡◌, ◌≤◌, ◌++◌, length, decimal, codes};
+ghost use Rattle.command_words.specs.Lines.{status, line};
+
+use arrayvec::ArrayString;
+use itoa::Buffer;
+use std::marker::Model;
+
+/// How the program ends.
+#[derive(Clone, Copy, Debug, PartialEq, Eq)]
+pub enum Ending {
+    /// All was done.
+    Done,
+    /// The words have no reading.
+    Usage,
+    /// A read from the input failed.
+    ReadFault,
+    /// A write to the output failed.
+    WriteFault,
+    /// The tape has a fault at this place.
+    BadTape(u64),
+    OutOfMemory,
+}
+
+/// The status that says how the program ends.
+pub fn status_of(ending: Ending) -> u8
+    ensures { result ≡ status ending }
+{
+    match ending {
+        Ending::Done => 0,
+        Ending::Usage => 2,
+        Ending::ReadFault => 3,
+        Ending::WriteFault => 4,
+        Ending::BadTape(_) => 6,
+        Ending::OutOfMemory => 8,
+    }
+}
+
+/// A line of at most 128 octets, which takes no memory beside its own.
+#[derive(Drop)]
+pub struct Line {
+    text: ArrayString<128>,
+}
+
+impl Model for Line {
+    ghost use Rattle.std.specs.Prelude.{List, ℕ};
+
+    ghost Value = { List ℕ };
+
+    ghost view = { λ l. l.text.bytes };
+}
+
+impl Line {
+    /// The octets of the line, its line feed among them.
+    pub fn as_slice(&self) -> &[u8]
+        ensures { result.now ≡ self.now }
+    {
+        self.text.as_str().as_bytes()
+    }
+}
+
+fn plain(text: &str) -> Line
+    requires { length text.now ≤ 128 }
+    ensures { result ≡ text.now }
+{
+    let mut line = ArrayString::new();
+    line.push_str(text);
+    Line { text: line }
+}
+
+/// A text, and a place behind it.
+fn with_place(text: &str, place: u64) -> Line
+    requires { length text.now ≤ 80 }
+    ensures { result ≡ text.now ++ decimal place ++ codes "\n" }
+{
+    let mut digits = Buffer::new();
+    let mut line = ArrayString::new();
+    line.push_str(text);
+    line.push_str(digits.format(place));
+    line.push_str("\n");
+    Line { text: line }
+}
+
+/// The line that says why the program ends; it is empty where all was done.
+#[tactic(auto, unfolding(crate::specs::Lines::line))]
+pub fn line_of(ending: Ending) -> Line
+    ensures { result ≡ line ending }
+{
+    match ending {
+        Ending::Done => plain(""),
+        Ending::Usage => plain("ipcluster: the command line has no reading\n"),
+        Ending::ReadFault => plain("ipcluster: read fault\n"),
+        Ending::WriteFault => plain("ipcluster: write fault\n"),
+        Ending::BadTape(place) => with_place("ipcluster: bad tape at ", place),
+        Ending::OutOfMemory => plain("ipcluster: out of memory\n"),
+    }
+}

@@ -1,0 +1,9 @@
+//! The words of a command line, and the lines with which the program says why it ends.
+#![tactic(auto)]
+
+pub mod command;
+pub mod ending;
+pub mod item;
+#[cfg(test)]
+mod tests;
+mod values;
