@@ -1,0 +1,6 @@
+pub mod Drive
+pub mod Inputs
+pub mod Links
+pub mod Rules
+pub mod Sends
+pub mod Steps
