@@ -7,7 +7,7 @@ use Rattle.cluster_defs.specs.Histories.{History, decide_all}
 use Rattle.tape.specs.declared.record.TapeRecord.{TapeRecord}
 use Rattle.tape.specs.Spelling.{spelled, written}
 use Rattle.tape.specs.Tape.{blank, after, records, fault}
-use Rattle.tape_drive.specs.Links.{Link, links_at, links_after}
+use Rattle.tape_drive.specs.Links.{Link, links_at, links_left}
 use Rattle.tape_drive.specs.Rules.{least_after, stop_of}
 use Rattle.tape_drive.specs.Inputs.{inputs_of}
 use Rattle.tape_drive.specs.Steps.{stepped_all}
@@ -38,10 +38,10 @@ start history scheme hwm misses = record {
 abbrev pub goes_on : List ℕ → Stand → TapeRecord → Stand
 goes_on key s r = record {
   history = stepped_all s.history (inputs_of key s.links r);
-  links = links_after s.links r.kind;
+  links = links_left (links_at s.links r.kind) r.kind;
   least = least_after s.least r.kind;
   at = s.at + length (spelled r);
-  stop = None;
+  stop = s.stop;
 }
 
 abbrev pub halts : Stand → ℕ → Stand

@@ -1,5 +1,5 @@
 -- The inputs that the records of a tape stand for.
-use Rattle.std.specs.Prelude.{ℕ, ◌==◌, Bool, List, [], ◌∷◌, ◌++◌, length, decimal, codes, Option, Some, None, option_map, option_to_list, Result, Ok, Err, if◌then◌else◌}
+use Rattle.std.specs.Prelude.{ℕ, ◌==◌, List, [], ◌∷◌, ◌++◌, length, decimal, codes, Option, Some, None, option_map, option_to_list, Result, Ok, Err, if◌then◌else◌}
 use Rattle.std.specs.List.{flat_map}
 use Rattle.cluster_types.specs.declared.config.Channel.{Channel}
 use Rattle.cluster_types.specs.declared.message.Message.{Message}
@@ -8,11 +8,11 @@ use Rattle.cluster_types.specs.declared.entry.Input.TheVariants.{Up as UpInput, 
 use Rattle.jupyter_parts.specs.declared.fault.PartsError.{PartsError}
 use Rattle.jupyter_parts.specs.Signed.{read_parts}
 use Rattle.zmtp_peer.specs.declared.fault.PeerFault.{PeerFault}
-use Rattle.zmtp_peer.specs.PeerStream.{Talk, talked, identity, messages, fault_of}
+use Rattle.zmtp_peer.specs.declared.phase.PeerFed.{PeerFed}
 use Rattle.tape.specs.declared.record.TapeRecord.{TapeRecord}
 use Rattle.tape.specs.declared.record.TapeKind.{TapeKind}
 use Rattle.tape.specs.declared.record.TapeKind.TheVariants.{Up, Piece, Down, Beat, Time, Message as MessageKind}
-use Rattle.tape_drive.specs.Links.{Link, link_on}
+use Rattle.tape_drive.specs.Links.{Link, link_on, given_on}
 
 -- a connection without an identity is called after its number
 unfoldable pub numbered_identity : ℕ → List ℕ
@@ -40,24 +40,15 @@ abbrev pub down_where : ℕ → ℕ → ℕ → Option PeerFault → List InputT
 down_where conn moment word fault = option_to_list (option_map (λ f. DownInput conn moment word) fault)
 
 -- octets of a stream: its READY brings the connection up, then its messages come in, and its fault takes it down
-abbrev pub stream_inputs : List ℕ → ℕ → Channel → ℕ → ℕ → Talk → List ℕ → List InputType
-stream_inputs key conn channel moment word t octets =
-    up_where conn channel moment word (identity t octets)
-    ++ flat_map (in_of key conn moment word) (messages t octets)
-    ++ down_where conn moment word (fault_of (talked t octets).phase)
-
-abbrev pub talk_inputs : List ℕ → ℕ → Channel → ℕ → ℕ → List ℕ → Option Talk → List InputType
-talk_inputs key conn channel moment word octets None = []
-talk_inputs key conn channel moment word octets (Some t) = stream_inputs key conn channel moment word t octets
-
-abbrev pub link_inputs : List ℕ → ℕ → ℕ → ℕ → List ℕ → Option Link → List InputType
-link_inputs key conn moment word octets None = []
-link_inputs key conn moment word octets (Some l) = talk_inputs key conn l.channel moment word octets l.talk
+abbrev pub stream_inputs : List ℕ → ℕ → ℕ → ℕ → Option (Channel × PeerFed) → List InputType
+stream_inputs key conn moment word None = []
+stream_inputs key conn moment word (Some g) =
+    up_where conn g.0 moment word g.1.ready ++ flat_map (in_of key conn moment word) g.1.messages ++ down_where conn moment word g.1.fault
 
 -- the inputs of a record, in order, each with its moment and word; `links` are those before it
 abbrev pub kind_inputs : List ℕ → List Link → ℕ → ℕ → TapeKind → List InputType
 kind_inputs key links moment word (Up conn channel bare identity) = if bare then up_of conn channel moment word identity ∷ [] else []
-kind_inputs key links moment word (Piece conn octets) = link_inputs key conn moment word octets (link_on links conn)
+kind_inputs key links moment word (Piece conn octets) = stream_inputs key conn moment word (given_on octets (link_on links conn))
 kind_inputs key links moment word (MessageKind conn frames) = in_of key conn moment word frames
 kind_inputs key links moment word (Down conn) = DownInput conn moment word ∷ []
 kind_inputs key links moment word Beat = BeatInput moment word ∷ []

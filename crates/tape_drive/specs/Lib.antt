@@ -4,3 +4,5 @@ pub mod Links
 pub mod Rules
 pub mod Sends
 pub mod Steps
+pub mod Places
+pub mod Sizes

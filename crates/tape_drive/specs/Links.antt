@@ -1,10 +1,11 @@
 -- The connections that are up on a tape.
-use Rattle.std.specs.Prelude.{ℕ, ◌==◌, List, [], ◌∷◌, ◌++◌, Option, Some, None, option_map, Bool, true, false, not, filter, find, is_none, if◌then◌else◌}
+use Rattle.std.specs.Prelude.{ℕ, ◌==◌, List, [], ◌∷◌, ◌++◌, Option, Some, None, option_map, Bool, false, not, filter, find, is_none, if◌then◌else◌}
 use Rattle.std.specs.Option.{is_some}
 use Rattle.cluster_types.specs.declared.config.Channel.{Channel}
 use Rattle.tape.specs.declared.record.TapeKind.{TapeKind}
 use Rattle.tape.specs.declared.record.TapeKind.TheVariants.{Up, Piece, Down}
-use Rattle.zmtp_peer.specs.PeerStream.{Talk, begins, talked}
+use Rattle.zmtp_peer.specs.declared.phase.PeerFed.{PeerFed}
+use Rattle.zmtp_peer.specs.PeerStream.{Talk, begins, talked, sent, identity, messages, fault_of}
 
 -- a connection from its Up to its Down: a bare one has no talk, of one that speaks ZMTP it is what its octets so far
 -- tell
@@ -38,6 +39,15 @@ abbrev pub heard_on : ℕ → List ℕ → List Link → List Link
 heard_on conn octets [] = []
 heard_on conn octets (l ∷ links) = if l.conn == conn then heard octets l ∷ links else l ∷ heard_on conn octets links
 
+-- what octets give behind a talk: octets to send, the identity, the messages, and the first fault
+abbrev pub given : Talk → List ℕ → PeerFed
+given t octets = record { send = sent t octets; ready = identity t octets; messages = messages t octets; fault = fault_of (talked t octets).phase }
+
+-- what octets on a link that speaks ZMTP give, with its channel
+abbrev pub given_on : List ℕ → Option Link → Option (Channel × PeerFed)
+given_on octets None = None
+given_on octets (Some l) = option_map (λ t. (l.channel, given t octets)) l.talk
+
 -- the links while a record is served: an Up adds one, at the end, and a Piece is heard
 abbrev pub links_at : List Link → TapeKind → List Link
 links_at links (Up conn channel bare identity) = links ++ new_link conn channel bare ∷ []
@@ -45,6 +55,6 @@ links_at links (Piece conn octets) = heard_on conn octets links
 links_at links _ = links
 
 -- the links behind a record: a Down takes one off
-abbrev pub links_after : List Link → TapeKind → List Link
-links_after links (Down conn) = filter (λ l. not (l.conn == conn)) links
-links_after links kind = links_at links kind
+abbrev pub links_left : List Link → TapeKind → List Link
+links_left links (Down conn) = filter (λ l. not (l.conn == conn)) links
+links_left links _ = links

@@ -8,12 +8,13 @@ use Rattle.cluster_defs.specs.Outs.{conn_of}
 use Rattle.cluster_outgo.specs.Frames.{frames_of}
 use Rattle.zmtp_frames.specs.Greeting.{own_greeting}
 use Rattle.zmtp_frames.specs.Written.{own_ready}
-use Rattle.zmtp_peer.specs.PeerStream.{Talk, sent}
+use Rattle.zmtp_peer.specs.declared.phase.PeerFed.{PeerFed}
+use Rattle.cluster_types.specs.declared.config.Channel.{Channel}
 use Rattle.zmtp_peer.specs.Message.{message_written}
 use Rattle.tape.specs.declared.record.TapeRecord.{TapeRecord}
 use Rattle.tape.specs.declared.record.TapeKind.{TapeKind}
 use Rattle.tape.specs.declared.record.TapeKind.TheVariants.{Up, Piece, Message}
-use Rattle.tape_drive.specs.Links.{Link, link_on, is_zmtp}
+use Rattle.tape_drive.specs.Links.{Link, link_on, is_zmtp, given_on}
 use Rattle.tape_drive.specs.Steps.{stepped, step_outs}
 
 -- THE OCTETS OF A STREAM
@@ -26,19 +27,14 @@ where_any (x ∷ xs) = (x ∷ xs) ∷ []
 abbrev pub sendings : List ℕ → List (List ℕ)
 sendings octets = if begins_with own_ready octets then own_ready ∷ where_any (drop (length own_ready) octets) else where_any octets
 
-abbrev pub talk_sendings : List ℕ → Option Talk → List (List ℕ)
-talk_sendings octets None = []
-talk_sendings octets (Some t) = sendings (sent t octets)
-
--- what octets on a link call for
-abbrev pub link_sendings : List ℕ → Option Link → List (List ℕ)
-link_sendings octets None = []
-link_sendings octets (Some l) = talk_sendings octets l.talk
+abbrev pub given_sendings : Option (Channel × PeerFed) → List (List ℕ)
+given_sendings None = []
+given_sendings (Some g) = sendings g.1.send
 
 -- a stream is greeted as it comes up, and its pieces are answered; `links` are those before the record
 abbrev pub stream_sends : List Link → TapeKind → List TapeKind
 stream_sends links (Up conn channel bare identity) = if bare then [] else Piece conn own_greeting ∷ []
-stream_sends links (Piece conn octets) = map (Piece conn) (link_sendings octets (link_on links conn))
+stream_sends links (Piece conn octets) = map (Piece conn) (given_sendings (given_on octets (link_on links conn)))
 stream_sends links _ = []
 
 -- THE OUTS OF STEPS

@@ -1,5 +1,5 @@
 -- The steps of a cluster on the inputs of a tape.
-use Rattle.std.specs.Prelude.{Bool, List, [], ◌∷◌, length, if◌then◌else◌}
+use Rattle.std.specs.Prelude.{Bool, List, [], ◌∷◌, length, ⊤, if◌then◌else◌}
 use Rattle.cluster_types.specs.declared.entry.Entry.TheVariants.{Input}
 use Rattle.cluster_types.specs.declared.entry.Input.{Input as InputType}
 use Rattle.cluster_types.specs.declared.out.Out.{Out}
@@ -7,6 +7,7 @@ use Rattle.cluster_defs.specs.Facts.{event_in}
 use Rattle.cluster_defs.specs.Scheduling.{may_take}
 use Rattle.cluster_defs.specs.Histories.{History, facts, decide_all}
 use Rattle.cluster_defs.specs.Outs.{outs_from}
+use Rattle.cluster_state.specs.Plain.{InTime}
 
 -- whether an input may come: no message that is junk, and nothing on a connection that isn't live
 abbrev pub may_come : History → InputType → Bool
@@ -24,3 +25,8 @@ step_outs history input = outs_from (length history) (stepped history input)
 abbrev pub stepped_all : History → List InputType → History
 stepped_all history [] = history
 stepped_all history (input ∷ inputs) = stepped_all (stepped history input) inputs
+
+-- all moments are before the year 10000
+abbrev pub AreInTime : List InputType → Type 0
+AreInTime [] = ⊤
+AreInTime (input ∷ inputs) = InTime (Input input) × AreInTime inputs

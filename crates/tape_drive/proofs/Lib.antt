@@ -1,0 +1,5 @@
+pub mod Found
+pub mod Lengths
+pub mod Moments
+pub mod Placing
+pub mod Unsent

@@ -1,0 +1,169 @@
+//! A tape's way through the core.
+
+ghost use Rattle.std.specs.Prelude.{◌≡◌, ◌≤◌, ◌+◌, ◌++◌, ◌∷◌, [], Some, None, IfOk, OnOk, length, map, reverse};
+ghost use Rattle.cluster_types.specs.declared.entry.Entry.{Entry};
+ghost use Rattle.cluster_state.specs.Plain.{InTime};
+ghost use Rattle.tape.specs.Reading.{last_moment};
+ghost use Rattle.tape.specs.Spelling.{spelled, written};
+ghost use Rattle.tape_drive.specs.Rules.{stop_of};
+ghost use Rattle.tape_drive.specs.Steps.{stepped, stepped_all, step_outs, AreInTime};
+ghost use Rattle.tape_drive.specs.Sends.{step_sends, steps_send, sent_at};
+ghost use Rattle.tape_drive.specs.Drive.{Stand, start, goes_on, sends, halts, served, outs};
+
+use crate::links::Link;
+use crate::records::{leave, take_record};
+use crate::rules::{least_after, stop_of};
+use crate::sends::put_outs;
+use crate::sizes::size_of;
+use crate::steps::step;
+use cluster_core::machine::Core;
+use cluster_types::config::Scheme;
+use cluster_types::entry::Input;
+use hmac_sign::Key;
+use load_schemes::chooser::Chooser;
+use std::alloc::AllocError;
+use std::marker::Model;
+use tape::record::TapeRecord;
+
+/// Where a tape has come to. Once memory was wanting nothing is promised.
+#[derive(Drop)]
+pub struct Drive {
+    core: Core,
+    links: Vec<Link>,
+    least: u64,
+    at: u64,
+    stop: Option<u64>,
+}
+
+impl Model for Drive {
+    ghost use Rattle.tape_drive.specs.Drive.{Stand};
+
+    ghost Value = { Stand };
+
+    ghost view = { λ d. record { history = d.core.history; links = d.links.items; least = d.least; at = d.at; stop = d.stop } };
+}
+
+impl Drive {
+    /// A drive of a tape of which nothing has come: the history of the core goes on with an Open.
+    pub fn begin(
+        mut core: Core,
+        chooser: &Chooser,
+        scheme: Scheme,
+        hwm: u32,
+        misses: u32,
+    ) -> Result<Drive, AllocError>
+        ensures { IfOk result (λ d. d ≡ start core.history scheme hwm misses) }
+    {
+        let opening = Input::Open {
+            moment: 0,
+            scheme,
+            hwm,
+            misses,
+        };
+        let _outs = step(&mut core, chooser, opening)?;
+        let links = Vec::new(core.allocator());
+        Ok(Drive {
+            core,
+            links,
+            least: 0,
+            at: 0,
+            stop: None,
+        })
+    }
+
+    /// The place of the first record that breaks a rule.
+    pub fn stop(&self) -> Option<u64>
+        ensures { result ≡ self.now.stop }
+    {
+        self.stop
+    }
+
+    /// Serves an input, and appends the records of what is sent.
+    fn serve_input(
+        &mut self,
+        into: &mut Vec<u8>,
+        key: &Key,
+        chooser: &Chooser,
+        moment: u64,
+        input: Input,
+    ) -> Result<(), AllocError>
+        requires { InTime (Entry.Input input) }
+        ensures stand { OnOk result (self.new ≡ record self.old { history = stepped self.old.history input }) }
+        ensures octets { OnOk result (into.new.items ≡ into.old.items ++ written (map (sent_at moment) (step_sends key.now self.old.links self.old.history input))) }
+    {
+        let outs = step(&mut self.core, chooser, input)?;
+        put_outs(into, key, self.links.as_slice(), moment, outs)?;
+        Ok(())
+    }
+
+    /// Serves inputs one after another, the last of the list first.
+    fn serve_inputs(
+        &mut self,
+        into: &mut Vec<u8>,
+        key: &Key,
+        chooser: &Chooser,
+        moment: u64,
+        mut inputs: Vec<Input>,
+    ) -> Result<(), AllocError>
+        requires { AreInTime (reverse inputs.items) }
+        ensures stand { OnOk result (self.new ≡ record self.old { history = stepped_all self.old.history (reverse inputs.items) }) }
+        ensures octets { OnOk result (into.new.items ≡ into.old.items ++ written (map (sent_at moment) (steps_send key.now self.old.links self.old.history (reverse inputs.items)))) }
+    {
+        while let Some(input) = inputs.pop() {
+            self.serve_input(into, key, chooser, moment, input)?;
+        }
+        Ok(())
+    }
+
+    /// Serves a record that keeps the rules, and appends the records of what is sent.
+    fn go_on(
+        &mut self,
+        into: &mut Vec<u8>,
+        key: &Key,
+        chooser: &Chooser,
+        item: &TapeRecord,
+    ) -> Result<(), AllocError>
+        requires moment { item.now.moment ≤ last_moment }
+        requires end { self.old.at + length (spelled item.now) ≤ 4294967296 }
+        ensures stand { OnOk result (self.new ≡ goes_on key.now self.old item.now) }
+        ensures octets { OnOk result (into.new.items ≡ into.old.items ++ written (sends key.now self.old item.now)) }
+    {
+        let mut inputs = Vec::new(self.core.allocator());
+        take_record(&mut self.links, &mut inputs, into, key, item)?;
+        inputs.reverse();
+        self.serve_inputs(into, key, chooser, item.moment, inputs)?;
+        leave(&mut self.links, &item.kind);
+        self.least = least_after(self.least, &item.kind);
+        self.at += size_of(item);
+        Ok(())
+    }
+
+    /// The place of the fault of the next record, where it has one.
+    fn fault_of(&self, item: &TapeRecord) -> Option<u64>
+        ensures { result ≡ stop_of self.now.links self.now.least self.now.at item.now }
+    {
+        stop_of(self.links.as_slice(), self.least, self.at, item)
+    }
+
+    /// Serves a record, and gives the octets of what is sent. A record that breaks a rule stops the tape: neither it
+    /// nor what stands behind it is served.
+    pub fn serve(
+        &mut self,
+        key: &Key,
+        chooser: &Chooser,
+        item: &TapeRecord,
+    ) -> Result<Vec<u8>, AllocError>
+        ensures stand { OnOk result (self.new ≡ served key.now self.old item.now) }
+        ensures octets { IfOk result (λ text. text.items ≡ written (outs key.now self.old item.now)) }
+    {
+        let mut text = Vec::new(self.core.allocator());
+        if self.stop.is_some() {
+            return Ok(text);
+        }
+        match self.fault_of(item) {
+            Some(place) => self.stop = Some(place),
+            None => self.go_on(&mut text, key, chooser, item)?,
+        }
+        Ok(text)
+    }
+}

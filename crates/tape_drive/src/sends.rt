@@ -1,0 +1,225 @@
+//! What is sent while a record of a tape is served, as records.
+
+ghost use Rattle.std.specs.Prelude.{◌≡◌, ◌≤◌, ◌++◌, ◌∷◌, [], map, All, IfOk, OnOk, IsTrue, length, drop, nat_le, reverse, true, Some};
+ghost use Rattle.std.specs.List.{list_all};
+ghost use Rattle.cluster_defs.specs.Words.{begins_with};
+ghost use Rattle.cluster_outgo.specs.Frames.{IsSendable, frames_of};
+ghost use Rattle.zmtp_frames.specs.Written.{own_ready};
+ghost use Rattle.tape.specs.Spelling.{Fits, FitsBlob, spelled, written};
+ghost use Rattle.tape_drive.specs.Links.{link_on, is_zmtp};
+ghost use Rattle.tape_drive.specs.Sends.{where_any, sendings, frames_sent, out_sent, by_connection, sent_at};
+
+use crate::links::{Link, is_zmtp};
+use crate::order::{conn_of, reverse_order};
+use cluster_outgo::frames_of;
+use cluster_types::octets::Octets;
+use cluster_types::out::{Out, Outs};
+use edges::frames::Frames;
+use hmac_sign::Key;
+use std::alloc::{AllocError, Global};
+use tape::reading::LAST_MOMENT;
+use tape::record::{TapeKind, TapeRecord};
+use tape::writing::{frame_at, write_tape};
+use zmtp_frames::writing::write_ready;
+use zmtp_peer::writing::message_octets;
+
+/// The most frames of a record.
+const MOST_FRAMES: usize = 64;
+
+/// The most octets that a record can tell.
+const MOST_TOLD: usize = 4_294_967_295;
+
+/// Whether the length of each body can be told.
+fn are_told(frames: &Frames) -> bool
+    ensures { result ≡ list_all (λ body. nat_le (length body) 4294967295) frames.now }
+{
+    let mut told = true;
+    for place in 0..frames.len() {
+        told = told && frame_at(frames, place).len() <= MOST_TOLD;
+    }
+    told
+}
+
+/// Whether a record has a spelling. An Up or a Down is never sent.
+fn is_told(item: &TapeRecord) -> bool
+    ensures { IsTrue result → Fits item.now }
+{
+    let _word = item.word;
+    match &item.kind {
+        TapeKind::Piece { conn, octets } => {
+            let _conn = *conn;
+            item.moment <= LAST_MOMENT && octets.as_slice().len() <= MOST_TOLD
+        }
+        TapeKind::Message { conn, frames } => {
+            let _conn = *conn;
+            item.moment <= LAST_MOMENT
+                && frames.len() > 0
+                && frames.len() <= MOST_FRAMES
+                && are_told(frames)
+        }
+        _ => false,
+    }
+}
+
+/// Appends a record of what is sent.
+fn put_sent(into: &mut Vec<u8>, moment: u64, kind: TapeKind) -> Result<(), AllocError>
+    ensures { OnOk result (into.new.items ≡ into.old.items ++ spelled (sent_at moment kind)) }
+{
+    let item = TapeRecord {
+        moment,
+        word: 0,
+        kind,
+    };
+    if !is_told(&item) {
+        return Err(AllocError);
+    }
+    write_tape(into, &item)?;
+    Ok(())
+}
+
+/// Appends the record of octets of a stream.
+pub fn put_piece(
+    into: &mut Vec<u8>,
+    moment: u64,
+    conn: u32,
+    octets: &[u8],
+) -> Result<(), AllocError>
+    ensures { OnOk result (into.new.items ≡ into.old.items ++ spelled (sent_at moment (TapeKind.Piece conn octets.now))) }
+{
+    let octets = Octets::new(*into.allocator(), octets)?;
+    put_sent(into, moment, TapeKind::Piece { conn, octets })?;
+    Ok(())
+}
+
+/// Appends the record of octets of a stream, where there are any.
+fn put_where_any(
+    into: &mut Vec<u8>,
+    moment: u64,
+    conn: u32,
+    octets: &[u8],
+) -> Result<(), AllocError>
+    ensures { OnOk result (into.new.items ≡ into.old.items ++ written (map (sent_at moment) (map (TapeKind.Piece conn) (where_any octets.now)))) }
+{
+    if octets.len() > 0 {
+        put_piece(into, moment, conn, octets)?;
+    }
+    Ok(())
+}
+
+/// READY.
+fn ready_octets(alloc: Global) -> Result<Vec<u8>, AllocError>
+    ensures { IfOk result (λ v. v.items ≡ own_ready) }
+{
+    let mut octets = Vec::new(alloc);
+    write_ready(&mut octets)?;
+    Ok(octets)
+}
+
+/// Whether octets begin with those.
+fn begin_with(octets: &[u8], front: &[u8]) -> bool
+    ensures value { result ≡ begins_with front.now octets.now }
+    ensures within { IsTrue result → length front.now ≤ length octets.now }
+{
+    octets.starts_with(front)
+}
+
+/// Appends the record of READY, and what stands behind it.
+fn put_ready_and_rest(
+    into: &mut Vec<u8>,
+    moment: u64,
+    conn: u32,
+    ready: &[u8],
+    octets: &[u8],
+) -> Result<(), AllocError>
+    requires { length ready.now ≤ length octets.now }
+    ensures { OnOk result (into.new.items ≡ into.old.items ++ written (map (sent_at moment) (map (TapeKind.Piece conn) (ready.now ∷ where_any (drop (length ready.now) octets.now))))) }
+{
+    put_piece(into, moment, conn, ready)?;
+    put_where_any(into, moment, conn, &octets[ready.len()..])?;
+    Ok(())
+}
+
+/// Appends the records of the octets that a stream calls for.
+pub fn put_sendings(
+    into: &mut Vec<u8>,
+    moment: u64,
+    conn: u32,
+    octets: &[u8],
+) -> Result<(), AllocError>
+    ensures { OnOk result (into.new.items ≡ into.old.items ++ written (map (sent_at moment) (map (TapeKind.Piece conn) (sendings octets.now)))) }
+{
+    let ready = ready_octets(*into.allocator())?;
+    if begin_with(octets, ready.as_slice()) {
+        put_ready_and_rest(into, moment, conn, ready.as_slice(), octets)?;
+        return Ok(());
+    }
+    put_where_any(into, moment, conn, octets)?;
+    Ok(())
+}
+
+/// Whether the moment of an out has a date.
+fn is_sendable(out: &Out) -> bool
+    ensures { IsTrue result → IsSendable out.now }
+{
+    match out {
+        Out::Pass { .. } => true,
+        Out::Made { moment, .. } => *moment <= LAST_MOMENT,
+    }
+}
+
+/// The frames of an out.
+fn out_frames(alloc: Global, key: &Key, out: &Out) -> Result<Frames, AllocError>
+    ensures { IfOk result (λ f. f ≡ frames_of key.now out.now) }
+{
+    if !is_sendable(out) {
+        return Err(AllocError);
+    }
+    let frames = frames_of(alloc, out, key)?;
+    Ok(frames)
+}
+
+/// What frames are sent as.
+fn frames_sent(alloc: Global, zmtp: bool, conn: u32, frames: Frames) -> Result<TapeKind, AllocError>
+    ensures { IfOk result (λ k. k ≡ frames_sent zmtp conn frames) }
+{
+    if zmtp {
+        let octets = Octets::from_vec(message_octets(alloc, &frames)?);
+        return Ok(TapeKind::Piece { conn, octets });
+    }
+    Ok(TapeKind::Message { conn, frames })
+}
+
+/// Appends the record of an out.
+fn put_out(
+    into: &mut Vec<u8>,
+    key: &Key,
+    links: &[Link],
+    moment: u64,
+    out: &Out,
+) -> Result<(), AllocError>
+    ensures { OnOk result (into.new.items ≡ into.old.items ++ spelled (sent_at moment (out_sent key.now links.now out.now))) }
+{
+    let alloc = *into.allocator();
+    let conn = conn_of(out);
+    let frames = out_frames(alloc, key, out)?;
+    let kind = frames_sent(alloc, is_zmtp(links, conn), conn, frames)?;
+    put_sent(into, moment, kind)?;
+    Ok(())
+}
+
+/// Appends the records of the outs of a step, by connection.
+pub fn put_outs(
+    into: &mut Vec<u8>,
+    key: &Key,
+    links: &[Link],
+    moment: u64,
+    outs: Outs,
+) -> Result<(), AllocError>
+    ensures { OnOk result (into.new.items ≡ into.old.items ++ written (map (sent_at moment) (map (out_sent key.now links.now) (by_connection outs)))) }
+{
+    let mut rest = reverse_order(*into.allocator(), outs.into_vec())?;
+    while let Some(out) = rest.pop() {
+        put_out(into, key, links, moment, &out)?;
+    }
+    Ok(())
+}
