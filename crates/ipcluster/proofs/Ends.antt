@@ -5,7 +5,7 @@ use Rattle.edges.specs.Streams.{Added}
 use Rattle.command_words.specs.declared.ending.Ending.{Ending}
 use Rattle.command_words.specs.declared.ending.Ending.TheVariants.{Done, Usage, ReadFault, WriteFault, BadTape, OutOfMemory}
 use Rattle.command_words.specs.Lines.{status, line}
-use Rattle.ipcluster.specs.Written.{WroteFront, Told, Ended}
+use Rattle.ipcluster.specs.Written.{Said, Told, Ended}
 
 pub if_some : {T : Type 0} (o : Option T) (P : T → Type 0) → ((x : T) → P x) → IfSome o P
 if_some None P all = tt
@@ -72,6 +72,9 @@ statuses WriteFault = inr (inr (inr (inl refl)))
 statuses (BadTape place) = inr (inr (inr (inr (inl refl))))
 statuses OutOfMemory = inr (inr (inr (inr (inr refl))))
 
+pub unread_status : {N : Type 0} (n : ℕ) (e : Ending) → n ≡ status e → (N → (e ≡ Usage) ⊎ (e ≡ OutOfMemory)) → N → (n ≡ 2) ⊎ (n ≡ 8)
+unread_status n e is unread none = ⊎_elim (λ u. inl (is ∙ ap status u)) (λ m. inr (is ∙ ap status m)) (unread none)
+
 -- where words have no reading, the end is one of two
 pub some_read : {C : Type 0} (o : Option C) (e : Ending) → (o ≡ None → (e ≡ Usage) ⊎ (e ≡ OutOfMemory)) → (status e ≡ 2 → ⊥) → (status e ≡ 8 → ⊥) → o ≡ None → ⊥
 some_read o e unread usage memory none = ⊎_elim (λ u. usage (ap status u)) (λ m. memory (ap status m)) (unread none)
@@ -90,14 +93,14 @@ done_read o e left output fault before now is unread fact =
     done_not_eight a b = cc
 
 -- the input has a fault
-pub bad_tape_read : {C : Type 0} (o : Option C) (e : Ending) (left : Option (List ℕ)) (output : C → List ℕ → List ℕ) (fault : C → List ℕ → Option ℕ) (before now said says : Option (List ℕ)) → status e ≡ 6 → (o ≡ None → (e ≡ Usage) ⊎ (e ≡ OutOfMemory))
-    → IfSome o (λ c. Told left (λ octets. Ended e (output c octets) (fault c octets) before now)) → WroteFront (line e) said says
-    → IsSomeAnd o (λ c. Told left (λ octets. Added (output c octets) before now × (place : ℕ) × (fault c octets ≡ Some place) × WroteFront (line (BadTape place)) said says))
-bad_tape_read o e left output fault before now said says six unread fact front =
+pub bad_tape_read : {C : Type 0} (o : Option C) (e : Ending) (left : Option (List ℕ)) (output : C → List ℕ → List ℕ) (fault : C → List ℕ → Option ℕ) (before now said says : Option (List ℕ)) (faults later : ℕ) → status e ≡ 6 → (o ≡ None → (e ≡ Usage) ⊎ (e ≡ OutOfMemory))
+    → IfSome o (λ c. Told left (λ octets. Ended e (output c octets) (fault c octets) before now)) → Said (line e) said says faults later
+    → IsSomeAnd o (λ c. Told left (λ octets. Added (output c octets) before now × (place : ℕ) × (fault c octets ≡ Some place) × Said (line (BadTape place)) said says faults later))
+bad_tape_read o e left output fault before now said says faults later six unread fact front =
     let at = ends_bad_tape e six in
     is_some_and o (λ c. Told left (λ octets. Ended e (output c octets) (fault c octets) before now))
-    (λ c. Told left (λ octets. Added (output c octets) before now × (place : ℕ) × (fault c octets ≡ Some place) × WroteFront (line (BadTape place)) said says))
+    (λ c. Told left (λ octets. Added (output c octets) before now × (place : ℕ) × (fault c octets ≡ Some place) × Said (line (BadTape place)) said says faults later))
     (some_read o e unread (λ two. cc) (λ eight. cc)) fact
     (λ c p octets told.
     let q : Ended (BadTape at.0) (output c octets) (fault c octets) before now = subst (λ (d : Ending). Ended d (output c octets) (fault c octets) before now) at.1 (p octets told) in
-    (q.0, at.0, q.1, subst (λ (d : Ending). WroteFront (line d) said says) at.1 front))
+    (q.0, at.0, q.1, subst (λ (d : Ending). Said (line d) said says faults later) at.1 front))

@@ -1,5 +1,6 @@
 -- What was written of what is to be written.
-use Rattle.std.specs.Prelude.{◌≡◌, ℕ, List, ◌++◌, Option, Some, None}
+use Rattle.std.specs.Prelude.{◌≡◌, ℕ, List, ◌++◌, Option, Some, None, ◌⊎◌}
+use Rattle.edges.specs.Causes.{Rose}
 use Rattle.edges.specs.Streams.{Added}
 use Rattle.command_words.specs.declared.ending.Ending.{Ending}
 use Rattle.command_words.specs.declared.ending.Ending.TheVariants.{Done, BadTape}
@@ -10,6 +11,10 @@ pub record WroteFront (octets : List ℕ) (before now : Option (List ℕ)) : Typ
   pub rest : List ℕ
   pub parts : octets ≡ front ++ rest
   pub added : Added front before now
+
+-- a text was written, or a front of it where the count of the sink's faults rose
+abbrev pub Said : List ℕ → (before now : Option (List ℕ)) → (faults later : ℕ) → Type 0
+Said text before now faults later = Added text before now ⊎ (WroteFront text before now × Rose faults later)
 
 -- a fact of what a source had left, where it tells
 abbrev pub Told : Option (List ℕ) → (List ℕ → Type 0) → Type 0

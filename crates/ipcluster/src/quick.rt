@@ -6,7 +6,7 @@ ghost use Rattle.edges.specs.Streams.{Added, IsAtEnd};
 ghost use Rattle.command_words.specs.Lines.{line};
 ghost use Rattle.command_words.specs.Reading.{reading};
 ghost use Rattle.ipcluster.specs.Program.{output_of, fault_of};
-ghost use Rattle.ipcluster.specs.Written.{WroteFront, Told, Ended};
+ghost use Rattle.ipcluster.specs.Written.{WroteFront, Said, Told, Ended};
 
 use crate::errors::tell;
 use crate::replay::replay;
@@ -47,7 +47,7 @@ fn run<S: Source, K: Sink>(
 ///
 /// It answers a status: 0 the tape was read to its end and served; 2 the words have no reading; 3 a read failed; 4 a
 /// write failed; 6 the tape has a fault, before which all was served; 8 there was no memory. At each status but 0 it
-/// writes the line that says so to `errors`, as far as that takes it: a write there that fails changes nothing.
+/// writes the line that says so to `errors`, as far as these take it: a write there that fails changes nothing.
 pub fn quick<S: Source, K: Sink, E: Sink>(
     alloc: Global,
     words: &WordList,
@@ -64,19 +64,19 @@ pub fn quick<S: Source, K: Sink, E: Sink>(
     // At 0 the input has no fault, and at 6 it has one. All output is written then, and else a front of it.
     ensures end { result ≡ 0 → IsAtEnd (S.left input.new) }
     ensures done { result ≡ 0 → IsSomeAnd (reading words.now) (λ c. Told (S.left input.old) (λ octets. Added (output_of c octets) (K.written output.old) (K.written output.new) × (fault_of c octets ≡ None))) }
-    ensures bad_tape { result ≡ 6 → IsSomeAnd (reading words.now) (λ c. Told (S.left input.old) (λ octets. Added (output_of c octets) (K.written output.old) (K.written output.new) × (place : ℕ) × (fault_of c octets ≡ Some place) × WroteFront (line (Ending.BadTape place)) (E.written errors.old) (E.written errors.new))) }
+    ensures bad_tape { result ≡ 6 → IsSomeAnd (reading words.now) (λ c. Told (S.left input.old) (λ octets. Added (output_of c octets) (K.written output.old) (K.written output.new) × (place : ℕ) × (fault_of c octets ≡ Some place) × Said (line (Ending.BadTape place)) (E.written errors.old) (E.written errors.new) (E.faults errors.old) (E.faults errors.new))) }
     ensures front { IfSome (reading words.now) (λ c. Told (S.left input.old) (λ octets. WroteFront (output_of c octets) (K.written output.old) (K.written output.new))) }
 
     ensures read_fault { result ≡ 3 → Rose (S.faults input.old) (S.faults input.new) }
     ensures write_fault { result ≡ 4 → Rose (K.faults output.old) (K.faults output.new) }
     ensures statuses { (result ≡ 0) ⊎ (result ≡ 2) ⊎ (result ≡ 3) ⊎ (result ≡ 4) ⊎ (result ≡ 6) ⊎ (result ≡ 8) }
 
-    // The line of the end is written to the errors, or a front of it.
+    // The line of the end is written to the errors, or a front of it where their faults rose.
     ensures silent { result ≡ 0 → E.written errors.new ≡ E.written errors.old }
-    ensures usage_line { result ≡ 2 → WroteFront (line Ending.Usage) (E.written errors.old) (E.written errors.new) }
-    ensures read_line { result ≡ 3 → WroteFront (line Ending.ReadFault) (E.written errors.old) (E.written errors.new) }
-    ensures write_line { result ≡ 4 → WroteFront (line Ending.WriteFault) (E.written errors.old) (E.written errors.new) }
-    ensures memory_line { result ≡ 8 → WroteFront (line Ending.OutOfMemory) (E.written errors.old) (E.written errors.new) }
+    ensures usage_line { result ≡ 2 → Said (line Ending.Usage) (E.written errors.old) (E.written errors.new) (E.faults errors.old) (E.faults errors.new) }
+    ensures read_line { result ≡ 3 → Said (line Ending.ReadFault) (E.written errors.old) (E.written errors.new) (E.faults errors.old) (E.faults errors.new) }
+    ensures write_line { result ≡ 4 → Said (line Ending.WriteFault) (E.written errors.old) (E.written errors.new) (E.faults errors.old) (E.faults errors.new) }
+    ensures memory_line { result ≡ 8 → Said (line Ending.OutOfMemory) (E.written errors.old) (E.written errors.new) (E.faults errors.old) (E.faults errors.new) }
 {
     let ending = run(alloc, words, input, output, &chooser);
     match ending {
