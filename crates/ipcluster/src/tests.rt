@@ -27,6 +27,10 @@ const TWICE: &[u8] =
 const JOINING: &[u8] =
     b"\x01\0\0\0\0\0\0\0\0\0\0\0\0\0\0\0\0\0\0\0\x01\x03\x01\x01e\x06\0\0\0\0\0\0\0\0\0\0\0\0\0\0\0\0\0\0\0\x01\x06\0\0\0\x09<IDS|MSG>\0\0\0@d2f52e7ee3d1bb06564157fe40e43ed04a1d7379b14330f3fc557ded7a84af38\0\0\06{\"msg_id\":\"join-e0\",\"msg_type\":\"registration_request\"}\0\0\0\x02{}\0\0\0\x02{}\0\0\0\x0d{\"uuid\":\"e0\"}";
 
+/// The same on connection 2, with the identity `f`.
+const SECOND: &[u8] =
+    b"\x01\0\0\0\0\0\0\0\0\0\0\0\0\0\0\0\0\0\0\0\x02\x03\x01\x01f\x06\0\0\0\0\0\0\0\0\0\0\0\0\0\0\0\0\0\0\0\x02\x06\0\0\0\x09<IDS|MSG>\0\0\0@d2f52e7ee3d1bb06564157fe40e43ed04a1d7379b14330f3fc557ded7a84af38\0\0\06{\"msg_id\":\"join-e0\",\"msg_type\":\"registration_request\"}\0\0\0\x02{}\0\0\0\x02{}\0\0\0\x0d{\"uuid\":\"e0\"}";
+
 fn words(alloc: Global, texts: &[&str]) -> Result<WordList, Fail> {
     let mut words = WordList::new(alloc);
     for text in texts {
@@ -152,6 +156,23 @@ fn a_write_that_fails(rt: HostRuntime) -> Result<(), Fail> {
     let left = run(rt.alloc(), REPLAY, JOINING, &failing)?;
     assert!(rt; left.says(4, "ipcluster: write fault\n"));
     assert_eq!(rt; left.output.written().len(), 0);
+    Ok(())
+}
+
+#[test]
+fn a_write_that_fails_in_mid_stream(rt: HostRuntime) -> Result<(), Fail> {
+    let alloc = rt.alloc();
+    let mut tape = Vec::from_slice(alloc, JOINING)?;
+    tape.extend_from_slice(SECOND)?;
+    let failing = Failing {
+        reads: &[],
+        writes: &[2],
+        lines: &[],
+    };
+    let left = run(alloc, REPLAY, tape.as_slice(), &failing)?;
+    assert!(rt; left.says(4, "ipcluster: write fault\n"));
+    let first = run(alloc, REPLAY, JOINING, &NONE)?;
+    assert!(rt; left.output.written() == first.output.written());
     Ok(())
 }
 

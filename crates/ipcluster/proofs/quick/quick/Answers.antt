@@ -1,4 +1,4 @@
-use Rattle.std.proofs.Common.{◌≡◌, ℕ, sym, ap, subst, ◌∙◌, ⊎_elim, ◌⊎◌, inl, inr}
+use Rattle.std.proofs.Common.{◌≡◌, ℕ, sym, subst, ◌∙◌, ◌⊎◌}
 use Rattle.command_words.specs.Reading.{reading}
 use Rattle.command_words.specs.Lines.{status, line}
 use Rattle.command_words.specs.declared.ending.Ending.{Ending}
