@@ -79,6 +79,10 @@ unread_status n e is unread none = ⊎_elim (λ u. inl (is ∙ ap status u)) (λ
 pub some_read : {C : Type 0} (o : Option C) (e : Ending) → (o ≡ None → (e ≡ Usage) ⊎ (e ≡ OutOfMemory)) → (status e ≡ 2 → ⊥) → (status e ≡ 8 → ⊥) → o ≡ None → ⊥
 some_read o e unread usage memory none = ⊎_elim (λ u. usage (ap status u)) (λ m. memory (ap status m)) (unread none)
 
+-- the line of a fault
+pub tape_said : (e : Ending) (said says : Option (List ℕ)) (faults later : ℕ) → status e ≡ 6 → Said (line e) said says faults later → (place : ℕ) × Said (line (BadTape place)) said says faults later
+tape_said e said says faults later six fact = let at = ends_bad_tape e six in (at.0, subst (λ (d : Ending). Said (line d) said says faults later) at.1 fact)
+
 -- the input was served to its end
 pub done_read : {C : Type 0} (o : Option C) (e : Ending) (left : Option (List ℕ)) (output : C → List ℕ → List ℕ) (fault : C → List ℕ → Option ℕ) (before now : Option (List ℕ)) → e ≡ Done → (o ≡ None → (e ≡ Usage) ⊎ (e ≡ OutOfMemory))
     → IfSome o (λ c. Told left (λ octets. Ended e (output c octets) (fault c octets) before now)) → IsSomeAnd o (λ c. Told left (λ octets. Added (output c octets) before now × (fault c octets ≡ None)))

@@ -76,6 +76,7 @@ pub fn quick<S: Source, K: Sink, E: Sink>(
     ensures usage_line { result ≡ 2 → Said (line Ending.Usage) (E.written errors.old) (E.written errors.new) (E.faults errors.old) (E.faults errors.new) }
     ensures read_line { result ≡ 3 → Said (line Ending.ReadFault) (E.written errors.old) (E.written errors.new) (E.faults errors.old) (E.faults errors.new) }
     ensures write_line { result ≡ 4 → Said (line Ending.WriteFault) (E.written errors.old) (E.written errors.new) (E.faults errors.old) (E.faults errors.new) }
+    ensures tape_line { result ≡ 6 → (place : ℕ) × Said (line (Ending.BadTape place)) (E.written errors.old) (E.written errors.new) (E.faults errors.old) (E.faults errors.new) }
     ensures memory_line { result ≡ 8 → Said (line Ending.OutOfMemory) (E.written errors.old) (E.written errors.new) (E.faults errors.old) (E.faults errors.new) }
 {
     let ending = run(alloc, words, input, output, &chooser);

@@ -130,7 +130,7 @@ fn serve_tape<S: Source, K: Sink>(
     ensures front { Told (S.left input.old) (λ octets. WroteFront (drive_output key.now drive.old octets) (K.written output.old) (K.written output.new)) }
     ensures read_fault { result ≡ Ending.ReadFault → Rose (S.faults input.old) (S.faults input.new) }
     ensures write_fault { result ≡ Ending.WriteFault → Rose (K.faults output.old) (K.faults output.new) }
-    ensures read { result ≢ Ending.Usage }
+    ensures no_usage { result ≢ Ending.Usage }
 {
     let mut tape = TapeReader::new(alloc);
     let mut piece = [0u8; PIECE];
@@ -176,7 +176,7 @@ pub fn replay<S: Source, K: Sink>(
     ensures front { Told (S.left input.old) (λ octets. WroteFront (drive_output options.now.key (begin_of options.now) octets) (K.written output.old) (K.written output.new)) }
     ensures read_fault { result ≡ Ending.ReadFault → Rose (S.faults input.old) (S.faults input.new) }
     ensures write_fault { result ≡ Ending.WriteFault → Rose (K.faults output.old) (K.faults output.new) }
-    ensures read { result ≢ Ending.Usage }
+    ensures no_usage { result ≢ Ending.Usage }
 {
     let Ok(key) = Key::new(alloc, options.key.as_slice()) else {
         return Ending::OutOfMemory;

@@ -4,7 +4,7 @@ use Rattle.command_words.specs.Lines.{status, line}
 use Rattle.command_words.specs.declared.ending.Ending.{Ending}
 use Rattle.ipcluster.specs.Program.{output_of, fault_of}
 use Rattle.ipcluster.specs.Written.{Said}
-use Rattle.ipcluster.proofs.Ends.{unread_status, ends_done, ends_usage, ends_read_fault, ends_write_fault, ends_out_of_memory, statuses, done_read, bad_tape_read}
+use Rattle.ipcluster.proofs.Ends.{unread_status, ends_done, ends_usage, ends_read_fault, ends_write_fault, ends_out_of_memory, statuses, done_read, bad_tape_read, tape_said}
 use Rattle.ipcluster.proofs.quick.quick.Goals as goal
 
 pub returns-in-Done-clause-done : goal.returns-in-Done-clause-done
@@ -29,5 +29,6 @@ returns g c =
       usage_line = λ two. subst (λ (e : Ending). Said (line e) (g.E.Sink.written c.args.errors.now) (g.E.Sink.written c.tell.new.errors) (g.E.Sink.faults c.args.errors.now) (g.E.Sink.faults c.tell.new.errors)) (ends_usage c.run-ending.result (sym is ∙ two)) c.tell.ensures.line;
       read_line = λ three. subst (λ (e : Ending). Said (line e) (g.E.Sink.written c.args.errors.now) (g.E.Sink.written c.tell.new.errors) (g.E.Sink.faults c.args.errors.now) (g.E.Sink.faults c.tell.new.errors)) (ends_read_fault c.run-ending.result (sym is ∙ three)) c.tell.ensures.line;
       write_line = λ four. subst (λ (e : Ending). Said (line e) (g.E.Sink.written c.args.errors.now) (g.E.Sink.written c.tell.new.errors) (g.E.Sink.faults c.args.errors.now) (g.E.Sink.faults c.tell.new.errors)) (ends_write_fault c.run-ending.result (sym is ∙ four)) c.tell.ensures.line;
+      tape_line = λ six. tape_said c.run-ending.result (g.E.Sink.written c.args.errors.now) (g.E.Sink.written c.tell.new.errors) (g.E.Sink.faults c.args.errors.now) (g.E.Sink.faults c.tell.new.errors) (sym is ∙ six) c.tell.ensures.line;
       memory_line = λ eight. subst (λ (e : Ending). Said (line e) (g.E.Sink.written c.args.errors.now) (g.E.Sink.written c.tell.new.errors) (g.E.Sink.faults c.args.errors.now) (g.E.Sink.faults c.tell.new.errors)) (ends_out_of_memory c.run-ending.result (sym is ∙ eight)) c.tell.ensures.line;
     }
