@@ -1,5 +1,6 @@
 pub mod Found
 pub mod Lengths
 pub mod Moments
+pub mod Ordered
 pub mod Placing
 pub mod Unsent

@@ -4,5 +4,6 @@ pub mod Links
 pub mod Rules
 pub mod Sends
 pub mod Steps
+pub mod Order
 pub mod Places
 pub mod Sizes

@@ -3,6 +3,7 @@
 
 pub mod drive;
 pub mod inputs;
+pub mod laws;
 pub mod links;
 pub mod order;
 pub mod records;
@@ -10,3 +11,5 @@ pub mod rules;
 pub mod sends;
 pub mod sizes;
 pub mod steps;
+#[cfg(test)]
+mod tests;

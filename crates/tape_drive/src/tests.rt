@@ -1,0 +1,232 @@
+//! Tapes of a few records.
+
+ghost use Rattle.std.specs.Prelude.{◌≡◌, ◌<◌, length};
+ghost use Rattle.cluster_defs.specs.Scheduling.{pick};
+
+use crate::drive::Drive;
+use cluster_core::machine::Core;
+use cluster_types::config::{Channel, Scheme};
+use cluster_types::octets::Octets;
+use edges::frames::Frames;
+use hmac_sign::Key;
+use load_schemes::chooser::{Choose, Chooser};
+use load_schemes::place::place_of;
+use std::alloc::{AllocError, Global};
+use std::test::Fail;
+use tape::record::{TapeKind, TapeRecord};
+
+/// A greeting as libzmq sends it: a length in the padding, and version 3.1.
+const GREETING: &[u8; 64] =
+    b"\xff\0\0\0\0\0\0\0\x01\x7f\x03\x01NULL\0\0\0\0\0\0\0\0\0\0\0\0\0\0\0\0\0\0\0\0\0\0\0\0\0\0\0\0\0\0\0\0\0\0\0\0\0\0\0\0\0\0\0\0\0\0\0\0";
+
+/// The greeting that is sent.
+const OWN_GREETING: &[u8; 64] =
+    b"\xff\0\0\0\0\0\0\0\0\x7f\x03\0NULL\0\0\0\0\0\0\0\0\0\0\0\0\0\0\0\0\0\0\0\0\0\0\0\0\0\0\0\0\0\0\0\0\0\0\0\0\0\0\0\0\0\0\0\0\0\0\0\0";
+
+/// The READY that is sent.
+const OWN_READY: &[u8; 30] = b"\x04\x1c\x05READY\x0bSocket-Type\0\0\0\x06ROUTER";
+
+/// The ERROR that is sent to a socket type that isn't served.
+const OWN_ERROR: &[u8; 20] = b"\x04\x12\x05ERROR\x0bSocket-Type";
+
+/// The READY of a DEALER with the identity `e`.
+const DEALER: &[u8; 44] =
+    b"\x04\x2a\x05READY\x0bSocket-Type\0\0\0\x06DEALER\x08Identity\0\0\0\x01e";
+
+/// The READY of a REQ.
+const REQ: &[u8; 27] = b"\x04\x19\x05READY\x0bSocket-Type\0\0\0\x03REQ";
+
+/// The registration of the engine `e0`, signed under the key `k`.
+const JOINING: &[u8] =
+    b"\x01\x09<IDS|MSG>\x01@d2f52e7ee3d1bb06564157fe40e43ed04a1d7379b14330f3fc557ded7a84af38\x016{\"msg_id\":\"join-e0\",\"msg_type\":\"registration_request\"}\x01\x02{}\x01\x02{}\x00\x0d{\"uuid\":\"e0\"}";
+
+/// The answer to it as the third entry, 7 milliseconds after the start of 1970.
+const JOINED: &[u8] =
+    b"\x01\x09<IDS|MSG>\x01@a59e65958d262f6fff357fe9b5f23d7c3e640de6c658502d90ed9e2a5b1984f0\x01\x95{\"msg_id\":\"hub-1-2\",\"session\":\"controller\",\"username\":\"controller\",\"date\":\"1970-01-01T00:00:00.007Z\",\"msg_type\":\"registration_reply\",\"version\":\"5.3\"}\x016{\"msg_id\":\"join-e0\",\"msg_type\":\"registration_request\"}\x01\x02{}\x00\x16{\"status\":\"ok\",\"id\":0}";
+
+fn begin(alloc: Global, chooser: &Chooser) -> Result<Drive, AllocError> {
+    Drive::begin(Core::new(alloc), chooser, Scheme::LeastLoad, 1, 10)
+}
+
+fn record(moment: u64, kind: TapeKind) -> TapeRecord {
+    TapeRecord {
+        moment,
+        word: 9,
+        kind,
+    }
+}
+
+/// Connection 1 comes up for an engine.
+fn up(alloc: Global, bare: bool, identity: &[u8]) -> Result<TapeRecord, AllocError> {
+    let identity = Octets::new(alloc, identity)?;
+    Ok(record(
+        5,
+        TapeKind::Up {
+            conn: 1,
+            channel: Channel::Engine,
+            bare,
+            identity,
+        },
+    ))
+}
+
+/// Octets on connection 1.
+fn piece(moment: u64, octets: Vec<u8>) -> TapeRecord {
+    let octets = Octets::from_vec(octets);
+    record(moment, TapeKind::Piece { conn: 1, octets })
+}
+
+/// A message of one frame.
+fn message(alloc: Global, conn: u32) -> Result<TapeRecord, AllocError> {
+    let mut frames = Frames::new(alloc);
+    frames.push(b"hello")?;
+    Ok(record(5, TapeKind::Message { conn, frames }))
+}
+
+fn joined(alloc: Global, first: &[u8], second: &[u8]) -> Result<Vec<u8>, AllocError> {
+    let mut octets = Vec::from_slice(alloc, first)?;
+    octets.extend_from_slice(second)?;
+    Ok(octets)
+}
+
+/// The record of octets that are sent on connection 1.
+fn sent(alloc: Global, moment: u8, octets: &[u8]) -> Result<Vec<u8>, AllocError> {
+    let mut text = Vec::from_slice(alloc, b"\x02\0\0\0\0\0\0\0")?;
+    text.push(moment)?;
+    text.extend_from_slice(b"\0\0\0\0\0\0\0\0\0\0\0\x01\0\0")?;
+    text.extend_from_slice(&(octets.len() as u16).to_be_bytes())?;
+    text.extend_from_slice(octets)?;
+    Ok(text)
+}
+
+/// Whether a record is answered with these octets on connection 1.
+fn sends(
+    alloc: Global,
+    drive: &mut Drive,
+    chooser: &Chooser,
+    key: &Key,
+    item: &TapeRecord,
+    octets: &[u8],
+) -> Result<bool, AllocError> {
+    let wanted = sent(alloc, item.moment as u8, octets)?;
+    let answer = drive.serve(key, chooser, item)?;
+    Ok(answer.as_slice() == wanted.as_slice())
+}
+
+/// A drive in which connection 1 has sent its greeting, or None where another answer came.
+fn greeted(alloc: Global, chooser: &Chooser, key: &Key) -> Result<Option<Drive>, AllocError> {
+    let mut drive = begin(alloc, chooser)?;
+    let first = sends(
+        alloc,
+        &mut drive,
+        chooser,
+        key,
+        &up(alloc, false, b"")?,
+        OWN_GREETING,
+    )?;
+    let greeting = piece(6, Vec::from_slice(alloc, GREETING)?);
+    let second = sends(alloc, &mut drive, chooser, key, &greeting, OWN_READY)?;
+    if first && second {
+        return Ok(Some(drive));
+    }
+    Ok(None)
+}
+
+/// A REQ is refused behind the greeting.
+fn refuses(alloc: Global, chooser: &Chooser, key: &Key) -> Result<bool, AllocError> {
+    let Some(mut drive) = greeted(alloc, chooser, key)? else {
+        return Ok(false);
+    };
+    let item = piece(7, Vec::from_slice(alloc, REQ)?);
+    sends(alloc, &mut drive, chooser, key, &item, OWN_ERROR)
+}
+
+/// READY and ERROR are two records, also where one piece calls for both.
+fn refuses_at_once(alloc: Global, chooser: &Chooser, key: &Key) -> Result<bool, AllocError> {
+    let mut drive = begin(alloc, chooser)?;
+    let _ = drive.serve(key, chooser, &up(alloc, false, b"")?)?;
+    let answer = drive.serve(key, chooser, &piece(6, joined(alloc, GREETING, REQ)?))?;
+    let ready = sent(alloc, 6, OWN_READY)?;
+    let wanted = joined(
+        alloc,
+        ready.as_slice(),
+        sent(alloc, 6, OWN_ERROR)?.as_slice(),
+    )?;
+    Ok(answer.as_slice() == wanted.as_slice())
+}
+
+/// READY and a message in one piece bring an engine up and in.
+fn joins(alloc: Global, chooser: &Chooser, key: &Key) -> Result<bool, AllocError> {
+    let Some(mut drive) = greeted(alloc, chooser, key)? else {
+        return Ok(false);
+    };
+    let item = piece(7, joined(alloc, DEALER, JOINING)?);
+    sends(alloc, &mut drive, chooser, key, &item, JOINED)
+}
+
+/// Where a tape stops with this record behind the 25 octets of a bare Up.
+fn stop_behind(
+    alloc: Global,
+    chooser: &Chooser,
+    key: &Key,
+    item: &TapeRecord,
+) -> Result<Option<u64>, AllocError> {
+    let mut drive = begin(alloc, chooser)?;
+    let _ = drive.serve(key, chooser, &up(alloc, true, b"c")?)?;
+    let _ = drive.serve(key, chooser, item)?;
+    let _ = drive.serve(key, chooser, item)?;
+    Ok(drive.stop())
+}
+
+fn new_chooser(alloc: Global) -> Result<Chooser, AllocError> {
+    let choose: Choose = Box::new(
+        alloc,
+        |scheme: Scheme, loads: &[u32], word: u64| -> usize
+            requires { 0 < length loads.now }
+            ensures { result ≡ pick scheme loads.now word }
+        { place_of(scheme, loads, word) },
+    )?;
+    Ok(Chooser::new(choose))
+}
+
+#[test]
+fn streams(rt: HostRuntime) -> Result<(), Fail> {
+    let alloc = rt.alloc();
+    let chooser = new_chooser(alloc)?;
+    let key = Key::new(alloc, b"k")?;
+    assert!(rt; refuses(alloc, &chooser, &key)?);
+    assert!(rt; refuses_at_once(alloc, &chooser, &key)?);
+    assert!(rt; joins(alloc, &chooser, &key)?);
+    Ok(())
+}
+
+#[test]
+fn rules(rt: HostRuntime) -> Result<(), Fail> {
+    let alloc = rt.alloc();
+    let chooser = new_chooser(alloc)?;
+    let key = Key::new(alloc, b"k")?;
+    let again = up(alloc, true, b"c")?;
+    assert_eq!(rt; stop_behind(alloc, &chooser, &key, &again)?, Some(25));
+    let octets = piece(5, Vec::from_slice(alloc, b"x")?);
+    assert_eq!(rt; stop_behind(alloc, &chooser, &key, &octets)?, Some(25));
+    let down = record(5, TapeKind::Down { conn: 2 });
+    assert_eq!(rt; stop_behind(alloc, &chooser, &key, &down)?, Some(25));
+    let late = record(253_402_300_800_000, TapeKind::Time);
+    assert_eq!(rt; stop_behind(alloc, &chooser, &key, &late)?, Some(25));
+    Ok(())
+}
+
+#[test]
+fn records_that_keep_the_rules(rt: HostRuntime) -> Result<(), Fail> {
+    let alloc = rt.alloc();
+    let chooser = new_chooser(alloc)?;
+    let key = Key::new(alloc, b"k")?;
+    let unsigned = message(alloc, 1)?;
+    assert_eq!(rt; stop_behind(alloc, &chooser, &key, &unsigned)?, None);
+    let unknown = message(alloc, 2)?;
+    assert_eq!(rt; stop_behind(alloc, &chooser, &key, &unknown)?, Some(25));
+    // The second Down is of a connection that is down; the first record behind the Up has 21 octets.
+    let down = record(5, TapeKind::Down { conn: 1 });
+    assert_eq!(rt; stop_behind(alloc, &chooser, &key, &down)?, Some(46));
+    Ok(())
+}
