@@ -1,12 +1,12 @@
 -- Fronts of what is to be written.
-use Rattle.std.proofs.Common.{◌≡◌, ℕ, ◌+◌, ◌≤◌, ◌<◌, get_or, Result, Ok, Err, List, [], ◌∷◌, ◌++◌, length, take, drop, Option, Some, None, refl, sym, ap, subst, ◌∙◌, append_assoc}
+use Rattle.std.proofs.Common.{◌≡◌, ℕ, ◌+◌, ◌<◌, get_or, Result, Ok, Err, List, [], ◌∷◌, ◌++◌, length, take, drop, Option, Some, None, refl, sym, ap, subst, ◌∙◌, append_assoc}
 use Rattle.std.proofs.lemmas.List.{append-nil, take-append-drop, at_drop_more}
-use Rattle.std.proofs.lemmas.List.Concat.{flat_map-cons, flat_map-append}
+use Rattle.std.proofs.lemmas.List.Concat.{flat_map-append}
 use Rattle.std.specs.Result.{OnErr}
-use Rattle.edges.specs.Streams.{Added, Took, IsAtEnd}
+use Rattle.edges.specs.Streams.{Added}
 use Rattle.tape.specs.declared.record.TapeRecord.{TapeRecord}
 use Rattle.tape.specs.Spelling.{spelled, written}
-use Rattle.ipcluster.specs.Drive.{Stand, served, outs, outputs, stand_at}
+use Rattle.tape_drive.specs.Drive.{Stand, served, outs, outputs, stand_at}
 use Rattle.ipcluster.specs.Written.{WroteFront, Sent}
 
 pub added_none : (w : Option (List ℕ)) → Added [] w w

@@ -1,3 +1,2 @@
-pub mod Drive
-pub mod Words
+pub mod Program
 pub mod Written

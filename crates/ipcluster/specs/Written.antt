@@ -1,7 +1,9 @@
 -- What was written of what is to be written.
-use Rattle.std.specs.Prelude.{◌≡◌, ℕ, Bool, List, ◌++◌, Option, Some}
+use Rattle.std.specs.Prelude.{◌≡◌, ℕ, List, ◌++◌, Option, Some, None, ◌⊎◌}
+use Rattle.edges.specs.Causes.{Rose}
 use Rattle.edges.specs.Streams.{Added}
-use Rattle.ipcluster.specs.Drive.{drive_output, drive_stops}
+use Rattle.command_words.specs.declared.ending.Ending.{Ending}
+use Rattle.command_words.specs.declared.ending.Ending.TheVariants.{Done, BadTape}
 
 -- a front of these octets was written
 pub record WroteFront (octets : List ℕ) (before now : Option (List ℕ)) : Type 0 where
@@ -9,6 +11,10 @@ pub record WroteFront (octets : List ℕ) (before now : Option (List ℕ)) : Typ
   pub rest : List ℕ
   pub parts : octets ≡ front ++ rest
   pub added : Added front before now
+
+-- a text was written, or a front of it where the count of the sink's faults rose
+abbrev pub Said : List ℕ → (before now : Option (List ℕ)) → (faults later : ℕ) → Type 0
+Said text before now faults later = Added text before now ⊎ (WroteFront text before now × Rose faults later)
 
 -- a fact of what a source had left, where it tells
 abbrev pub Told : Option (List ℕ) → (List ℕ → Type 0) → Type 0
@@ -20,7 +26,8 @@ pub record Sent (whole : List ℕ) (before now : Option (List ℕ)) (rest : List
   pub parts : whole ≡ front ++ rest
   pub added : Added front before now
 
--- what stands at the end of a tape that was served whole, or up to where it stops
-pub record Done (key octets : List ℕ) (before now : Option (List ℕ)) (stops : Bool) : Type 0 where
-  pub added : Added (drive_output key octets) before now
-  pub stops_is : drive_stops key octets ≡ stops
+-- where the input was served to its end or up to its fault, all of the output was written
+abbrev pub Ended : Ending → (output : List ℕ) → (fault : Option ℕ) → (before now : Option (List ℕ)) → Type 0
+Ended Done output fault before now = Added output before now × (fault ≡ None)
+Ended (BadTape place) output fault before now = Added output before now × (fault ≡ Some place)
+Ended _ output fault before now = Unit {0}

@@ -1,28 +1,27 @@
-//! A cluster controller: it serves a tape of recorded connections.
+//! A cluster controller: it serves tapes of recorded connections.
 #![tactic(auto)]
 
-mod drive;
-mod inputs;
-mod outputs;
+mod errors;
 mod quick;
 mod replay;
 #[cfg(test)]
 mod tests;
-mod words;
 
+ghost use Rattle.std.specs.Prelude.{◌≡◌, ◌<◌, length};
+ghost use Rattle.cluster_defs.specs.Scheduling.{pick};
+
+use cluster_types::config::Scheme;
 use cluster_types::message::WordList;
 use cluster_types::text::Text;
+use command_words::ending::Ending;
 use edges::standard::{StdSink, StdSource};
+use errors::tell;
+use load_schemes::chooser::Chooser;
+use load_schemes::place::place_of;
 use quick::quick;
 use std::alloc::AllocError;
 use std::process::ExitCode;
 use std::{env, io};
-
-/// The status where the words have no reading.
-const USAGE: u8 = 2;
-
-/// The status of want of memory.
-const OUT_OF_MEMORY: u8 = 8;
 
 /// Why there are no words.
 #[derive(Debug, Drop)]
@@ -55,19 +54,41 @@ fn words_of(rt: &HostRuntime) -> Result<WordList, WordsError> {
     Ok(words)
 }
 
-/// The status where there are no words.
-fn status_of(error: &WordsError) -> u8 {
+/// How the program ends where there are no words.
+fn ending_of(error: &WordsError) -> Ending {
     match error {
-        WordsError::Unreadable(error) if error.kind() == io::ErrorKind::InvalidData => USAGE,
-        _ => OUT_OF_MEMORY,
+        WordsError::Unreadable(error) if error.kind() == io::ErrorKind::InvalidData => {
+            Ending::Usage
+        }
+        _ => Ending::OutOfMemory,
     }
 }
 
 fn main(rt: HostRuntime) -> ExitCode {
     let mut input = StdSource::new(rt.stdin());
     let mut output = StdSink::new(rt.stdout());
-    match words_of(&rt) {
-        Ok(words) => ExitCode::from(quick(rt.alloc(), &words, &mut input, &mut output)),
-        Err(error) => ExitCode::from(status_of(&error)),
-    }
+    let mut errors = StdSink::new(rt.stderr());
+    let words = match words_of(&rt) {
+        Ok(words) => words,
+        Err(error) => return ExitCode::from(tell(&mut errors, ending_of(&error))),
+    };
+    let choose = Box::new(
+        rt.alloc(),
+        |scheme: Scheme, loads: &[u32], word: u64| -> usize
+            requires { 0 < length loads.now }
+            ensures { result ≡ pick scheme loads.now word }
+        { place_of(scheme, loads, word) },
+    );
+    let status = match choose {
+        Ok(choose) => quick(
+            rt.alloc(),
+            &words,
+            &mut input,
+            &mut output,
+            &mut errors,
+            Chooser::new(choose),
+        ),
+        Err(_) => tell(&mut errors, Ending::OutOfMemory),
+    };
+    ExitCode::from(status)
 }

@@ -1,66 +1,87 @@
 //! The top call.
 
-ghost use Rattle.std.specs.Prelude.{◌≡◌, ◌⊎◌, ◌≤◌, true, false, None, IsSomeAnd, IfSome};
+ghost use Rattle.std.specs.Prelude.{◌≡◌, ◌⊎◌, ℕ, None, Some, Err, IsSomeAnd, IfSome};
 ghost use Rattle.edges.specs.Causes.{Rose};
 ghost use Rattle.edges.specs.Streams.{Added, IsAtEnd};
-ghost use Rattle.ipcluster.specs.Drive.{drive_output, drive_stops};
-ghost use Rattle.ipcluster.specs.Words.{reading};
-ghost use Rattle.ipcluster.specs.Written.{WroteFront, Told, Done};
+ghost use Rattle.command_words.specs.Lines.{line};
+ghost use Rattle.command_words.specs.Reading.{reading};
+ghost use Rattle.ipcluster.specs.Program.{output_of, fault_of};
+ghost use Rattle.ipcluster.specs.Written.{WroteFront, Said, Told, Ended};
 
+use crate::errors::tell;
 use crate::replay::replay;
-use crate::words::{Command, CommandError, command_of};
 use cluster_types::message::WordList;
+use command_words::command::{Command, CommandError, command_of};
+use command_words::ending::Ending;
 use edges::sink::Sink;
 use edges::source::Source;
-use hmac_sign::Key;
+use load_schemes::chooser::Chooser;
 use std::alloc::Global;
 
-/// Serves the tape that is read from the input, under this key.
-fn run<S: Source, K: Sink>(alloc: Global, key: &[u8], input: &mut S, output: &mut K) -> u8
-    ensures end { result ≡ 0 → IsAtEnd (S.left input.new) }
-    ensures done { result ≡ 0 → Told (S.left input.old) (λ octets. Done key.now octets (K.written output.old) (K.written output.new) false) }
-    ensures stops { result ≡ 14 → Told (S.left input.old) (λ octets. Done key.now octets (K.written output.old) (K.written output.new) true) }
-    ensures front { Told (S.left input.old) (λ octets. WroteFront (drive_output key.now octets) (K.written output.old) (K.written output.new)) }
-    ensures read_fault { result ≡ 3 → Rose (S.faults input.old) (S.faults input.new) }
-    ensures write_fault { result ≡ 4 → Rose (K.faults output.old) (K.faults output.new) }
-    ensures other { (result ≡ 0) ⊎ (result ≡ 3) ⊎ (result ≡ 4) ⊎ (result ≡ 8) ⊎ (result ≡ 14) }
-{
-    match Key::new(alloc, key) {
-        Ok(key) => replay(alloc, &key, input, output),
-        Err(_) => 8,
-    }
-}
-
-/// Does what the words ask for: `replay --key KEY` reads a tape from the input, serves it, and writes what is sent, as
-/// records of a tape, to the output.
-///
-/// It answers a status: 0 the tape was read to its end and served; 2 the words have no reading; 3 a read failed; 4 a
-/// write failed; 8 there was no memory; 14 the next input isn't built yet, or the tape has a fault there. At 14 all
-/// inputs before it were served.
-pub fn quick<S: Source, K: Sink>(
+/// Does what the words ask for, and says how it ended.
+fn run<S: Source, K: Sink>(
     alloc: Global,
     words: &WordList,
     input: &mut S,
     output: &mut K,
+    chooser: &Chooser,
+) -> Ending
+    ensures usage { result ≡ Ending.Usage → reading words.now ≡ None }
+    ensures unread { reading words.now ≡ None → (result ≡ Ending.Usage) ⊎ (result ≡ Ending.OutOfMemory) }
+    ensures unwritten { reading words.now ≡ None → K.written output.new ≡ K.written output.old }
+    ensures end { result ≡ Ending.Done → IsAtEnd (S.left input.new) }
+    ensures ended { IfSome (reading words.now) (λ c. Told (S.left input.old) (λ octets. Ended result (output_of c octets) (fault_of c octets) (K.written output.old) (K.written output.new))) }
+    ensures front { IfSome (reading words.now) (λ c. Told (S.left input.old) (λ octets. WroteFront (output_of c octets) (K.written output.old) (K.written output.new))) }
+    ensures read_fault { result ≡ Ending.ReadFault → Rose (S.faults input.old) (S.faults input.new) }
+    ensures write_fault { result ≡ Ending.WriteFault → Rose (K.faults output.old) (K.faults output.new) }
+{
+    match command_of(alloc, words) {
+        Ok(Command::Replay(options)) => replay(alloc, &options, chooser, input, output),
+        Err(CommandError::Usage) => Ending::Usage,
+        Err(CommandError::OutOfMemory) => Ending::OutOfMemory,
+    }
+}
+
+/// Does what the words ask for: `replay` reads a tape from the input, serves it, and writes what is sent, as records of a
+/// tape, to the output.
+///
+/// It answers a status: 0 the tape was read to its end and served; 2 the words have no reading; 3 a read failed; 4 a
+/// write failed; 6 the tape has a fault, before which all was served; 8 there was no memory. At each status but 0 it
+/// writes the line that says so to `errors`, as far as these take it: a write there that fails changes nothing.
+pub fn quick<S: Source, K: Sink, E: Sink>(
+    alloc: Global,
+    words: &WordList,
+    input: &mut S,
+    output: &mut K,
+    errors: &mut E,
+    chooser: Chooser,
 ) -> u8
-    // Where the words have no reading, nothing is read or written.
+    // Where the words have no reading, nothing is written to the output.
     ensures usage { result ≡ 2 → reading words.now ≡ None }
     ensures unread { reading words.now ≡ None → (result ≡ 2) ⊎ (result ≡ 8) }
     ensures unwritten { reading words.now ≡ None → K.written output.new ≡ K.written output.old }
 
-    // At 0 all output is written, at 14 all output before the input that isn't built, and always a front of it.
+    // At 0 the input has no fault, and at 6 it has one. All output is written then, and else a front of it.
     ensures end { result ≡ 0 → IsAtEnd (S.left input.new) }
-    ensures done { result ≡ 0 → IsSomeAnd (reading words.now) (λ key. Told (S.left input.old) (λ octets. Done key octets (K.written output.old) (K.written output.new) false)) }
-    ensures stops { result ≡ 14 → IsSomeAnd (reading words.now) (λ key. Told (S.left input.old) (λ octets. Done key octets (K.written output.old) (K.written output.new) true)) }
-    ensures front { IfSome (reading words.now) (λ key. Told (S.left input.old) (λ octets. WroteFront (drive_output key octets) (K.written output.old) (K.written output.new))) }
+    ensures done { result ≡ 0 → IsSomeAnd (reading words.now) (λ c. Told (S.left input.old) (λ octets. Added (output_of c octets) (K.written output.old) (K.written output.new) × (fault_of c octets ≡ None))) }
+    ensures bad_tape { result ≡ 6 → IsSomeAnd (reading words.now) (λ c. Told (S.left input.old) (λ octets. Added (output_of c octets) (K.written output.old) (K.written output.new) × (place : ℕ) × (fault_of c octets ≡ Some place) × Said (line (Ending.BadTape place)) (E.written errors.old) (E.written errors.new) (E.faults errors.old) (E.faults errors.new))) }
+    ensures front { IfSome (reading words.now) (λ c. Told (S.left input.old) (λ octets. WroteFront (output_of c octets) (K.written output.old) (K.written output.new))) }
 
     ensures read_fault { result ≡ 3 → Rose (S.faults input.old) (S.faults input.new) }
     ensures write_fault { result ≡ 4 → Rose (K.faults output.old) (K.faults output.new) }
-    ensures statuses { (result ≡ 0) ⊎ (result ≡ 2) ⊎ (result ≡ 3) ⊎ (result ≡ 4) ⊎ (result ≡ 8) ⊎ (result ≡ 14) }
+    ensures statuses { (result ≡ 0) ⊎ (result ≡ 2) ⊎ (result ≡ 3) ⊎ (result ≡ 4) ⊎ (result ≡ 6) ⊎ (result ≡ 8) }
+
+    // The line of the end is written to the errors, or a front of it where their faults rose.
+    ensures silent { result ≡ 0 → E.written errors.new ≡ E.written errors.old }
+    ensures usage_line { result ≡ 2 → Said (line Ending.Usage) (E.written errors.old) (E.written errors.new) (E.faults errors.old) (E.faults errors.new) }
+    ensures read_line { result ≡ 3 → Said (line Ending.ReadFault) (E.written errors.old) (E.written errors.new) (E.faults errors.old) (E.faults errors.new) }
+    ensures write_line { result ≡ 4 → Said (line Ending.WriteFault) (E.written errors.old) (E.written errors.new) (E.faults errors.old) (E.faults errors.new) }
+    ensures tape_line { result ≡ 6 → (place : ℕ) × Said (line (Ending.BadTape place)) (E.written errors.old) (E.written errors.new) (E.faults errors.old) (E.faults errors.new) }
+    ensures memory_line { result ≡ 8 → Said (line Ending.OutOfMemory) (E.written errors.old) (E.written errors.new) (E.faults errors.old) (E.faults errors.new) }
 {
-    match command_of(alloc, words) {
-        Ok(Command::Replay { key }) => run(alloc, key.as_slice(), input, output),
-        Err(CommandError::Usage) => 2,
-        Err(CommandError::OutOfMemory) => 8,
+    let ending = run(alloc, words, input, output, &chooser);
+    match ending {
+        Ending::Done => 0,
+        _ => tell(errors, ending),
     }
 }

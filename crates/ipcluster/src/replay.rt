@@ -1,24 +1,32 @@
 //! Serving a tape while it is read.
 
-ghost use Rattle.std.specs.Prelude.{◌≡◌, ◌⊎◌, ◌≤◌, true, false, OnOk, OnErr, Err};
+ghost use Rattle.std.specs.Prelude.{◌≡◌, ◌≢◌, ◌≤◌, None, OnOk, OnErr, Err};
 ghost use Rattle.edges.specs.Causes.{Rose};
 ghost use Rattle.edges.specs.Streams.{Added, IsAtEnd};
 ghost use Rattle.tape.specs.Spelling.{written};
 ghost use Rattle.tape.specs.Tape.{after, records};
-ghost use Rattle.ipcluster.specs.Drive.{start, served, outs, outputs, stand_at, drive_output, drive_stops};
-ghost use Rattle.ipcluster.specs.Written.{WroteFront, Told, Done};
+ghost use Rattle.tape_drive.specs.Drive.{served, outs, outputs, stand_at, drive_output, drive_fault};
+ghost use Rattle.ipcluster.specs.Program.{begin_of};
+ghost use Rattle.ipcluster.specs.Written.{WroteFront, Told, Ended};
 
-use crate::drive::Drive;
+use cluster_core::machine::Core;
+use command_words::command::ReplayOptions;
+use command_words::ending::Ending;
 use edges::sink::{Sink, write_all};
 use edges::source::{Got, Source};
 use hmac_sign::Key;
+use load_schemes::chooser::Chooser;
 use std::alloc::{AllocError, Global};
 use tape::reader::TapeReader;
 use tape::record::TapeRecord;
+use tape_drive::drive::Drive;
+
+/// The most octets that are read at once.
+const PIECE: usize = 65_536;
 
 /// Why serving ended.
 #[derive(Debug, Drop)]
-pub enum ServeError {
+enum ServeError {
     OutOfMemory,
     WriteFailed,
 }
@@ -51,6 +59,7 @@ fn put<K: Sink>(output: &mut K, octets: &[u8]) -> Result<(), ServeError>
 fn serve_one<K: Sink>(
     drive: &mut Drive,
     key: &Key,
+    chooser: &Chooser,
     item: &TapeRecord,
     output: &mut K,
 ) -> Result<(), ServeError>
@@ -60,7 +69,7 @@ fn serve_one<K: Sink>(
     ensures cause { result ≡ Err ServeError.WriteFailed → Rose (K.faults output.old) (K.faults output.new) }
     ensures later { K.faults output.old ≤ K.faults output.new }
 {
-    let text = drive.serve(key, item)?;
+    let text = drive.serve(key, chooser, item)?;
     put(output, text.as_slice())?;
     Ok(())
 }
@@ -69,6 +78,7 @@ fn serve_one<K: Sink>(
 fn serve_all<K: Sink>(
     drive: &mut Drive,
     key: &Key,
+    chooser: &Chooser,
     list: &[TapeRecord],
     output: &mut K,
 ) -> Result<(), ServeError>
@@ -79,7 +89,7 @@ fn serve_all<K: Sink>(
     ensures later { K.faults output.old ≤ K.faults output.new }
 {
     for item in list {
-        serve_one(drive, key, item, output)?;
+        serve_one(drive, key, chooser, item, output)?;
     }
     Ok(())
 }
@@ -88,6 +98,7 @@ fn serve_all<K: Sink>(
 fn serve_piece<K: Sink>(
     drive: &mut Drive,
     key: &Key,
+    chooser: &Chooser,
     tape: &mut TapeReader,
     piece: &[u8],
     output: &mut K,
@@ -100,70 +111,79 @@ fn serve_piece<K: Sink>(
     ensures later { K.faults output.old ≤ K.faults output.new }
 {
     let list = tape.feed(piece)?;
-    serve_all(drive, key, list.as_slice(), output)?;
+    serve_all(drive, key, chooser, list.as_slice(), output)?;
     Ok(())
 }
 
-/// Reads a tape to its end, or to an input that isn't built yet or a fault, and serves it. It answers a status.
-pub fn replay<S: Source, K: Sink>(alloc: Global, key: &Key, input: &mut S, output: &mut K) -> u8
-    ensures end { result ≡ 0 → IsAtEnd (S.left input.new) }
-    ensures done { result ≡ 0 → Told (S.left input.old) (λ octets. Added (drive_output key.now octets) (K.written output.old) (K.written output.new)) }
-    ensures whole { result ≡ 0 → Told (S.left input.old) (λ octets. drive_stops key.now octets ≡ false) }
-    ensures stops { result ≡ 14 → Told (S.left input.old) (λ octets. drive_stops key.now octets ≡ true) }
-    ensures served { result ≡ 14 → Told (S.left input.old) (λ octets. Added (drive_output key.now octets) (K.written output.old) (K.written output.new)) }
-    ensures front { Told (S.left input.old) (λ octets. WroteFront (drive_output key.now octets) (K.written output.old) (K.written output.new)) }
-    ensures read_fault { result ≡ 3 → Rose (S.faults input.old) (S.faults input.new) }
-    ensures write_fault { result ≡ 4 → Rose (K.faults output.old) (K.faults output.new) }
-    ensures other { (result ≡ 0) ⊎ (result ≡ 3) ⊎ (result ≡ 4) ⊎ (result ≡ 8) ⊎ (result ≡ 14) }
-{
-    match Drive::open(alloc) {
-        Ok(mut drive) => serve_tape(alloc, &mut drive, key, input, output),
-        Err(_) => 8,
-    }
-}
-
-/// Reads a tape to its end, or to where it stops, and serves it.
+/// Reads a tape to its end or to its fault, and serves it as far as that.
 fn serve_tape<S: Source, K: Sink>(
     alloc: Global,
     drive: &mut Drive,
     key: &Key,
+    chooser: &Chooser,
     input: &mut S,
     output: &mut K,
-) -> u8
-    requires { drive.old ≡ start }
-    ensures end { result ≡ 0 → IsAtEnd (S.left input.new) }
-    ensures done { result ≡ 0 → Told (S.left input.old) (λ octets. Done key.now octets (K.written output.old) (K.written output.new) false) }
-    ensures stops { result ≡ 14 → Told (S.left input.old) (λ octets. Done key.now octets (K.written output.old) (K.written output.new) true) }
-    ensures front { Told (S.left input.old) (λ octets. WroteFront (drive_output key.now octets) (K.written output.old) (K.written output.new)) }
-    ensures read_fault { result ≡ 3 → Rose (S.faults input.old) (S.faults input.new) }
-    ensures write_fault { result ≡ 4 → Rose (K.faults output.old) (K.faults output.new) }
-    ensures other { (result ≡ 0) ⊎ (result ≡ 3) ⊎ (result ≡ 4) ⊎ (result ≡ 8) ⊎ (result ≡ 14) }
+) -> Ending
+    requires { drive.old.stop ≡ None }
+    ensures end { result ≡ Ending.Done → IsAtEnd (S.left input.new) }
+    ensures ended { Told (S.left input.old) (λ octets. Ended result (drive_output key.now drive.old octets) (drive_fault key.now drive.old octets) (K.written output.old) (K.written output.new)) }
+    ensures front { Told (S.left input.old) (λ octets. WroteFront (drive_output key.now drive.old octets) (K.written output.old) (K.written output.new)) }
+    ensures read_fault { result ≡ Ending.ReadFault → Rose (S.faults input.old) (S.faults input.new) }
+    ensures write_fault { result ≡ Ending.WriteFault → Rose (K.faults output.old) (K.faults output.new) }
+    ensures no_usage { result ≢ Ending.Usage }
 {
     let mut tape = TapeReader::new(alloc);
-    let mut piece = [0u8; 4096];
+    let mut piece = [0u8; PIECE];
     for _ in 0..u64::MAX {
         match input.read(&mut piece) {
-            Got::Failed => return 3,
+            Got::Failed => return Ending::ReadFault,
             Got::End => {
                 match tape.fault() {
-                    Some(_) => return 14,
-                    None => return 0,
+                    Some(place) => return Ending::BadTape(place),
+                    None => return Ending::Done,
                 }
             }
-            Got::Bytes(n) => match serve_piece(drive, key, &mut tape, &piece[..n], output) {
-                Ok(()) => {}
-                Err(ServeError::OutOfMemory) => return 8,
-                Err(ServeError::WriteFailed) => return 4,
-            },
+            Got::Bytes(n) => {
+                match serve_piece(drive, key, chooser, &mut tape, &piece[..n], output) {
+                    Ok(()) => {}
+                    Err(ServeError::OutOfMemory) => return Ending::OutOfMemory,
+                    Err(ServeError::WriteFailed) => return Ending::WriteFault,
+                }
+            }
         }
-        if drive.stopped() {
-            return 14;
+        if let Some(place) = drive.stop() {
+            return Ending::BadTape(place);
         }
         if tape.ended() {
-            if let Some(_) = tape.fault() {
-                return 14;
+            if let Some(place) = tape.fault() {
+                return Ending::BadTape(place);
             }
         }
     }
-    8
+    Ending::OutOfMemory
+}
+
+/// Serves a tape with these options, from a new cluster on.
+pub fn replay<S: Source, K: Sink>(
+    alloc: Global,
+    options: &ReplayOptions,
+    chooser: &Chooser,
+    input: &mut S,
+    output: &mut K,
+) -> Ending
+    ensures end { result ≡ Ending.Done → IsAtEnd (S.left input.new) }
+    ensures ended { Told (S.left input.old) (λ octets. Ended result (drive_output options.now.key (begin_of options.now) octets) (drive_fault options.now.key (begin_of options.now) octets) (K.written output.old) (K.written output.new)) }
+    ensures front { Told (S.left input.old) (λ octets. WroteFront (drive_output options.now.key (begin_of options.now) octets) (K.written output.old) (K.written output.new)) }
+    ensures read_fault { result ≡ Ending.ReadFault → Rose (S.faults input.old) (S.faults input.new) }
+    ensures write_fault { result ≡ Ending.WriteFault → Rose (K.faults output.old) (K.faults output.new) }
+    ensures no_usage { result ≢ Ending.Usage }
+{
+    let Ok(key) = Key::new(alloc, options.key.as_slice()) else {
+        return Ending::OutOfMemory;
+    };
+    let core = Core::new(alloc);
+    match Drive::begin(core, chooser, options.scheme, options.hwm, options.misses) {
+        Ok(mut drive) => serve_tape(alloc, &mut drive, &key, chooser, input, output),
+        Err(AllocError) => Ending::OutOfMemory,
+    }
 }

@@ -1,6 +1,6 @@
-use Rattle.std.proofs.Common.{◌≡◌, ◌++◌, ◌+◌, drop, refl, ◌∙◌, arith}
+use Rattle.std.proofs.Common.{◌+◌, drop, refl, ◌∙◌, arith}
 use Rattle.tape.specs.Spelling.{written}
-use Rattle.ipcluster.specs.Drive.{served, outs, outputs}
+use Rattle.tape_drive.specs.Drive.{served, outs, outputs}
 use Rattle.ipcluster.proofs.Fronts.{sent_front, sent_more, step_written, step_stand, at_err}
 use Rattle.ipcluster.proofs.replay.serve_all.Goals as goal
 

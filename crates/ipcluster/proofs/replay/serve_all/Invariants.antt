@@ -1,6 +1,6 @@
 use Rattle.std.proofs.Common.{◌≡◌, ◌≤◌, drop}
 use Rattle.tape.specs.Spelling.{written}
-use Rattle.ipcluster.specs.Drive.{stand_at, outputs}
+use Rattle.tape_drive.specs.Drive.{stand_at, outputs}
 use Rattle.ipcluster.specs.Written.{Sent}
 use Rattle.ipcluster.proofs.replay.serve_all.Given as goal
 

@@ -1,6 +1,0 @@
-use Rattle.std.proofs.Common.{◌≡◌, ◌-◌, ◌^◌, min, take, length}
-use Rattle.std.specs.Prelude.{sum_by}
-use Rattle.ipcluster.proofs.inputs.size_of.Given as goal
-
-abbrev pub invariant-loop-place : goal.invariant-loop-place
-invariant-loop-place l = l.size ≡ min (sum_by length (take l.place l.frames)) (2 ^ 64 - 1)
