@@ -90,11 +90,12 @@ fn joined(alloc: Global, first: &[u8], second: &[u8]) -> Result<Vec<u8>, AllocEr
 }
 
 /// The record of octets that are sent on connection 1.
-fn sent(alloc: Global, moment: u8, octets: &[u8]) -> Result<Vec<u8>, AllocError> {
-    let mut text = Vec::from_slice(alloc, b"\x02\0\0\0\0\0\0\0")?;
-    text.push(moment)?;
-    text.extend_from_slice(b"\0\0\0\0\0\0\0\0\0\0\0\x01\0\0")?;
-    text.extend_from_slice(&(octets.len() as u16).to_be_bytes())?;
+fn sent(alloc: Global, moment: u64, octets: &[u8]) -> Result<Vec<u8>, AllocError> {
+    let count = u32::try_from(octets.len()).unwrap_or(0);
+    let mut text = Vec::from_slice(alloc, b"\x02")?;
+    text.extend_from_slice(&moment.to_be_bytes())?;
+    text.extend_from_slice(b"\0\0\0\0\0\0\0\0\0\0\0\x01")?;
+    text.extend_from_slice(&count.to_be_bytes())?;
     text.extend_from_slice(octets)?;
     Ok(text)
 }
@@ -108,7 +109,7 @@ fn sends(
     item: &TapeRecord,
     octets: &[u8],
 ) -> Result<bool, AllocError> {
-    let wanted = sent(alloc, item.moment as u8, octets)?;
+    let wanted = sent(alloc, item.moment, octets)?;
     let answer = drive.serve(key, chooser, item)?;
     Ok(answer.as_slice() == wanted.as_slice())
 }
