@@ -1,4 +1,5 @@
 pub mod Found
+pub mod Lawful
 pub mod Lengths
 pub mod Moments
 pub mod Ordered

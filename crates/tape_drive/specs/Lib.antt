@@ -1,5 +1,6 @@
 pub mod Drive
 pub mod Inputs
+pub mod Lawful
 pub mod Links
 pub mod Rules
 pub mod Sends
