@@ -1,12 +1,12 @@
 -- What a plan needs of its input and of its next decision.
-use Rattle.std.proofs.Common.{◌≡◌, ◌∙◌, ◌+◌, ◌≤◌, ℕ, Bool, [], suc, arith, sym, ap, subst, Option, Some, None}
+use Rattle.std.proofs.Common.{◌≡◌, ◌∙◌, ◌+◌, ◌≤◌, ℕ, [], suc, arith, sym, ap, subst, Option, Some}
 use Rattle.cluster_types.specs.declared.event.Event.{Event}
 use Rattle.cluster_types.specs.declared.entry.Input.{Input as InputType}
 use Rattle.cluster_types.specs.declared.entry.Entry.{Entry}
 use Rattle.cluster_types.specs.declared.entry.Entry.TheVariants.{Input}
 use Rattle.cluster_defs.specs.Facts.{event_in}
 use Rattle.cluster_defs.specs.Scheduling.{due, Allowed, is_kept_as}
-use Rattle.cluster_defs.specs.Histories.{History, facts, is_stopping, place, decide_all}
+use Rattle.cluster_defs.specs.Histories.{History, facts, is_stopping}
 use Rattle.cluster_defs.specs.Outs.{outs_as}
 use Rattle.cluster_outs.specs.Reached.{IsNext}
 use Rattle.cluster_state.specs.Plain.{Plain, InTime, facts_in, after}

@@ -1,23 +1,22 @@
 -- How a plan grows by an entry.
 use Rattle.std.proofs.Common.{◌≡◌, ℕ, suc, ◌+◌, ◌<◌, ◌≤◌, List, [], ◌∷◌, ◌++◌, length, true, false, Bool, cond, refl, sym, ap, subst, ◌∙◌, arith, Option, Some, None, reverse}
-use Rattle.std.specs.Prelude.{nat_lt, if◌then◌else◌}
+use Rattle.std.specs.Prelude.{nat_lt}
 use Rattle.std.proofs.lemmas.Bool.{le-ltb, lt-ltb}
-use Rattle.std.proofs.lemmas.List.{length-append, length-reverse, reverse-append}
+use Rattle.std.proofs.lemmas.List.{length-append, reverse-append}
 use Rattle.cluster_types.specs.declared.event.Event.{Event}
 use Rattle.cluster_types.specs.declared.entry.Input.TheVariants.{Open, Up, Down, In, Beat, Time}
 use Rattle.cluster_types.specs.declared.entry.Input.{Input as InputType}
 use Rattle.cluster_types.specs.declared.entry.Entry.{Entry}
 use Rattle.cluster_types.specs.declared.entry.Entry.TheVariants.{Input, Hand, Settle, Lose}
-use Rattle.cluster_types.specs.declared.out.Out.{Out}
 use Rattle.cluster_defs.specs.Facts.{Facts, event_in, event_on}
-use Rattle.cluster_defs.specs.Steps.{next, changes}
-use Rattle.cluster_defs.specs.Scheduling.{due, may_take, Allowed, is_kept, is_kept_as, open_work}
-use Rattle.cluster_defs.specs.Histories.{History, facts, Legal, place, is_stopping, decide_all}
+use Rattle.cluster_defs.specs.Steps.{changes}
+use Rattle.cluster_defs.specs.Scheduling.{due, Allowed, is_kept, is_kept_as, open_work}
+use Rattle.cluster_defs.specs.Histories.{History, facts, place, is_stopping, decide_all}
 use Rattle.cluster_defs.specs.Outs.{outs, outs_as, outs_from}
-use Rattle.cluster_defs.proofs.Decide.{decide_all_more, decide_all_none}
+use Rattle.cluster_defs.proofs.Decide.{decide_all_more}
 use Rattle.cluster_defs.proofs.Falls.{due_falls}
 use Rattle.cluster_defs.proofs.Says.{due_says}
-use Rattle.cluster_state.specs.Plain.{Plain, plain_of, facts_in, after, InTime}
+use Rattle.cluster_state.specs.Plain.{Plain, facts_in, after, InTime}
 use Rattle.cluster_state.proofs.Exact.{exact}
 use Rattle.cluster_state.proofs.Steps.{taken_is}
 use Rattle.cluster_core.specs.More.{IsMore}

@@ -11,8 +11,6 @@ use Rattle.cluster_types.specs.declared.entry.Entry.TheVariants.{Input, Hand, Se
 use Rattle.cluster_types.specs.declared.entry.Input.TheVariants.{Open, Up, Down, In, Beat, Time}
 use Rattle.cluster_defs.specs.declared.connection.Connection.{Connection}
 use Rattle.cluster_defs.specs.Connections.{connection_on, channel_on, with_connection, without_connection}
-use Rattle.cluster_defs.specs.Facts.{Facts}
-use Rattle.cluster_defs.specs.Scheduling.{Allowed}
 use Rattle.cluster_defs.specs.Histories.{History, facts, Legal}
 use Rattle.cluster_core.specs.Told.{told_by, or_before, told}
 

@@ -1,17 +1,16 @@
 -- Plans, and the histories that they make.
-use Rattle.std.proofs.Common.{◌≡◌, ℕ, zero, suc, ◌+◌, ◌<◌, ◌≤◌, List, [], ◌∷◌, ◌++◌, length, take, drop, get_or, true, refl, sym, ap, subst, ◌∙◌, arith, Option, Some, None, reverse}
+use Rattle.std.proofs.Common.{◌≡◌, ℕ, zero, suc, ◌+◌, ◌<◌, ◌≤◌, List, [], ◌∷◌, ◌++◌, length, take, drop, get_or, refl, sym, ap, subst, ◌∙◌, arith, Option, Some, None, reverse}
 use Rattle.std.proofs.lemmas.List.{reverse-append, take-append-drop, take_more}
-use Rattle.cluster_types.specs.declared.event.Event.{Event}
 use Rattle.cluster_types.specs.declared.entry.Entry.{Entry}
 use Rattle.cluster_types.specs.declared.entry.Entry.TheVariants.{Input, Hand, Settle, Lose}
 use Rattle.cluster_types.specs.declared.entry.Input.{Input as InputType}
 use Rattle.cluster_types.specs.declared.entry.Input.TheVariants.{Open, Up, Down, In, Beat, Time}
-use Rattle.cluster_defs.specs.Facts.{Facts, event_in}
+use Rattle.cluster_defs.specs.Facts.{event_in}
 use Rattle.cluster_defs.specs.Scheduling.{due, Allowed, open_work}
 use Rattle.cluster_defs.specs.Histories.{History, facts, Legal, place, is_stopping, go_on, decided, decide_all}
 use Rattle.cluster_defs.specs.Outs.{outs_from}
 use Rattle.cluster_defs.proofs.Falls.{due_falls}
-use Rattle.cluster_state.specs.Plain.{Plain, plain_of, facts_in, after, InTime}
+use Rattle.cluster_state.specs.Plain.{Plain, facts_in, after, InTime}
 use Rattle.cluster_core.specs.Steps.{CoreView, PlanView, planned, AllInTime, Stands, IsGrown, IsPlan, kept_from, place_after}
 use Rattle.cluster_core.proofs.Growing.{stands_more, facts_told}
 

@@ -1,5 +1,5 @@
 -- A plan with a decision more.
-use Rattle.std.specs.Prelude.{◌≡◌, ◌+◌, List, [], ◌∷◌, ◌++◌, suc, None}
+use Rattle.std.specs.Prelude.{◌≡◌, [], ◌∷◌, ◌++◌, suc, None}
 use Rattle.cluster_types.specs.declared.entry.Entry.{Entry}
 use Rattle.cluster_defs.specs.Outs.{outs_as}
 use Rattle.cluster_state.specs.Plain.{facts_in, after}

@@ -7,8 +7,7 @@ use Rattle.cluster_types.specs.declared.entry.Entry.TheVariants.{Input}
 use Rattle.cluster_types.specs.declared.entry.Input.TheVariants.{Open}
 use Rattle.cluster_types.specs.declared.entry.Input.{Input as InputType}
 use Rattle.cluster_types.specs.declared.out.Out.{Out}
-use Rattle.cluster_defs.specs.Facts.{Facts, event_in}
-use Rattle.cluster_defs.specs.Scheduling.{due, is_kept}
+use Rattle.cluster_defs.specs.Scheduling.{is_kept}
 use Rattle.cluster_defs.specs.Histories.{History, facts, Legal, place, asks_shutdown, is_stopping, decide_all}
 use Rattle.cluster_defs.specs.Outs.{outs_from}
 use Rattle.cluster_state.specs.Plain.{Plain, plain_of, InTime}

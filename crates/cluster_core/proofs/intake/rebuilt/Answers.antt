@@ -1,4 +1,4 @@
-use Rattle.std.proofs.Common.{◌≡◌, reverse, take}
+use Rattle.std.proofs.Common.{reverse, take}
 use Rattle.cluster_state.specs.Stands.{plain}
 use Rattle.cluster_core.proofs.Growing.{plain_time}
 use Rattle.cluster_core.proofs.Plans.{time_at, stands_at}

@@ -1,4 +1,4 @@
-use Rattle.std.proofs.Common.{◌≡◌, reverse, take}
+use Rattle.std.proofs.Common.{reverse, take}
 use Rattle.cluster_state.specs.Stands.{plain}
 use Rattle.cluster_core.specs.Steps.{Stands}
 use Rattle.cluster_core.proofs.intake.rebuilt.Given as goal

@@ -1,4 +1,4 @@
-use Rattle.std.proofs.Common.{◌≡◌, ap, ◌∙◌, reverse, arith, List, ◌++◌}
+use Rattle.std.proofs.Common.{ap, ◌∙◌, reverse, arith, List, ◌++◌}
 use Rattle.cluster_types.specs.declared.entry.Entry.{Entry}
 use Rattle.cluster_types.specs.declared.entry.Entry.TheVariants.{Input}
 use Rattle.cluster_core.proofs.Plans.{reverse_added}

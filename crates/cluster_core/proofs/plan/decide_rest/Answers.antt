@@ -1,6 +1,4 @@
-use Rattle.std.proofs.Common.{◌≡◌, ◌∙◌, sym, ap, subst, reverse}
-use Rattle.cluster_defs.specs.Scheduling.{due}
-use Rattle.cluster_defs.specs.Histories.{facts}
+use Rattle.std.proofs.Common.{◌∙◌, sym, reverse}
 use Rattle.cluster_defs.proofs.Decide.{decide_all_none}
 use Rattle.cluster_core.specs.Steps.{planned}
 use Rattle.cluster_core.proofs.Goes.{next_is, next_time, now_time, next_place}

@@ -1,4 +1,4 @@
-use Rattle.std.proofs.Common.{◌≡◌, ◌∙◌, ap, reverse, length, arith}
+use Rattle.std.proofs.Common.{◌∙◌, ap, reverse, length, arith}
 use Rattle.cluster_state.specs.Plain.{Plain}
 use Rattle.cluster_state.specs.Stands.{plain}
 use Rattle.cluster_core.specs.Steps.{Stands}

@@ -1,4 +1,4 @@
-use Rattle.std.proofs.Common.{◌≡◌, sym, subst}
+use Rattle.std.proofs.Common.{sym, subst}
 use Rattle.cluster_state.specs.Stands.{plain}
 use Rattle.cluster_core.specs.Steps.{CoreView, Stands}
 use Rattle.cluster_core.proofs.Plans.{only_some}

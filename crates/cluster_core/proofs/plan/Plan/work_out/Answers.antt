@@ -1,8 +1,8 @@
-use Rattle.std.proofs.Common.{◌≡◌, ◌∙◌, ap, reverse}
+use Rattle.std.proofs.Common.{◌∙◌, ap, reverse}
 use Rattle.cluster_state.specs.Stands.{plain}
 use Rattle.cluster_core.specs.Steps.{stops_after}
 use Rattle.cluster_core.proofs.Goes.{grown_begun}
-use Rattle.cluster_core.proofs.Growing.{begun_is, plain_time}
+use Rattle.cluster_core.proofs.Growing.{plain_time}
 use Rattle.cluster_core.proofs.plan.Plan.work_out.Goals as goal
 
 pub begin-requires-clause-next : goal.begin-requires-clause-next
