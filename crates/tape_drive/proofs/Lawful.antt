@@ -1,6 +1,5 @@
 -- The history of a tape stays legal, with no decision due; and a message that isn't signed is no input.
-use Rattle.std.proofs.Common.{◌≡◌, ℕ, zero, suc, List, [], ◌∷◌, ◌++◌, true, false, Bool, cond, refl, sym, ap, Option, Some, None, Ok, Err}
-use Rattle.cluster_types.specs.declared.entry.Entry.{Entry}
+use Rattle.std.proofs.Common.{◌≡◌, ℕ, zero, suc, List, [], ◌∷◌, true, false, cond, map, refl, ap, Option, Some, None, Err}
 use Rattle.cluster_types.specs.declared.entry.Entry.TheVariants.{Input}
 use Rattle.cluster_types.specs.declared.entry.Input.{Input as InputType}
 use Rattle.cluster_defs.specs.Scheduling.{due}
@@ -10,11 +9,14 @@ use Rattle.cluster_core.proofs.Plans.{decide_all_rests}
 use Rattle.jupyter_parts.specs.declared.fault.PartsError.{PartsError}
 use Rattle.jupyter_parts.specs.Signed.{read_parts}
 use Rattle.tape.specs.declared.record.TapeRecord.{TapeRecord}
+use Rattle.tape.specs.declared.record.TapeKind.TheVariants.{Message}
 use Rattle.tape_drive.specs.Inputs.{in_of, inputs_of}
 use Rattle.tape_drive.specs.Rules.{stop_of}
 use Rattle.tape_drive.specs.Steps.{may_come, stepped, stepped_all}
-use Rattle.tape_drive.specs.Drive.{Stand, goes_on, halts, served_as, served_from, served, stand_at}
-use Rattle.tape_drive.specs.Lawful.{Rests}
+use Rattle.tape_drive.specs.Links.{links_at}
+use Rattle.tape_drive.specs.Sends.{steps_send, sent_at}
+use Rattle.tape_drive.specs.Drive.{Stand, served_as, served_from, served, outs_as, outs_from_stand, stand_at}
+use Rattle.tape_drive.specs.Lawful.{Rests, Unheard}
 
 decided_legal : (n : ℕ) (h : History) → Legal h → Legal (decided n h)
 decided_legal zero h legal = legal
@@ -53,6 +55,22 @@ stand_rests key s (r ∷ rs) rests = stand_rests key (served key s r) rs (served
 
 pub begin_rests : (h : History) (input : InputType) → Rests h → may_come h input ≡ true → Rests (decide_all (Input input ∷ h))
 begin_rests h input rests may = (decide_all_legal (Input input ∷ h) ((rests.1, may), rests.0), decide_all_rests (Input input ∷ h))
+
+-- a record of frames that aren't signed
+pub unsigned_record : (key : List ℕ) (s : Stand) (moment word conn : ℕ) (frames : List (List ℕ)) (fault : PartsError) → read_parts key frames ≡ Err fault →
+    Unheard key s (record { moment = moment; word = word; kind = Message conn frames })
+unsigned_record key s moment word conn frames fault is = from s.stop
+  where
+    r : TapeRecord
+    r = record { moment = moment; word = word; kind = Message conn frames }
+    none : inputs_of key s.links r ≡ []
+    none = rw is refl
+    then_as : (o : Option ℕ) → ((served_as key s r o).history ≡ s.history) × (outs_as key s r o ≡ [])
+    then_as None = (ap (stepped_all s.history) none, ap (λ inputs. map (sent_at moment) (steps_send key (links_at s.links (Message conn frames)) s.history inputs)) none)
+    then_as (Some place) = (refl, refl)
+    from : (o : Option ℕ) → ((served_from key s r o).history ≡ s.history) × (outs_from_stand key s r o ≡ [])
+    from None = then_as (stop_of s.links s.least s.at r)
+    from (Some place) = (refl, refl)
 
 pub unsigned : (key : List ℕ) (conn moment word : ℕ) (frames : List (List ℕ)) (fault : PartsError) → read_parts key frames ≡ Err fault → in_of key conn moment word frames ≡ []
 unsigned key conn moment word frames fault is = rw is refl
