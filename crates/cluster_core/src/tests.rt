@@ -144,9 +144,8 @@ fn stops(alloc: Global, chooser: &Chooser) -> Result<bool, AllocError> {
     Ok(made == Some((1, 0)) && core.stopping())
 }
 
-#[test]
-fn small_steps(rt: HostRuntime) -> Result<(), Fail> {
-    let alloc = rt.alloc();
+/// A chooser by the four schemes.
+fn new_chooser(alloc: Global) -> Result<Chooser, AllocError> {
     let choose: Choose = Box::new(
         alloc,
         |scheme: Scheme, loads: &[u32], word: u64| -> usize
@@ -154,9 +153,29 @@ fn small_steps(rt: HostRuntime) -> Result<(), Fail> {
             ensures { result ≡ pick scheme loads.now word }
         { place_of(scheme, loads, word) },
     )?;
-    let chooser = Chooser::new(choose);
+    Ok(Chooser::new(choose))
+}
+
+#[test]
+fn a_request_is_handed_out(rt: HostRuntime) -> Result<(), Fail> {
+    let alloc = rt.alloc();
+    let chooser = new_chooser(alloc)?;
     assert!(rt; hands_out(alloc, &chooser)?);
+    Ok(())
+}
+
+#[test]
+fn connections_come_and_go(rt: HostRuntime) -> Result<(), Fail> {
+    let alloc = rt.alloc();
+    let chooser = new_chooser(alloc)?;
     assert!(rt; connections(alloc, &chooser)?);
+    Ok(())
+}
+
+#[test]
+fn a_shutdown_is_remembered(rt: HostRuntime) -> Result<(), Fail> {
+    let alloc = rt.alloc();
+    let chooser = new_chooser(alloc)?;
     assert!(rt; stops(alloc, &chooser)?);
     Ok(())
 }
