@@ -63,11 +63,14 @@ unsigned_record key s moment word conn frames fault is = from s.stop
   where
     r : TapeRecord
     r = record { moment = moment; word = word; kind = Message conn frames }
+
     none : inputs_of key s.links r ≡ []
     none = rw is refl
+
     then_as : (o : Option ℕ) → ((served_as key s r o).history ≡ s.history) × (outs_as key s r o ≡ [])
     then_as None = (ap (stepped_all s.history) none, ap (λ inputs. map (sent_at moment) (steps_send key (links_at s.links (Message conn frames)) s.history inputs)) none)
     then_as (Some place) = (refl, refl)
+
     from : (o : Option ℕ) → ((served_from key s r o).history ≡ s.history) × (outs_from_stand key s r o ≡ [])
     from None = then_as (stop_of s.links s.least s.at r)
     from (Some place) = (refl, refl)
