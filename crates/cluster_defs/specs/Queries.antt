@@ -1,5 +1,5 @@
 -- Answers to messages: what each question about the cluster is answered, and what each request that is refused.
-use Rattle.std.specs.Prelude.{ℕ, ◌+◌, nat_lt, List, [], length, map, sum, Option, Some, None, Bool, true, false, not, ◌&&◌, ◌||◌, if◌then◌else◌, filter, find, filter_map, flat_map, codes, decimal, option_map, Ok, Err}
+use Rattle.std.specs.Prelude.{ℕ, ◌+◌, nat_lt, List, [], length, map, sum, Option, Some, None, Bool, true, false, not, ◌&&◌, ◌||◌, if◌then◌else◌, filter, find, filter_map, flat_map, codes, decimal, option_map}
 use Rattle.std.specs.List.{list_any}
 use Rattle.std.specs.Option.{option_and_then}
 use Rattle.hex.specs.Hex.{encode_lower}
@@ -11,9 +11,7 @@ use Rattle.cluster_types.specs.declared.event.Query.{Query}
 use Rattle.cluster_types.specs.declared.event.Query.TheVariants.{Connection, Queue, Result as ResultQuery, History, Shutdown, Unknown as UnknownQuery, Bad}
 use Rattle.cluster_types.specs.declared.event.Event.{Event}
 use Rattle.cluster_types.specs.declared.event.Event.TheVariants.{Submit, Direct, Reply, Join, Leave, Pong, Purge, Resubmit, Ask}
-use Rattle.message_defs.specs.declared.header.Header.{Header as HeaderType}
-use Rattle.message_defs.specs.Json.{Reading}
-use Rattle.message_defs.specs.Header.{read_header}
+use Rattle.message_defs.specs.Header.{message_type}
 use Rattle.message_defs.specs.Texts.{reply_type, submit_refused, ok_content, join_content, error_content, connection_content, history_content, queue_content, result_content, resubmit_content, EngineQueue, Settled as SettledText}
 use Rattle.cluster_defs.specs.declared.acceptance.Acceptance.{Acceptance}
 use Rattle.cluster_defs.specs.declared.acceptance.Acceptance.TheVariants.{Reserved, Purged, Again, NoSuchEngine, Full, Accepted as AcceptedTask}
@@ -170,14 +168,6 @@ limited channel a = if is_hub channel && is_too_long a then refusal (codes "Repl
 -- the definition Answer: a question's answer within the limits
 abbrev pub answer : Facts → Channel → Query → List ℕ → Answer
 answer f channel query msg_type = limited channel (answer_query f channel query msg_type)
-
-abbrev pub type_in : Reading HeaderType → List ℕ
-type_in (Ok header) = header.msg_type
-type_in (Err fault) = []
-
--- the type of a message
-abbrev pub message_type : Message → List ℕ
-message_type m = type_in (read_header m.header)
 
 -- what a message is answered, where it is
 abbrev pub answer_event : Facts → ℕ → Channel → Message → Event → Option Answer

@@ -17,6 +17,7 @@ use Rattle.cluster_types.specs.declared.out.Out.{Out}
 use Rattle.cluster_types.specs.declared.entry.Input.TheVariants.{Open, Up, Down, In, Beat, Time}
 use Rattle.cluster_types.specs.declared.entry.Entry.{Entry}
 use Rattle.cluster_types.specs.declared.entry.Entry.TheVariants.{Input, Hand, Settle, Lose}
+use Rattle.message_defs.specs.Header.{message_type}
 use Rattle.cluster_defs.specs.declared.acceptance.Acceptance.{Acceptance}
 use Rattle.cluster_defs.specs.declared.acceptance.Acceptance.TheVariants.{Reserved, Purged, Again, NoSuchEngine, Full, Accepted}
 use Rattle.cluster_defs.specs.declared.answer.Answer.{Answer}
@@ -31,7 +32,7 @@ use Rattle.cluster_defs.specs.Purges.{gone_or_unknown}
 use Rattle.cluster_defs.specs.Steps.{step}
 use Rattle.cluster_defs.specs.Histories.{History, facts, Legal, place}
 use Rattle.cluster_defs.specs.Outcomes.{handed_with, outcome, outcome_by}
-use Rattle.cluster_defs.specs.Queries.{demand_answer, answer_query, answer_event, answer_type, limited, refusal, left_by, left_as, results_of, result_with, result_answer, message_type}
+use Rattle.cluster_defs.specs.Queries.{demand_answer, answer_query, answer_event, answer_type, limited, refusal, left_by, left_as, results_of, result_with, result_answer}
 use Rattle.cluster_defs.specs.Outs.{pass_to, owner_conn, repeat_out, repeated, answer_out, message_outs, outs_as, outs}
 use Rattle.cluster_defs.specs.Thin.{with_bodies}
 use Rattle.cluster_defs.proofs.Says.{due_says}

@@ -1,7 +1,8 @@
 -- What the header of a message says (Jupyter messaging 5.3, "General Message Format"), or the first fault.
-use Rattle.std.specs.Prelude.{ℕ, List, Ok, codes}
+use Rattle.std.specs.Prelude.{ℕ, List, [], Ok, Err, codes}
 use Rattle.serde_json.specs.Data.{Data}
 use Rattle.serde_json.specs.Find.{get}
+use Rattle.cluster_types.specs.declared.message.Message.{Message}
 use Rattle.message_defs.specs.declared.header.Header.{Header as HeaderType}
 use Rattle.message_defs.specs.Json.{Reading, after, read_object}
 use Rattle.message_defs.specs.Fields.{id_from, text_from}
@@ -14,3 +15,12 @@ header_from value =
 
 unfoldable pub read_header : List ℕ → Reading HeaderType
 read_header octets = after (read_object octets) header_from
+
+-- the type that a header tells, empty where it doesn't read
+abbrev pub type_in : Reading HeaderType → List ℕ
+type_in (Ok header) = header.msg_type
+type_in (Err fault) = []
+
+-- the type of a message
+abbrev pub message_type : Message → List ℕ
+message_type m = type_in (read_header m.header)
