@@ -14,3 +14,5 @@ pub mod request;
 pub mod state;
 pub mod task;
 pub mod tasks;
+#[cfg(test)]
+mod tests;
