@@ -3,6 +3,7 @@
 ghost use Rattle.std.specs.Prelude.{◌≡◌, ◌≤◌, ◌∷◌, [], reverse, length, IfOk, OnOk, Ok, Err};
 ghost use Rattle.std.specs.Option.{is_some};
 ghost use Rattle.message_defs.specs.Event.{event_of};
+ghost use Rattle.message_defs.specs.Header.{message_type};
 ghost use Rattle.cluster_types.specs.declared.entry.Entry.{Entry};
 ghost use Rattle.cluster_defs.specs.Connections.{channel_on, connection_on};
 ghost use Rattle.cluster_defs.specs.Facts.{event_in};
@@ -10,10 +11,12 @@ ghost use Rattle.cluster_defs.specs.Scheduling.{may_take};
 ghost use Rattle.cluster_defs.specs.Histories.{facts, Legal, place};
 ghost use Rattle.cluster_state.specs.Plain.{facts_in, plain_of, after, InTime};
 ghost use Rattle.cluster_state.specs.Stands.{plain};
+ghost use Rattle.cluster_outs.specs.Asked.{type_on, told_type};
 ghost use Rattle.cluster_core.specs.Steps.{AllInTime, Stands, understood, place_after};
 
-use cluster_intake::event_of;
+use crate::meaning::Meaning;
 use cluster_intake::fault::IntakeError;
+use cluster_intake::understand;
 use cluster_state::acceptance::connection_on;
 use cluster_state::attempts::one_more;
 use cluster_state::state::State;
@@ -23,17 +26,17 @@ use cluster_types::event::Event;
 use cluster_types::message::Message;
 use std::alloc::{AllocError, Global};
 
-/// What a message means on a channel, where it isn't junk.
-fn understood(
-    alloc: Global,
-    channel: Channel,
-    message: &Message,
-) -> Result<Option<Event>, AllocError>
-    ensures { IfOk result (λ e. e ≡ understood (event_of channel message.now)) }
+/// What a message means on a channel.
+fn understood(alloc: Global, channel: Channel, message: &Message) -> Result<Meaning, AllocError>
+    ensures event { IfOk result (λ m. m.event ≡ understood (event_of channel message.now)) }
+    ensures kind { IfOk result (λ m. m.msg_type ≡ told_type m.event (message_type message.now)) }
 {
-    match event_of(alloc, channel, message) {
-        Ok(event) => Ok(Some(event)),
-        Err(IntakeError::Junk(_)) => Ok(None),
+    match understand(alloc, channel, message) {
+        Ok(understood) => Ok(Meaning {
+            event: Some(understood.event),
+            msg_type: understood.msg_type,
+        }),
+        Err(IntakeError::Junk(_)) => Meaning::none(alloc),
         Err(IntakeError::OutOfMemory) => Err(AllocError),
     }
 }
@@ -48,12 +51,9 @@ fn channel_of(state: &State, conn: u32) -> Option<Channel>
 }
 
 /// What the message of an input means.
-pub fn event_of_input(
-    alloc: Global,
-    state: &State,
-    input: &Input,
-) -> Result<Option<Event>, AllocError>
-    ensures { IfOk result (λ e. e ≡ event_in (facts_in (plain state.now)) (Entry.Input input.now)) }
+pub fn meaning_of_input(alloc: Global, state: &State, input: &Input) -> Result<Meaning, AllocError>
+    ensures event { IfOk result (λ m. m.event ≡ event_in (facts_in (plain state.now)) (Entry.Input input.now)) }
+    ensures kind { IfOk result (λ m. m.msg_type ≡ told_type m.event (type_on (Entry.Input input.now))) }
 {
     match input {
         Input::In {
@@ -63,12 +63,12 @@ pub fn event_of_input(
             message,
         } => match channel_of(state, *conn) {
             Some(channel) => {
-                let event = understood(alloc, channel, message)?;
-                Ok(event)
+                let meaning = understood(alloc, channel, message)?;
+                Ok(meaning)
             }
-            None => Ok(None),
+            None => Meaning::none(alloc),
         },
-        _ => Ok(None),
+        _ => Meaning::none(alloc),
     }
 }
 
@@ -97,8 +97,8 @@ fn event_of_entry(alloc: Global, state: &State, entry: &Entry) -> Result<Option<
 {
     match entry {
         Entry::Input(input) => {
-            let event = event_of_input(alloc, state, input)?;
-            Ok(event)
+            let meaning = meaning_of_input(alloc, state, input)?;
+            Ok(meaning.event)
         }
         _ => Ok(None),
     }

@@ -4,6 +4,7 @@
 mod intake;
 mod live;
 pub mod machine;
+pub mod meaning;
 pub mod plan;
 #[cfg(test)]
 mod tests;

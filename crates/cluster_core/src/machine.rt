@@ -10,10 +10,12 @@ ghost use Rattle.cluster_defs.specs.Histories.{facts, Legal, is_stopping, decide
 ghost use Rattle.cluster_defs.specs.Outs.{outs_from};
 ghost use Rattle.cluster_state.specs.Plain.{InTime, facts_in};
 ghost use Rattle.cluster_state.specs.Stands.{plain};
+ghost use Rattle.cluster_outs.specs.Asked.{type_on, told_type};
 ghost use Rattle.cluster_core.specs.Steps.{IsPlan, planned, kept_from, AllInTime, Stands};
 
-use crate::intake::{Known, event_of_input, may_take, rebuilt};
+use crate::intake::{Known, may_take, meaning_of_input, rebuilt};
 use crate::live::channel_told;
+use crate::meaning::Meaning;
 use crate::plan::Plan;
 use cluster_types::config::Channel;
 use cluster_types::entry::{Entries, Entry, Input};
@@ -133,15 +135,16 @@ impl Core {
         self.known = Some(known);
     }
 
-    /// What the message of an input means: none for other inputs, and for a message that is junk or on no connection.
-    pub fn understand(&mut self, input: &Input) -> Result<Option<Event>, AllocError>
+    /// What the message of an input means. Each part of the message is read once, here.
+    pub fn understand(&mut self, input: &Input) -> Result<Meaning, AllocError>
         ensures same { self.new.history ≡ self.old.history }
-        ensures event { IfOk result (λ e. e ≡ event_in (facts self.old.history) (Entry.Input input.now)) }
+        ensures event { IfOk result (λ m. m.event ≡ event_in (facts self.old.history) (Entry.Input input.now)) }
+        ensures kind { IfOk result (λ m. m.msg_type ≡ told_type m.event (type_on (Entry.Input input.now))) }
     {
         let known = self.take_known()?;
-        let event = event_of_input(self.allocator(), &known.state, input)?;
+        let meaning = meaning_of_input(self.allocator(), &known.state, input)?;
         self.keep_known(known);
-        Ok(event)
+        Ok(meaning)
     }
 
     /// Whether an input may come: an Up of a connection that isn't live, a Down of one that is, a message that means
@@ -164,16 +167,16 @@ impl Core {
         self.entries.reserve(more)
     }
 
-    /// Works out the step of an input that may come. `event` is what its message means. It takes all the memory of the
-    /// step.
+    /// Works out the step of an input that may come, with its meaning. It takes all the memory of the step.
     fn plan_with(
         &mut self,
         chooser: &Chooser,
         input: Input,
-        event: &Option<Event>,
+        meaning: &Meaning,
     ) -> Result<Plan, AllocError>
-        requires event { event.now ≡ event_in (facts self.old.history) (Entry.Input input) }
-        requires taken { may_take (facts self.old.history) input event.now ≡ true }
+        requires event { meaning.now.event ≡ event_in (facts self.old.history) (Entry.Input input) }
+        requires kind { meaning.now.msg_type ≡ told_type meaning.now.event (type_on (Entry.Input input)) }
+        requires taken { may_take (facts self.old.history) input meaning.now.event ≡ true }
         requires time { InTime (Entry.Input input) }
         ensures same { self.new.history ≡ self.old.history }
         ensures ok { IfOk result (λ p. IsPlan self.new p) }
@@ -186,7 +189,7 @@ impl Core {
             self.history(),
             known,
             input,
-            event,
+            meaning,
             stopping,
             chooser,
         )?;
@@ -194,22 +197,23 @@ impl Core {
         Ok(plan)
     }
 
-    /// Works out the step of an input that may come. `event` is what its message means. It takes all the memory of the
-    /// step. Where it can't have it, the history stays as it is.
+    /// Works out the step of an input that may come, with its meaning. It takes all the memory of the step. Where it
+    /// can't have it, the history stays as it is.
     pub fn plan(
         &mut self,
         chooser: &Chooser,
         input: Input,
-        event: Option<Event>,
+        meaning: Meaning,
     ) -> Result<Plan, AllocError>
-        requires event { event ≡ event_in (facts self.old.history) (Entry.Input input) }
-        requires taken { may_take (facts self.old.history) input event ≡ true }
+        requires event { meaning.event ≡ event_in (facts self.old.history) (Entry.Input input) }
+        requires kind { meaning.msg_type ≡ told_type meaning.event (type_on (Entry.Input input)) }
+        requires taken { may_take (facts self.old.history) input meaning.event ≡ true }
         requires time { InTime (Entry.Input input) }
         ensures same { self.new.history ≡ self.old.history }
         ensures ok { IfOk result (λ p. IsPlan self.new p) }
         ensures input { IfOk result (λ p. p.input ≡ input) }
     {
-        self.plan_with(chooser, input, &event)
+        self.plan_with(chooser, input, &meaning)
     }
 
     /// Takes the step that was planned last: the input and all decisions that are then due. It takes no memory.

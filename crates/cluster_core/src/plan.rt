@@ -8,17 +8,20 @@ ghost use Rattle.cluster_defs.specs.Histories.{facts, asks_shutdown, is_stopping
 ghost use Rattle.cluster_defs.specs.Outs.{outs_as};
 ghost use Rattle.cluster_state.specs.Plain.{facts_in, after, InTime};
 ghost use Rattle.cluster_state.specs.Stands.{plain};
+ghost use Rattle.cluster_outs.specs.Asked.{type_on, told_type};
 ghost use Rattle.cluster_outs.specs.Reached.{IsNext};
 ghost use Rattle.cluster_core.specs.Steps.{PlanView, Stands, IsGrown, planned, kept_one, place_after, stops_after};
 ghost use Rattle.cluster_core.specs.More.{IsMore};
 
 use crate::intake::{Known, next_place};
+use crate::meaning::Meaning;
 use cluster_outs::entries::outs;
 use cluster_state::state::State;
 use cluster_types::copying::TryCopy;
 use cluster_types::entry::{Entries, Entry, Input};
 use cluster_types::event::{Event, Query};
 use cluster_types::out::{Out, Outs};
+use cluster_types::text::Text;
 use due_decisions::due::due;
 use load_schemes::chooser::Chooser;
 use std::alloc::{AllocError, Global};
@@ -77,30 +80,31 @@ fn stops_after(was: bool, input: &Input, event: &Option<Event>) -> bool
 }
 
 impl Plan {
-    /// A plan that has an input alone so far. `event` is what its message means, `was_stopping` whether a shutdown was
-    /// asked before.
+    /// A plan that has an input alone so far, with its meaning. `was_stopping` is whether a shutdown was asked before.
     fn begin(
         alloc: Global,
         known: Known,
         input: Input,
-        event: &Option<Event>,
+        meaning: &Meaning,
         was_stopping: bool,
     ) -> Result<Plan, AllocError>
         requires next { IsNext (plain known.state) (Entry.Input input) }
+        requires kind { meaning.now.msg_type ≡ told_type meaning.now.event (type_on (Entry.Input input)) }
         requires time { InTime (Entry.Input input) }
         requires now { known.state.moment ≤ 253402300799999 }
         ensures input { IfOk result (λ p. p.input ≡ input) }
         ensures decisions { IfOk result (λ p. p.decisions ≡ []) }
         ensures place { IfOk result (λ p. p.place ≡ place_after (Entry.Input input) known.place) }
-        ensures data { IfOk result (λ p. p.plain ≡ after (facts_in (plain known.state)) (Entry.Input input) event.now (plain known.state)) }
-        ensures outs { IfOk result (λ p. p.outs ≡ outs_as p.place (facts_in (plain known.state)) (Entry.Input input) event.now) }
-        ensures kept { IfOk result (λ p. p.kept ≡ kept_one (is_kept_as (facts_in (plain known.state)) (Entry.Input input) event.now) (Entry.Input input)) }
-        ensures stops { IfOk result (λ p. p.stops ≡ stops_after was_stopping input event.now) }
+        ensures data { IfOk result (λ p. p.plain ≡ after (facts_in (plain known.state)) (Entry.Input input) meaning.now.event (plain known.state)) }
+        ensures outs { IfOk result (λ p. p.outs ≡ outs_as p.place (facts_in (plain known.state)) (Entry.Input input) meaning.now.event) }
+        ensures kept { IfOk result (λ p. p.kept ≡ kept_one (is_kept_as (facts_in (plain known.state)) (Entry.Input input) meaning.now.event) (Entry.Input input)) }
+        ensures stops { IfOk result (λ p. p.stops ≡ stops_after was_stopping input meaning.now.event) }
     {
         let Known { mut state, place } = known;
         let entry = Entry::Input(input.copy()?);
         let place = next_place(place, &entry)?;
-        let outs = outs(alloc, place, &state, &entry, event)?.into_vec();
+        let Meaning { event, msg_type } = meaning;
+        let outs = outs(alloc, place, &state, &entry, event, msg_type)?.into_vec();
         let is_kept = state.take(&entry, event)?;
         let stops = stops_after(was_stopping, &input, event);
         let kept = kept_one(alloc, is_kept, entry)?;
@@ -137,7 +141,9 @@ impl Plan {
         ensures { OnOk result (IsMore self.old self.new decision) }
     {
         let place = next_place(self.known.place, &decision)?;
-        let mut outs = outs(alloc, place, &self.known.state, &decision, &None)?.into_vec();
+        let none = Text::new(alloc, "")?;
+        let state = &self.known.state;
+        let mut outs = outs(alloc, place, state, &decision, &None, &none)?.into_vec();
         self.outs.append(&mut outs)?;
         self.kept.push(decision.copy()?)?;
         self.known.state.take(&decision, &None)?;
@@ -173,19 +179,20 @@ fn decide_rest(
 }
 
 impl Plan {
-    /// Works a step out. `history` is the history before it, `event` is what a message means, `was_stopping` whether a
+    /// Works a step out. `history` is the history before it, `meaning` that of its input, `was_stopping` whether a
     /// shutdown was asked.
     pub(crate) fn work_out(
         alloc: Global,
         history: &[Entry],
         known: Known,
         input: Input,
-        event: &Option<Event>,
+        meaning: &Meaning,
         was_stopping: bool,
         chooser: &Chooser,
     ) -> Result<Plan, AllocError>
         requires stands { Stands (reverse history.now) (plain known.state) known.place }
-        requires event { event.now ≡ event_in (facts (reverse history.now)) (Entry.Input input) }
+        requires event { meaning.now.event ≡ event_in (facts (reverse history.now)) (Entry.Input input) }
+        requires kind { meaning.now.msg_type ≡ told_type meaning.now.event (type_on (Entry.Input input)) }
         requires allowed { Allowed (facts (reverse history.now)) (Entry.Input input) }
         requires time { InTime (Entry.Input input) }
         requires stopping { was_stopping ≡ is_stopping (reverse history.now) }
@@ -193,7 +200,7 @@ impl Plan {
         ensures grown { IfOk result (λ p. IsGrown (reverse history.now) p) }
         ensures all { IfOk result (λ p. planned (reverse history.now) p ≡ decide_all (Entry.Input input ∷ reverse history.now)) }
     {
-        let mut plan = Plan::begin(alloc, known, input, event, was_stopping)?;
+        let mut plan = Plan::begin(alloc, known, input, meaning, was_stopping)?;
         decide_rest(alloc, history, &mut plan, chooser)?;
         Ok(plan)
     }

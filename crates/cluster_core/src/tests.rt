@@ -81,11 +81,11 @@ fn step(
 ) -> Result<Option<(usize, usize)>, AllocError>
     requires { InTime (Entry.Input input) }
 {
-    let event = core.understand(&input)?;
-    if !core.may_take(&input, &event)? {
+    let meaning = core.understand(&input)?;
+    if !core.may_take(&input, &meaning.event)? {
         return Ok(None);
     }
-    let plan = core.plan(chooser, input, event)?;
+    let plan = core.plan(chooser, input, meaning)?;
     let made = core.apply(plan);
     Ok(Some((made.outs.len(), made.kept.len())))
 }

@@ -6,7 +6,7 @@
 ghost use Rattle.std.specs.Prelude.{◌≡◌, ◌⊎◌, ◌==◌, Ok, Err, Some, None, Result, IfOk, IfErr, length, codes};
 ghost use Rattle.message_defs.specs.Event.{fault_field, event_in, asked, hub_request, hub_event, submission, submitted, task_event, direct_meta, mux_event, echoed, replied, reply_event, is_registration, is_echo, engine_event, event_under, event_of};
 ghost use Rattle.cluster_intake.specs.Intake.{taken_in};
-ghost use Rattle.message_defs.specs.Header.{read_header};
+ghost use Rattle.message_defs.specs.Header.{read_header, message_type};
 ghost use Rattle.message_defs.specs.Hub.{request_of, read_content};
 ghost use Rattle.message_defs.specs.Reply.{read_reply};
 ghost use Rattle.message_defs.specs.Submit.{read_submit};
@@ -14,8 +14,10 @@ ghost use Rattle.message_defs.specs.Submit.{read_submit};
 pub mod fault;
 #[cfg(test)]
 mod tests;
+pub mod understood;
 
 use cluster_types::config::Channel;
+use cluster_types::copying::TryCopy;
 use cluster_types::event::{Event, Query, Reason, Submission};
 use cluster_types::message::Message;
 use cluster_types::sequence::Sequence;
@@ -31,6 +33,7 @@ use message_defs::fault::{Field, ReadError};
 use message_defs::header::Header;
 use message_defs::request::Request;
 use std::alloc::{AllocError, Global};
+use understood::Understood;
 
 /// The field that a fault names, or the whole part that doesn't read.
 fn fault_field(alloc: Global, part: &str, fault: ReadError) -> Result<Field, AllocError>
@@ -265,18 +268,48 @@ fn event_under(
     Ok(event)
 }
 
-/// What a message on a channel means, or why it means nothing.
+/// What a message with this header means, and its type.
+fn understood_under(
+    alloc: Global,
+    channel: Channel,
+    message: &Message,
+    header: Header,
+) -> Result<Understood, IntakeError>
+    ensures ok { IfOk result (λ u. event_under channel message.now (Ok header) ≡ Ok u.event) }
+    ensures kind { IfOk result (λ u. u.msg_type ≡ header.msg_type) }
+    ensures err { IfErr result (λ e. (e ≡ IntakeError.OutOfMemory) ⊎ (taken_in (event_under channel message.now (Ok header)) ≡ Err e)) }
+{
+    let msg_type = header.msg_type.copy()?;
+    let event = event_under(alloc, channel, message, header)?;
+    Ok(Understood { event, msg_type })
+}
+
+/// What a message on a channel means, and its type, or why it means nothing. The header is read once for both.
 #[tactic(auto, unfolding(message_defs::specs::Event::event_of))]
-pub fn event_of(alloc: Global, channel: Channel, message: &Message) -> Result<Event, IntakeError>
-    ensures ok { IfOk result (λ e. event_of channel message.now ≡ Ok e) }
+pub fn understand(
+    alloc: Global,
+    channel: Channel,
+    message: &Message,
+) -> Result<Understood, IntakeError>
+    ensures ok { IfOk result (λ u. event_of channel message.now ≡ Ok u.event) }
+    ensures kind { IfOk result (λ u. u.msg_type ≡ message_type message.now) }
     ensures err { IfErr result (λ e. (e ≡ IntakeError.OutOfMemory) ⊎ (taken_in (event_of channel message.now) ≡ Err e)) }
 {
     match read_header(alloc, message.header.as_slice()) {
         Ok(header) => {
-            let event = event_under(alloc, channel, message, header)?;
-            Ok(event)
+            let understood = understood_under(alloc, channel, message, header)?;
+            Ok(understood)
         }
         Err(ReadError::OutOfMemory) => Err(IntakeError::OutOfMemory),
         Err(_) => Err(IntakeError::Junk(Reason::BadHeader)),
     }
+}
+
+/// What a message on a channel means, or why it means nothing.
+pub fn event_of(alloc: Global, channel: Channel, message: &Message) -> Result<Event, IntakeError>
+    ensures ok { IfOk result (λ e. event_of channel message.now ≡ Ok e) }
+    ensures err { IfErr result (λ e. (e ≡ IntakeError.OutOfMemory) ⊎ (taken_in (event_of channel message.now) ≡ Err e)) }
+{
+    let understood = understand(alloc, channel, message)?;
+    Ok(understood.event)
 }

@@ -1,7 +1,7 @@
 //! Events of worked messages.
 
-use crate::event_of;
 use crate::fault::IntakeError;
+use crate::{event_of, understand};
 use cluster_types::config::Channel;
 use cluster_types::event::{Event, Query, Reason};
 use cluster_types::message::Message;
@@ -109,5 +109,32 @@ fn tells_events(rt: HostRuntime) -> Result<(), Fail> {
         let event = event_of(alloc, channel, &message);
         assert!(rt; is_kind(event, kind), "at {header} {metadata} {content}");
     }
+    Ok(())
+}
+
+/// Whether a message to the hub with this header is a request of an unknown type, of this one.
+fn is_unknown(alloc: Global, header: &str, kind: &str) -> Result<bool, AllocError> {
+    let message = message_of(alloc, header, "{}", "{}", "{}")?;
+    match understand(alloc, Channel::Hub, &message) {
+        Ok(understood) => Ok(
+            matches!(understood.event, Event::Ask(Query::Unknown))
+                && understood.msg_type.as_str() == kind,
+        ),
+        Err(_) => Ok(false),
+    }
+}
+
+#[test]
+fn the_type_comes_with_the_event(rt: HostRuntime) -> Result<(), Fail> {
+    let alloc = rt.alloc();
+    assert!(rt; is_unknown(alloc, "{\"msg_id\":\"a\",\"msg_type\":\"what\"}", "what")?);
+    assert!(rt;
+        !is_unknown(
+            alloc,
+            "{\"msg_id\":\"a\",\"msg_type\":\"history_request\"}",
+            "history_request"
+        )?
+    );
+    assert!(rt; !is_unknown(alloc, "[]", "")?);
     Ok(())
 }

@@ -22,14 +22,14 @@ use Rattle.cluster_defs.specs.Words.{Id, is_listed, once, begins_with}
 use Rattle.cluster_defs.specs.Connections.{reached as reached_conn}
 use Rattle.cluster_defs.specs.Tasks.{settled_as}
 use Rattle.cluster_defs.specs.Requests.{Request}
-use Rattle.cluster_defs.specs.Facts.{Facts, is_settled}
+use Rattle.cluster_defs.specs.Facts.{Facts, nothing_yet, is_settled}
 use Rattle.cluster_defs.specs.Acceptance.{Demand, acceptance, reserved_front, most_ids}
 use Rattle.cluster_defs.specs.Purges.{purge_list, purging, resubmitting}
 use Rattle.cluster_defs.specs.Steps.{step}
 use Rattle.cluster_defs.specs.Histories.{History, facts, Legal}
 use Rattle.cluster_defs.specs.Laws.{EnginesAscend}
 use Rattle.cluster_defs.specs.Outcomes.{outcome}
-use Rattle.cluster_defs.specs.Queries.{answer, query_type, demand_answer}
+use Rattle.cluster_defs.specs.Queries.{answer, demand_answer}
 use Rattle.cluster_defs.specs.Outs.{pass_to, owner_conn, answer_out, repeat_out}
 use Rattle.cluster_defs.specs.TaskRecords.{record_of, records_of}
 use Rattle.cluster_defs.specs.RecordAnswers.{answer_in}
@@ -44,7 +44,7 @@ use Rattle.cluster_state.specs.Seen.{Seen, seen_in}
 use Rattle.cluster_state.specs.Plain.{Plain, look, tasks_of, plain_of, facts_in, outcome_for}
 use Rattle.cluster_state.proofs.Exact.{exact, seen_is}
 use Rattle.hub_queries.specs.Ascending.{Below, Ascends}
-use Rattle.cluster_outs.specs.Asked.{asked_type, asked_live}
+use Rattle.cluster_outs.specs.Asked.{asked_live}
 use Rattle.cluster_outs.specs.Reached.{Reached, IsNext}
 use Rattle.cluster_outs.specs.Repeats.{is_again}
 use Rattle.cluster_outs.specs.Memory.{is_memory}
@@ -62,6 +62,10 @@ facts_are p r = facts_from p r.history r.legal r.is
 
 abbrev pub reached : (p : Plain) (e : Entry) → IsNext p e → Reached p
 reached p e n = record { history = n.history; legal = n.legal.1; is = n.is }
+
+-- before the first entry
+pub reached_first : (p : Plain) → p ≡ plain_of nothing_yet → Reached p
+reached_first p is = record { history = []; legal = tt; is = is }
 
 pub settles_open : (p : Plain) (id : Id) (v : Verdict) (c : Cause) → IsNext p (Settle id v c) → is_settled (facts_in p) id ≡ false
 settles_open p id v c n =
@@ -122,7 +126,7 @@ asked_ascends p Unknown r = tt
 asked_ascends p (Bad field) r = tt
 
 asked_all : (rs : List Record) (live : List (ℕ × List ℕ)) (channel : Channel) (query : Query) (t : List ℕ) →
-    answer_in rs (asked_live query live) channel query (asked_type query t) ≡ answer_in rs live channel query t
+    answer_in rs (asked_live query live) channel query t ≡ answer_in rs live channel query t
 asked_all rs live channel Connection t = refl
 asked_all rs live channel (Queue targets verbose) t = refl
 asked_all rs live channel (ResultQuery ids status_only) t = refl
@@ -132,20 +136,11 @@ asked_all rs live channel Unknown t = refl
 asked_all rs live channel (Bad field) t = refl
 
 pub asked_answer : (p : Plain) (channel : Channel) (query : Query) (t : List ℕ) → Reached p →
-    answer_in (map (λ (s : Seen). s.row) p.tasks) (asked_live query (map (λ (e : Engine). (e.number, e.uuid)) p.engines.live)) channel query (asked_type query t) ≡ answer (facts_in p) channel query t
+    answer_in (map (λ (s : Seen). s.row) p.tasks) (asked_live query (map (λ (e : Engine). (e.number, e.uuid)) p.engines.live)) channel query t ≡ answer (facts_in p) channel query t
 asked_answer p channel query t r =
     asked_all (map (λ (s : Seen). s.row) p.tasks) (map pair p.engines.live) channel query t
     ∙ ap (λ rs. answer_in rs (map pair p.engines.live) channel query t) (rows_are p r)
     ∙ subst (λ f. answer_in (records_of f) (map pair f.engines.live) channel query t ≡ answer f channel query t) (sym (facts_are p r)) (records_answer r.history channel query t r.legal)
-
-pub asked_kind : (channel : Channel) (query : Query) (t : List ℕ) → query_type channel query (asked_type query t) ≡ query_type channel query t
-asked_kind channel Connection t = refl
-asked_kind channel (Queue targets verbose) t = refl
-asked_kind channel (ResultQuery ids status_only) t = refl
-asked_kind channel HistoryQuery t = refl
-asked_kind channel Shutdown t = refl
-asked_kind channel Unknown t = refl
-asked_kind channel (Bad field) t = refl
 
 pub purge_told : (p : Plain) (all : Bool) (ids : List Id) → Reached p →
     purge_in (map (λ (s : Seen). s.row) p.tasks) (purge_list_in (map (λ (s : Seen). s.row) p.tasks) all ids) ≡ purging (facts_in p) (purge_list (facts_in p) all ids)

@@ -2,11 +2,13 @@
 
 ghost use Rattle.std.specs.Prelude.{◌≡◌, ◌≤◌, ◌+◌, IfOk, map};
 ghost use Rattle.std.specs.Option.{option_copied};
+ghost use Rattle.message_defs.specs.Header.{message_type};
 ghost use Rattle.cluster_defs.specs.Connections.{connection_on};
 ghost use Rattle.cluster_defs.specs.Histories.{History, Legal, facts};
 ghost use Rattle.cluster_defs.specs.Outs.{beat_out, message_outs, outs_as};
 ghost use Rattle.cluster_state.specs.Plain.{facts_in, plain_of};
 ghost use Rattle.cluster_state.specs.Stands.{plain};
+ghost use Rattle.cluster_outs.specs.Asked.{type_on, told_type};
 ghost use Rattle.cluster_outs.specs.Reached.{Reached, IsNext};
 
 use crate::answers::Slip;
@@ -20,34 +22,31 @@ use cluster_types::entry::{Entry, Input};
 use cluster_types::event::Event;
 use cluster_types::message::Message;
 use cluster_types::out::Outs;
+use cluster_types::text::Text;
 use std::alloc::{AllocError, Global};
 
-/// What a message on a connection sends, at a place after the last Open.
+/// What a message sends, where its answer goes as the slip says.
 fn message_outs(
     alloc: Global,
-    place: u64,
+    slip: Slip,
     state: &State,
-    conn: u32,
-    moment: u64,
     message: &Message,
     event: &Option<Event>,
+    msg_type: &Text,
 ) -> Result<Outs, AllocError>
-    requires { Reached (plain state.now) }
-    ensures { IfOk result (λ outs. outs ≡ message_outs place (facts_in (plain state.now)) conn moment message.now (connection_on state.now.connections.items conn) event.now) }
+    requires reached { Reached (plain state.now) }
+    requires opens { slip.opens ≡ state.now.opens }
+    requires kind { msg_type.now ≡ told_type event.now (message_type message.now) }
+    ensures { IfOk result (λ outs. outs ≡ message_outs slip.place (facts_in (plain state.now)) slip.conn slip.moment message.now (connection_on state.now.connections.items slip.conn) event.now) }
 {
-    let Some(connection) = connection_on(&state.connections, conn) else {
+    let Some(connection) = connection_on(&state.connections, slip.conn) else {
         return Ok(Outs::new(alloc));
     };
     let Some(event) = event else {
         return Ok(Outs::new(alloc));
     };
-    let slip = Slip {
-        opens: state.opens,
-        place,
-        conn,
-        moment,
-    };
-    let outs = event_outs(alloc, slip, state, connection.channel, message, event)?;
+    let channel = connection.channel;
+    let outs = event_outs(alloc, slip, state, channel, message, event, msg_type)?;
     Ok(outs)
 }
 
@@ -67,8 +66,10 @@ fn input_outs(
     state: &State,
     input: &Input,
     event: &Option<Event>,
+    msg_type: &Text,
 ) -> Result<Outs, AllocError>
-    requires { Reached (plain state.now) }
+    requires reached { Reached (plain state.now) }
+    requires kind { msg_type.now ≡ told_type event.now (type_on (Entry.Input input.now)) }
     ensures { IfOk result (λ outs. outs ≡ outs_as place (facts_in (plain state.now)) (Entry.Input input.now) event.now) }
 {
     match input {
@@ -78,7 +79,16 @@ fn input_outs(
             moment,
             word: _,
             message,
-        } => message_outs(alloc, place, state, *conn, *moment, message, event),
+        } => {
+            let slip = Slip {
+                opens: state.opens,
+                place,
+                conn: *conn,
+                moment: *moment,
+            };
+            let outs = message_outs(alloc, slip, state, message, event, msg_type)?;
+            Ok(outs)
+        }
         _ => Ok(Outs::new(alloc)),
     }
 }
@@ -91,13 +101,15 @@ fn entry_outs(
     state: &State,
     entry: &Entry,
     event: &Option<Event>,
+    msg_type: &Text,
 ) -> Result<Outs, AllocError>
     requires next { IsNext (plain state.now) entry.now }
     requires moment { state.now.moment ≤ 253402300799999 }
+    requires kind { msg_type.now ≡ told_type event.now (type_on entry.now) }
     ensures { IfOk result (λ outs. outs ≡ outs_as place (facts_in (plain state.now)) entry.now event.now) }
 {
     match entry {
-        Entry::Input(input) => input_outs(alloc, place, state, input, event),
+        Entry::Input(input) => input_outs(alloc, place, state, input, event, msg_type),
         Entry::Hand { id, engine } => hand_outs(alloc, state, id, *engine),
         Entry::Settle { id, verdict, cause } => settle_outs(alloc, state, id, *verdict, *cause),
         Entry::Lose { engine: _ } => Ok(Outs::new(alloc)),
@@ -106,19 +118,21 @@ fn entry_outs(
 
 /// What an entry sends at a place after the last Open, which has the place 0. The state is that before the entry, and
 /// the moment of its last input is one before the year 10000. `event` is what the message of an input means, where it
-/// isn't junk.
+/// isn't junk, and `msg_type` is then the message's type, and empty otherwise.
 pub fn outs(
     alloc: Global,
     place: u64,
     state: &State,
     entry: &Entry,
     event: &Option<Event>,
+    msg_type: &Text,
 ) -> Result<Outs, AllocError>
     requires next { IsNext (plain state.now) entry.now }
     requires moment { state.now.moment ≤ 253402300799999 }
+    requires kind { msg_type.now ≡ told_type event.now (type_on entry.now) }
     ensures state { IfOk result (λ outs. outs ≡ outs_as place (facts_in (plain state.now)) entry.now event.now) }
     ensures history { IfOk result (λ outs. (history : History) → Legal history → plain state.now ≡ plain_of (facts history) → outs ≡ outs_as place (facts history) entry.now event.now) }
 {
-    let sent = entry_outs(alloc, place, state, entry, event)?;
+    let sent = entry_outs(alloc, place, state, entry, event, msg_type)?;
     Ok(sent)
 }

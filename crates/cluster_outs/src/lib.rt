@@ -1,11 +1,13 @@
 //! What each entry sends, off the data of a cluster.
 #![tactic(auto)]
 
-pub mod answers;
-pub mod beats;
-pub mod demands;
+mod answers;
+mod beats;
+mod demands;
 pub mod entries;
-pub mod messages;
-pub mod passes;
-pub mod questions;
-pub mod rows;
+mod messages;
+mod passes;
+mod questions;
+mod rows;
+#[cfg(test)]
+mod tests;

@@ -1,6 +1,7 @@
 //! What messages send.
 
 ghost use Rattle.std.specs.Prelude.{◌≡◌, ◌⊎◌, ◌++◌, [], IfOk, Some, codes, decimal};
+ghost use Rattle.message_defs.specs.Header.{message_type};
 ghost use Rattle.message_defs.specs.Texts.{ok_content, join_content};
 ghost use Rattle.cluster_types.specs.declared.event.Event.{Event};
 ghost use Rattle.cluster_defs.specs.Words.{once};
@@ -233,7 +234,7 @@ fn resubmit_outs(
     Ok(outs)
 }
 
-/// What a message with a meaning sends: its answer, or the outcome that it asks for again.
+/// What a message of a type with a meaning sends: its answer, or the outcome that it asks for again.
 pub fn event_outs(
     alloc: Global,
     slip: Slip,
@@ -241,8 +242,10 @@ pub fn event_outs(
     channel: Channel,
     message: &Message,
     event: &Event,
+    msg_type: &Text,
 ) -> Result<Outs, AllocError>
-    requires { Reached (plain state.now) }
+    requires reached { Reached (plain state.now) }
+    requires kind { msg_type.now ≡ message_type message.now }
     ensures { IfOk result (λ outs. outs ≡ answer_out slip.opens slip.place slip.conn slip.moment (answer_type channel message.now event.now) message.now.header (answer_event (facts_in (plain state.now)) slip.conn channel message.now event.now) ++ repeated (facts_in (plain state.now)) slip.conn message.now event.now) }
 {
     match event {
@@ -252,7 +255,7 @@ pub fn event_outs(
         Event::Leave => leave_outs(alloc, slip, state, message),
         Event::Purge { all, ids } => purge_outs(alloc, slip, state, channel, *all, ids, message),
         Event::Resubmit { ids } => resubmit_outs(alloc, slip, state, channel, ids, message),
-        Event::Ask(query) => query_outs(alloc, slip, state, channel, query, message),
+        Event::Ask(query) => query_outs(alloc, slip, state, channel, query, message, msg_type),
         Event::Pong { beat: _ } => Ok(Outs::new(alloc)),
         Event::Reply {
             task: _,

@@ -1,11 +1,12 @@
 //! What questions about the cluster are answered.
 
-ghost use Rattle.std.specs.Prelude.{◌≡◌, List, ℕ, map, IfOk, Some};
-ghost use Rattle.cluster_defs.specs.Queries.{message_type, bad_type, query_type, answer};
+ghost use Rattle.std.specs.Prelude.{◌≡◌, map, IfOk, Some};
+ghost use Rattle.message_defs.specs.Header.{message_type};
+ghost use Rattle.cluster_defs.specs.Queries.{bad_type, query_type, answer};
 ghost use Rattle.cluster_defs.specs.Outs.{answer_out};
 ghost use Rattle.cluster_state.specs.Plain.{facts_in};
 ghost use Rattle.cluster_state.specs.Stands.{plain};
-ghost use Rattle.cluster_outs.specs.Asked.{asked_type, asked_live};
+ghost use Rattle.cluster_outs.specs.Asked.{asked_live};
 ghost use Rattle.cluster_outs.specs.Reached.{Reached};
 
 use crate::answers::{Slip, answered};
@@ -22,32 +23,8 @@ use cluster_types::out::Outs;
 use cluster_types::text::Text;
 use hub_queries::answer::answer;
 use hub_queries::engines::LiveEngines;
-use jupyter_header::header::read_header;
 use jupyter_header::kinds::reply_type;
-use message_defs::fault::ReadError;
 use std::alloc::{AllocError, Global};
-
-/// The type of a message, empty where its header doesn't read.
-fn message_type(alloc: Global, message: &Message) -> Result<Text, AllocError>
-    ensures { IfOk result (λ text. text ≡ message_type message.now) }
-{
-    match read_header(alloc, message.header.as_slice()) {
-        Ok(header) => header.msg_type.copy(),
-        Err(ReadError::OutOfMemory) => Err(AllocError),
-        Err(_) => Text::new(alloc, ""),
-    }
-}
-
-/// The type of a message, where the answer to a question tells it.
-fn asked_type(alloc: Global, query: &Query, message: &Message) -> Result<Text, AllocError>
-    ensures { IfOk result (λ text. text ≡ asked_type query.now (message_type message.now)) }
-{
-    match query {
-        Query::Unknown => message_type(alloc, message),
-        Query::Bad { field: _ } => message_type(alloc, message),
-        _ => Text::new(alloc, ""),
-    }
-}
 
 /// The live engines with their uuids.
 fn live_engines(alloc: Global, live: &[Engine]) -> Result<LiveEngines, AllocError>
@@ -109,7 +86,7 @@ fn query_type(
     }
 }
 
-/// The answer to a question, of the type of its message where the answer tells that.
+/// The answer to a question in a message of a type.
 fn query_answer(
     alloc: Global,
     state: &State,
@@ -118,7 +95,7 @@ fn query_answer(
     msg_type: &Text,
 ) -> Result<Answer, AllocError>
     requires { Reached (plain state.now) }
-    ensures { (kind : List ℕ) → msg_type.now ≡ asked_type query.now kind → IfOk result (λ a. a ≡ answer (facts_in (plain state.now)) channel query.now kind) }
+    ensures { IfOk result (λ a. a ≡ answer (facts_in (plain state.now)) channel query.now msg_type.now) }
 {
     let rows = Rows::new(state);
     let live = asked_live(alloc, query, &state.engines)?;
@@ -126,8 +103,7 @@ fn query_answer(
     Ok(answer)
 }
 
-/// What a question sends: its answer.
-#[tactic(auto, using(crate::proofs::Telling::asked_kind))]
+/// What a question in a message of a type sends: its answer.
 pub fn query_outs(
     alloc: Global,
     slip: Slip,
@@ -135,13 +111,14 @@ pub fn query_outs(
     channel: Channel,
     query: &Query,
     message: &Message,
+    msg_type: &Text,
 ) -> Result<Outs, AllocError>
-    requires { Reached (plain state.now) }
+    requires reached { Reached (plain state.now) }
+    requires kind { msg_type.now ≡ message_type message.now }
     ensures { IfOk result (λ outs. outs ≡ answer_out slip.opens slip.place slip.conn slip.moment (query_type channel query.now (message_type message.now)) message.now.header (Some (answer (facts_in (plain state.now)) channel query.now (message_type message.now)))) }
 {
-    let msg_type = asked_type(alloc, query, message)?;
-    let kind = query_type(alloc, channel, query, &msg_type)?;
-    let answer = query_answer(alloc, state, channel, query, &msg_type)?;
+    let kind = query_type(alloc, channel, query, msg_type)?;
+    let answer = query_answer(alloc, state, channel, query, msg_type)?;
     let outs = answered(alloc, slip, kind, &message.header, Some(answer))?;
     Ok(outs)
 }

@@ -2,14 +2,14 @@
 #![tactic(auto)]
 
 pub mod drive;
-pub mod inputs;
+mod inputs;
 pub mod laws;
-pub mod links;
-pub mod order;
-pub mod records;
-pub mod rules;
-pub mod sends;
-pub mod sizes;
-pub mod steps;
+mod links;
+mod order;
+mod records;
+mod rules;
+mod sends;
+mod sizes;
+mod steps;
 #[cfg(test)]
 mod tests;

@@ -14,12 +14,10 @@ answer-requires c =
     subst (λ (l : List (ℕ × List ℕ)). Ascends (map (λ e. e.0) l)) (sym is) (asked_ascends (plain c.args.state.now) c.args.query.now c.requires)
 
 pub returns : goal.returns
-returns c = λ kind told.
+returns c =
     let is = c.in_ok-live.ensures ∙ ap (λ (es : List Engine). asked_live c.args.query.now (map (λ e. (e.number, e.uuid)) es)) c.deref.ensures.value in
     let rows = map (λ (s : Seen). s.row) c.args.state.now.tasks in
-    let live = asked_live c.args.query.now (map (λ (e : Engine). (e.number, e.uuid)) c.args.state.now.engines.items) in
     c.in_ok-answer.ensures
     ∙ ap (λ rs. answer_in rs c.in_ok-live.live c.args.channel c.args.query.now c.args.msg_type.now) c.new-rows.ensures
     ∙ ap (λ l. answer_in rows l c.args.channel c.args.query.now c.args.msg_type.now) is
-    ∙ ap (λ t. answer_in rows live c.args.channel c.args.query.now t) told
-    ∙ asked_answer (plain c.args.state.now) c.args.channel c.args.query.now kind c.requires
+    ∙ asked_answer (plain c.args.state.now) c.args.channel c.args.query.now c.args.msg_type.now c.requires

@@ -18,7 +18,7 @@ begin-requires-clause-now g c = plain_time (reverse c.args.history.now) (plain c
 pub decide_rest-requires : goal.decide_rest-requires
 decide_rest-requires g c =
     let e = c.in_ok-plan.ensures in
-    grown_begun (reverse c.args.history.now) (plain c.args.known.state) c.args.known.place c.in_ok-plan.plan c.args.input c.args.event.now c.requires.stands e.input (record {
+    grown_begun (reverse c.args.history.now) (plain c.args.known.state) c.args.known.place c.in_ok-plan.plan c.args.input c.args.meaning.now.event c.requires.stands e.input (record {
       allowed = c.requires.allowed;
       time = c.requires.time;
       event_is = c.requires.event;
@@ -27,5 +27,5 @@ decide_rest-requires g c =
       plain = e.«data»;
       outs = e.outs;
       kept = e.kept;
-      stops = e.stops ∙ ap (λ was. stops_after was c.args.input c.args.event.now) c.requires.stopping;
+      stops = e.stops ∙ ap (λ was. stops_after was c.args.input c.args.meaning.now.event) c.requires.stopping;
     })
