@@ -3,5 +3,5 @@ pub mod Lawful
 pub mod Lengths
 pub mod Moments
 pub mod Ordered
-pub mod Placing
+pub mod Sorting
 pub mod Unsent

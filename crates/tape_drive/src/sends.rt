@@ -10,7 +10,7 @@ ghost use Rattle.tape_drive.specs.Links.{link_on, is_zmtp};
 ghost use Rattle.tape_drive.specs.Sends.{where_any, sendings, frames_sent, out_sent, by_connection, sent_at};
 
 use crate::links::{Link, is_zmtp};
-use crate::order::{conn_of, reverse_order};
+use crate::order::{conn_of, sort_by_connection};
 use cluster_outgo::frames_of;
 use cluster_types::octets::Octets;
 use cluster_types::out::{Out, Outs};
@@ -207,6 +207,22 @@ fn put_out(
     Ok(())
 }
 
+/// Appends the records of outs, in their order.
+fn put_each(
+    into: &mut Vec<u8>,
+    key: &Key,
+    links: &[Link],
+    moment: u64,
+    outs: &[Out],
+) -> Result<(), AllocError>
+    ensures { OnOk result (into.new.items ≡ into.old.items ++ written (map (sent_at moment) (map (out_sent key.now links.now) outs.now))) }
+{
+    for out in outs {
+        put_out(into, key, links, moment, out)?;
+    }
+    Ok(())
+}
+
 /// Appends the records of the outs of a step, by connection.
 pub fn put_outs(
     into: &mut Vec<u8>,
@@ -217,9 +233,7 @@ pub fn put_outs(
 ) -> Result<(), AllocError>
     ensures { OnOk result (into.new.items ≡ into.old.items ++ written (map (sent_at moment) (map (out_sent key.now links.now) (by_connection outs)))) }
 {
-    let mut rest = reverse_order(*into.allocator(), outs.into_vec())?;
-    while let Some(out) = rest.pop() {
-        put_out(into, key, links, moment, &out)?;
-    }
-    Ok(())
+    let mut outs = outs.into_vec();
+    sort_by_connection(&mut outs)?;
+    put_each(into, key, links, moment, outs.as_slice())
 }
