@@ -10,12 +10,21 @@ use Rattle.arith_syntax.specs.declared.instruction.Instruction.{Instruction}
 use Rattle.arith_syntax.specs.declared.instruction.Instruction.TheVariants.{Push, Load, Open, Close, Sign, Apply, Infix, Combine, Then, Else, Choose, Target, Store, Finish}
 use Rattle.arith_syntax.specs.Tree.{Tree, Constant, Variable, Parenthesized, Unary, Operation, Conditional, Assignment, IsExpression}
 use Rattle.arith_syntax.specs.Grammar.{Fits}
-use Rattle.arith_syntax.specs.Written.{written, all_written}
+use Rattle.arith_syntax.specs.Written.{instructions_of, all_written}
 use Rattle.arith_eval.specs.declared.error.ArithError.{ArithError}
 use Rattle.arith_eval.specs.declared.error.ArithError.TheVariants.{NameError, ZeroDivision, ShiftRange, OutOfMemory}
 use Rattle.arith_eval.specs.Names.{Environment, assign}
 use Rattle.arith_eval.specs.Value.{Number, is_zero, truth, unary, binary, Outcome, outcome, with_value, and_then, value_of_name, operation, value_of, values_from, value_of_program, Evaluates}
-use Rattle.arith_eval.specs.Machine.{Machine, at_rest, turned, top, below, pushed, infix_act, combine_act, unchanged, stored, act, pass, step, goes_on, play, Moves}
+use Rattle.arith_eval.specs.Machine.{Machine, at_rest, turned, top, below, pushed, infix_act, combine_act, unchanged, stored, act, pass, step, Move, Moves}
+
+abbrev pub goes_on : Move → Environment → (Machine → Environment → Outcome) → Outcome
+goes_on (Ok r) names go = go r.0 r.1
+goes_on (Err f) names go = outcome (Err f) names
+
+-- instructions one after another
+abbrev pub play : List Instruction → Machine → Environment → Outcome
+play [] m names = outcome (Ok m.last) names
+play (i ∷ more) m names = goes_on (step i m names) names (λ n after. play more n after)
 
 abbrev machine : List ℤ → ℕ → ℤ → Machine
 machine stack skip last = record { stack = stack; skip = skip; last = last }
@@ -37,7 +46,7 @@ passed_else more stack k last names =
     ∙ ap (λ b. play more (machine stack (cond b 0 (suc (suc k))) last) names) (more_skip k)
 
 -- the second operand and its operator
-second_passes : (op : BinaryOperator) (b : Tree) (more : List Instruction) (stack : List ℤ) (k : ℕ) (last : ℤ) (names : Environment) → ((j : ℕ) → play (written b ++ Combine op ∷ more) (machine stack (suc j) last) names ≡ play (Combine op ∷ more) (machine stack (suc j) last) names) → play (written b ++ Combine op ∷ more) (machine stack (pass (Infix op) (suc k)) last) names ≡ play more (machine stack (suc k) last) names
+second_passes : (op : BinaryOperator) (b : Tree) (more : List Instruction) (stack : List ℤ) (k : ℕ) (last : ℤ) (names : Environment) → ((j : ℕ) → play (instructions_of b ++ Combine op ∷ more) (machine stack (suc j) last) names ≡ play (Combine op ∷ more) (machine stack (suc j) last) names) → play (instructions_of b ++ Combine op ∷ more) (machine stack (pass (Infix op) (suc k)) last) names ≡ play more (machine stack (suc k) last) names
 second_passes LogicalAnd b more stack k last names h = h (suc k) ∙ passed (Combine LogicalAnd) more stack (suc k) last names
 second_passes LogicalOr b more stack k last names h = h (suc k) ∙ passed (Combine LogicalOr) more stack (suc k) last names
 second_passes BitOr b more stack k last names h = h k ∙ passed (Combine BitOr) more stack k last names
@@ -58,38 +67,38 @@ second_passes Divide b more stack k last names h = h k ∙ passed (Combine Divid
 second_passes Remainder b more stack k last names h = h k ∙ passed (Combine Remainder) more stack k last names
 
 -- a tree that is passed over leaves all as it was
-passes : (e : Tree) (more : List Instruction) (stack : List ℤ) (k : ℕ) (last : ℤ) (names : Environment) → play (written e ++ more) (machine stack (suc k) last) names ≡ play more (machine stack (suc k) last) names
+passes : (e : Tree) (more : List Instruction) (stack : List ℤ) (k : ℕ) (last : ℤ) (names : Environment) → play (instructions_of e ++ more) (machine stack (suc k) last) names ≡ play more (machine stack (suc k) last) names
 passes (Constant n) more stack k last names = passed (Push n) more stack k last names
 passes (Variable x) more stack k last names = passed (Load x) more stack k last names
 passes (Parenthesized e) more stack k last names =
-    passed Open ((written e ++ Close ∷ []) ++ more) stack k last names
-    ∙ ap (λ l. play l (machine stack (suc k) last) names) (append_assoc (written e) (Close ∷ []) more)
+    passed Open ((instructions_of e ++ Close ∷ []) ++ more) stack k last names
+    ∙ ap (λ l. play l (machine stack (suc k) last) names) (append_assoc (instructions_of e) (Close ∷ []) more)
     ∙ passes e (Close ∷ more) stack k last names
     ∙ passed Close more stack k last names
 passes (Unary op e) more stack k last names =
-    passed (Sign op) ((written e ++ Apply op ∷ []) ++ more) stack k last names
-    ∙ ap (λ l. play l (machine stack (suc k) last) names) (append_assoc (written e) (Apply op ∷ []) more)
+    passed (Sign op) ((instructions_of e ++ Apply op ∷ []) ++ more) stack k last names
+    ∙ ap (λ l. play l (machine stack (suc k) last) names) (append_assoc (instructions_of e) (Apply op ∷ []) more)
     ∙ passes e (Apply op ∷ more) stack k last names
     ∙ passed (Apply op) more stack k last names
 passes (Operation op a b) more stack k last names =
-    ap (λ l. play l (machine stack (suc k) last) names) (append_assoc (written a) (Infix op ∷ (written b ++ Combine op ∷ [])) more)
-    ∙ passes a (Infix op ∷ ((written b ++ Combine op ∷ []) ++ more)) stack k last names
-    ∙ passed (Infix op) ((written b ++ Combine op ∷ []) ++ more) stack k last names
-    ∙ ap (λ l. play l (machine stack (pass (Infix op) (suc k)) last) names) (append_assoc (written b) (Combine op ∷ []) more)
+    ap (λ l. play l (machine stack (suc k) last) names) (append_assoc (instructions_of a) (Infix op ∷ (instructions_of b ++ Combine op ∷ [])) more)
+    ∙ passes a (Infix op ∷ ((instructions_of b ++ Combine op ∷ []) ++ more)) stack k last names
+    ∙ passed (Infix op) ((instructions_of b ++ Combine op ∷ []) ++ more) stack k last names
+    ∙ ap (λ l. play l (machine stack (pass (Infix op) (suc k)) last) names) (append_assoc (instructions_of b) (Combine op ∷ []) more)
     ∙ second_passes op b more stack k last names (λ j. passes b (Combine op ∷ more) stack j last names)
 passes (Conditional c a b) more stack k last names =
-    ap (λ l. play l (machine stack (suc k) last) names) (append_assoc (written c) (Then ∷ (written a ++ Else ∷ (written b ++ Choose ∷ []))) more)
-    ∙ passes c (Then ∷ ((written a ++ Else ∷ (written b ++ Choose ∷ [])) ++ more)) stack k last names
-    ∙ passed Then ((written a ++ Else ∷ (written b ++ Choose ∷ [])) ++ more) stack k last names
-    ∙ ap (λ l. play l (machine stack (suc (suc k)) last) names) (append_assoc (written a) (Else ∷ (written b ++ Choose ∷ [])) more)
-    ∙ passes a (Else ∷ ((written b ++ Choose ∷ []) ++ more)) stack (suc k) last names
-    ∙ passed_else ((written b ++ Choose ∷ []) ++ more) stack k last names
-    ∙ ap (λ l. play l (machine stack (suc (suc k)) last) names) (append_assoc (written b) (Choose ∷ []) more)
+    ap (λ l. play l (machine stack (suc k) last) names) (append_assoc (instructions_of c) (Then ∷ (instructions_of a ++ Else ∷ (instructions_of b ++ Choose ∷ []))) more)
+    ∙ passes c (Then ∷ ((instructions_of a ++ Else ∷ (instructions_of b ++ Choose ∷ [])) ++ more)) stack k last names
+    ∙ passed Then ((instructions_of a ++ Else ∷ (instructions_of b ++ Choose ∷ [])) ++ more) stack k last names
+    ∙ ap (λ l. play l (machine stack (suc (suc k)) last) names) (append_assoc (instructions_of a) (Else ∷ (instructions_of b ++ Choose ∷ [])) more)
+    ∙ passes a (Else ∷ ((instructions_of b ++ Choose ∷ []) ++ more)) stack (suc k) last names
+    ∙ passed_else ((instructions_of b ++ Choose ∷ []) ++ more) stack k last names
+    ∙ ap (λ l. play l (machine stack (suc (suc k)) last) names) (append_assoc (instructions_of b) (Choose ∷ []) more)
     ∙ passes b (Choose ∷ more) stack (suc k) last names
     ∙ passed Choose more stack (suc k) last names
 passes (Assignment x op e) more stack k last names =
-    passed (Target x op) ((written e ++ Store x op ∷ []) ++ more) stack k last names
-    ∙ ap (λ l. play l (machine stack (suc k) last) names) (append_assoc (written e) (Store x op ∷ []) more)
+    passed (Target x op) ((instructions_of e ++ Store x op ∷ []) ++ more) stack k last names
+    ∙ ap (λ l. play l (machine stack (suc k) last) names) (append_assoc (instructions_of e) (Store x op ∷ []) more)
     ∙ passes e (Store x op ∷ more) stack k last names
     ∙ passed (Store x op) more stack k last names
 
@@ -148,93 +157,93 @@ kind Divide = plain Divide (record { begins = λ s l. refl; ends = λ s l. refl;
 kind Remainder = plain Remainder (record { begins = λ s l. refl; ends = λ s l. refl; value = λ f s. refl })
 
 -- what is left to run of a tree's second operand
-rest_of : (op : BinaryOperator) (b : Tree) (more : List Instruction) → (written b ++ Combine op ∷ []) ++ more ≡ written b ++ Combine op ∷ more
-rest_of op b more = append_assoc (written b) (Combine op ∷ []) more
+rest_of : (op : BinaryOperator) (b : Tree) (more : List Instruction) → (instructions_of b ++ Combine op ∷ []) ++ more ≡ instructions_of b ++ Combine op ∷ more
+rest_of op b more = append_assoc (instructions_of b) (Combine op ∷ []) more
 
 -- a tree gives its value on top
 abbrev Goes : Tree → Type 0
-Goes e = (more : List Instruction) (stack : List ℤ) (last : ℤ) (names : Environment) → play (written e ++ more) (machine stack 0 last) names ≡ and_then (value_of e names) (λ v after. play more (machine (v ∷ stack) 0 last) after)
+Goes e = (more : List Instruction) (stack : List ℤ) (last : ℤ) (names : Environment) → play (instructions_of e ++ more) (machine stack 0 last) names ≡ and_then (value_of e names) (λ v after. play more (machine (v ∷ stack) 0 last) after)
 
-plain_second : (op : BinaryOperator) → Plain op → (b : Tree) → Goes b → (more : List Instruction) (stack : List ℤ) (last : ℤ) (v : ℤ) (names : Environment) → play (Infix op ∷ ((written b ++ Combine op ∷ []) ++ more)) (machine (v ∷ stack) 0 last) names ≡ and_then (and_then (value_of b names) (λ w after. outcome (binary op v w) after)) (λ r after. play more (machine (r ∷ stack) 0 last) after)
+plain_second : (op : BinaryOperator) → Plain op → (b : Tree) → Goes b → (more : List Instruction) (stack : List ℤ) (last : ℤ) (v : ℤ) (names : Environment) → play (Infix op ∷ ((instructions_of b ++ Combine op ∷ []) ++ more)) (machine (v ∷ stack) 0 last) names ≡ and_then (and_then (value_of b names) (λ w after. outcome (binary op v w) after)) (λ r after. play more (machine (r ∷ stack) 0 last) after)
 plain_second op p b go more stack last v names =
-    ap (λ t. goes_on (unchanged t names) names (λ n after. play ((written b ++ Combine op ∷ []) ++ more) n after)) (p.begins (v ∷ stack) last)
+    ap (λ t. goes_on (unchanged t names) names (λ n after. play ((instructions_of b ++ Combine op ∷ []) ++ more) n after)) (p.begins (v ∷ stack) last)
     ∙ ap (λ l. play l (machine (v ∷ stack) 0 last) names) (rest_of op b more)
     ∙ go (Combine op ∷ more) (v ∷ stack) last names
     ∙ and_then_same (value_of b names) _ _ (λ w after.
     ap (λ t. goes_on (unchanged t after) after (λ n z. play more n z)) (p.ends (w ∷ v ∷ stack) last) ∙ push_number (binary op v w) more stack last after)
     ∙ sym (and_then_then (value_of b names) (λ w after. outcome (binary op v w) after) (λ r after. play more (machine (r ∷ stack) 0 last) after))
 
-second_goes : (op : BinaryOperator) (f : ℤ → ℤ) (b : Tree) → Goes b → (more : List Instruction) (stack : List ℤ) (last : ℤ) (names : Environment) → ((w : ℤ) (after : Environment) → play (Combine op ∷ more) (machine (w ∷ stack) 0 last) after ≡ play more (machine (f w ∷ stack) 0 last) after) → play ((written b ++ Combine op ∷ []) ++ more) (machine stack 0 last) names ≡ and_then (and_then (value_of b names) (λ w after. outcome (Ok (f w)) after)) (λ r after. play more (machine (r ∷ stack) 0 last) after)
+second_goes : (op : BinaryOperator) (f : ℤ → ℤ) (b : Tree) → Goes b → (more : List Instruction) (stack : List ℤ) (last : ℤ) (names : Environment) → ((w : ℤ) (after : Environment) → play (Combine op ∷ more) (machine (w ∷ stack) 0 last) after ≡ play more (machine (f w ∷ stack) 0 last) after) → play ((instructions_of b ++ Combine op ∷ []) ++ more) (machine stack 0 last) names ≡ and_then (and_then (value_of b names) (λ w after. outcome (Ok (f w)) after)) (λ r after. play more (machine (r ∷ stack) 0 last) after)
 second_goes op f b go more stack last names h =
     ap (λ l. play l (machine stack 0 last) names) (rest_of op b more)
     ∙ go (Combine op ∷ more) stack last names
     ∙ and_then_same (value_of b names) _ _ h
     ∙ sym (and_then_then (value_of b names) (λ w after. outcome (Ok (f w)) after) (λ r after. play more (machine (r ∷ stack) 0 last) after))
 
-second_passed : (op : BinaryOperator) (b : Tree) (more : List Instruction) (stack : List ℤ) (last : ℤ) (names : Environment) → pass (Combine op) 1 ≡ 0 → play ((written b ++ Combine op ∷ []) ++ more) (machine stack 1 last) names ≡ play more (machine stack 0 last) names
+second_passed : (op : BinaryOperator) (b : Tree) (more : List Instruction) (stack : List ℤ) (last : ℤ) (names : Environment) → pass (Combine op) 1 ≡ 0 → play ((instructions_of b ++ Combine op ∷ []) ++ more) (machine stack 1 last) names ≡ play more (machine stack 0 last) names
 second_passed op b more stack last names h =
     ap (λ l. play l (machine stack 1 last) names) (rest_of op b more)
     ∙ passes b (Combine op ∷ more) stack 0 last names
     ∙ passed (Combine op) more stack 0 last names
     ∙ ap (λ k. play more (machine stack k last) names) h
 
-and_second : (z : Bool) (b : Tree) → Goes b → (more : List Instruction) (stack : List ℤ) (last : ℤ) (names : Environment) → goes_on (unchanged (cond z (turned (pos 0 ∷ stack) 1 last) (turned stack 0 last)) names) names (λ n after. play ((written b ++ Combine LogicalAnd ∷ []) ++ more) n after) ≡ and_then (cond z (outcome (Ok (pos 0)) names) (and_then (value_of b names) (λ w after. outcome (Ok (truth (not (is_zero w)))) after))) (λ r after. play more (machine (r ∷ stack) 0 last) after)
+and_second : (z : Bool) (b : Tree) → Goes b → (more : List Instruction) (stack : List ℤ) (last : ℤ) (names : Environment) → goes_on (unchanged (cond z (turned (pos 0 ∷ stack) 1 last) (turned stack 0 last)) names) names (λ n after. play ((instructions_of b ++ Combine LogicalAnd ∷ []) ++ more) n after) ≡ and_then (cond z (outcome (Ok (pos 0)) names) (and_then (value_of b names) (λ w after. outcome (Ok (truth (not (is_zero w)))) after))) (λ r after. play more (machine (r ∷ stack) 0 last) after)
 and_second true b go more stack last names = second_passed LogicalAnd b more (pos 0 ∷ stack) last names refl
 and_second false b go more stack last names = second_goes LogicalAnd (λ w. truth (not (is_zero w))) b go more stack last names (λ w after. refl)
 
-or_second : (z : Bool) (b : Tree) → Goes b → (more : List Instruction) (stack : List ℤ) (last : ℤ) (names : Environment) → goes_on (unchanged (cond z (turned stack 0 last) (turned (pos 1 ∷ stack) 1 last)) names) names (λ n after. play ((written b ++ Combine LogicalOr ∷ []) ++ more) n after) ≡ and_then (cond z (and_then (value_of b names) (λ w after. outcome (Ok (truth (not (is_zero w)))) after)) (outcome (Ok (pos 1)) names)) (λ r after. play more (machine (r ∷ stack) 0 last) after)
+or_second : (z : Bool) (b : Tree) → Goes b → (more : List Instruction) (stack : List ℤ) (last : ℤ) (names : Environment) → goes_on (unchanged (cond z (turned stack 0 last) (turned (pos 1 ∷ stack) 1 last)) names) names (λ n after. play ((instructions_of b ++ Combine LogicalOr ∷ []) ++ more) n after) ≡ and_then (cond z (and_then (value_of b names) (λ w after. outcome (Ok (truth (not (is_zero w)))) after)) (outcome (Ok (pos 1)) names)) (λ r after. play more (machine (r ∷ stack) 0 last) after)
 or_second true b go more stack last names = second_goes LogicalOr (λ w. truth (not (is_zero w))) b go more stack last names (λ w after. refl)
 or_second false b go more stack last names = second_passed LogicalOr b more (pos 1 ∷ stack) last names refl
 
 operation_goes : (op : BinaryOperator) → Kind op → (a b : Tree) → Goes a → Goes b → Goes (Operation op a b)
 operation_goes op (both_and) a b ga gb = λ more stack last names.
-    ap (λ l. play l (machine stack 0 last) names) (append_assoc (written a) (Infix LogicalAnd ∷ (written b ++ Combine LogicalAnd ∷ [])) more)
-    ∙ ga (Infix LogicalAnd ∷ ((written b ++ Combine LogicalAnd ∷ []) ++ more)) stack last names
+    ap (λ l. play l (machine stack 0 last) names) (append_assoc (instructions_of a) (Infix LogicalAnd ∷ (instructions_of b ++ Combine LogicalAnd ∷ [])) more)
+    ∙ ga (Infix LogicalAnd ∷ ((instructions_of b ++ Combine LogicalAnd ∷ []) ++ more)) stack last names
     ∙ and_then_same (value_of a names) _ _ (λ v after. and_second (is_zero v) b gb more stack last after)
     ∙ sym (and_then_then (value_of a names) _ (λ r after. play more (machine (r ∷ stack) 0 last) after))
 operation_goes op (both_or) a b ga gb = λ more stack last names.
-    ap (λ l. play l (machine stack 0 last) names) (append_assoc (written a) (Infix LogicalOr ∷ (written b ++ Combine LogicalOr ∷ [])) more)
-    ∙ ga (Infix LogicalOr ∷ ((written b ++ Combine LogicalOr ∷ []) ++ more)) stack last names
+    ap (λ l. play l (machine stack 0 last) names) (append_assoc (instructions_of a) (Infix LogicalOr ∷ (instructions_of b ++ Combine LogicalOr ∷ [])) more)
+    ∙ ga (Infix LogicalOr ∷ ((instructions_of b ++ Combine LogicalOr ∷ []) ++ more)) stack last names
     ∙ and_then_same (value_of a names) _ _ (λ v after. or_second (is_zero v) b gb more stack last after)
     ∙ sym (and_then_then (value_of a names) _ (λ r after. play more (machine (r ∷ stack) 0 last) after))
 operation_goes op (plain o p) a b ga gb = λ more stack last names.
-    ap (λ l. play l (machine stack 0 last) names) (append_assoc (written a) (Infix o ∷ (written b ++ Combine o ∷ [])) more)
-    ∙ ga (Infix o ∷ ((written b ++ Combine o ∷ []) ++ more)) stack last names
+    ap (λ l. play l (machine stack 0 last) names) (append_assoc (instructions_of a) (Infix o ∷ (instructions_of b ++ Combine o ∷ [])) more)
+    ∙ ga (Infix o ∷ ((instructions_of b ++ Combine o ∷ []) ++ more)) stack last names
     ∙ and_then_same (value_of a names) _ _ (λ v after. plain_second o p b gb more stack last v after)
     ∙ sym (and_then_then (value_of a names) (λ v after. and_then (value_of b after) (λ w z. outcome (binary o v w) z)) (λ r after. play more (machine (r ∷ stack) 0 last) after))
     ∙ ap (λ x. and_then x (λ r after. play more (machine (r ∷ stack) 0 last) after)) (sym (p.value (value_of a names) (value_of b)))
 
-choice_goes : (z : Bool) (a b : Tree) → Goes a → Goes b → (more : List Instruction) (stack : List ℤ) (last : ℤ) (names : Environment) → play ((written a ++ Else ∷ (written b ++ Choose ∷ [])) ++ more) (machine stack (cond z 1 0) last) names ≡ and_then (cond z (value_of b names) (value_of a names)) (λ r after. play more (machine (r ∷ stack) 0 last) after)
+choice_goes : (z : Bool) (a b : Tree) → Goes a → Goes b → (more : List Instruction) (stack : List ℤ) (last : ℤ) (names : Environment) → play ((instructions_of a ++ Else ∷ (instructions_of b ++ Choose ∷ [])) ++ more) (machine stack (cond z 1 0) last) names ≡ and_then (cond z (value_of b names) (value_of a names)) (λ r after. play more (machine (r ∷ stack) 0 last) after)
 choice_goes true a b ga gb more stack last names =
-    ap (λ l. play l (machine stack 1 last) names) (append_assoc (written a) (Else ∷ (written b ++ Choose ∷ [])) more)
-    ∙ passes a (Else ∷ ((written b ++ Choose ∷ []) ++ more)) stack 0 last names
-    ∙ passed Else ((written b ++ Choose ∷ []) ++ more) stack 0 last names
-    ∙ ap (λ l. play l (machine stack 0 last) names) (append_assoc (written b) (Choose ∷ []) more)
+    ap (λ l. play l (machine stack 1 last) names) (append_assoc (instructions_of a) (Else ∷ (instructions_of b ++ Choose ∷ [])) more)
+    ∙ passes a (Else ∷ ((instructions_of b ++ Choose ∷ []) ++ more)) stack 0 last names
+    ∙ passed Else ((instructions_of b ++ Choose ∷ []) ++ more) stack 0 last names
+    ∙ ap (λ l. play l (machine stack 0 last) names) (append_assoc (instructions_of b) (Choose ∷ []) more)
     ∙ gb (Choose ∷ more) stack last names
 choice_goes false a b ga gb more stack last names =
-    ap (λ l. play l (machine stack 0 last) names) (append_assoc (written a) (Else ∷ (written b ++ Choose ∷ [])) more)
-    ∙ ga (Else ∷ ((written b ++ Choose ∷ []) ++ more)) stack last names
+    ap (λ l. play l (machine stack 0 last) names) (append_assoc (instructions_of a) (Else ∷ (instructions_of b ++ Choose ∷ [])) more)
+    ∙ ga (Else ∷ ((instructions_of b ++ Choose ∷ []) ++ more)) stack last names
     ∙ and_then_same (value_of a names) _ _ (λ v after.
-    ap (λ l. play l (machine (v ∷ stack) 1 last) after) (append_assoc (written b) (Choose ∷ []) more)
+    ap (λ l. play l (machine (v ∷ stack) 1 last) after) (append_assoc (instructions_of b) (Choose ∷ []) more)
     ∙ passes b (Choose ∷ more) (v ∷ stack) 0 last after
     ∙ passed Choose more (v ∷ stack) 0 last after)
 
 conditional_goes : (c a b : Tree) → Goes c → Goes a → Goes b → Goes (Conditional c a b)
 conditional_goes c a b gc ga gb = λ more stack last names.
-    ap (λ l. play l (machine stack 0 last) names) (append_assoc (written c) (Then ∷ (written a ++ Else ∷ (written b ++ Choose ∷ []))) more)
-    ∙ gc (Then ∷ ((written a ++ Else ∷ (written b ++ Choose ∷ [])) ++ more)) stack last names
+    ap (λ l. play l (machine stack 0 last) names) (append_assoc (instructions_of c) (Then ∷ (instructions_of a ++ Else ∷ (instructions_of b ++ Choose ∷ []))) more)
+    ∙ gc (Then ∷ ((instructions_of a ++ Else ∷ (instructions_of b ++ Choose ∷ [])) ++ more)) stack last names
     ∙ and_then_same (value_of c names) _ _ (λ v after. choice_goes (is_zero v) a b ga gb more stack last after)
     ∙ sym (and_then_then (value_of c names) _ (λ r after. play more (machine (r ∷ stack) 0 last) after))
 
 assignment_goes : (x : List ℕ) (op : Option BinaryOperator) (e : Tree) → Goes e → Goes (Assignment x op e)
 assignment_goes x None e go = λ more stack last names.
-    ap (λ l. play l (machine stack 0 last) names) (append_assoc (written e) (Store x None ∷ []) more)
+    ap (λ l. play l (machine stack 0 last) names) (append_assoc (instructions_of e) (Store x None ∷ []) more)
     ∙ go (Store x None ∷ more) stack last names
     ∙ sym (and_then_then (value_of e names) (λ v after. outcome (Ok v) (assign after x v)) (λ r after. play more (machine (r ∷ stack) 0 last) after))
 assignment_goes x (Some op) e go = λ more stack last names.
-    push_number (value_of_name names x) ((written e ++ Store x (Some op) ∷ []) ++ more) stack last names
+    push_number (value_of_name names x) ((instructions_of e ++ Store x (Some op) ∷ []) ++ more) stack last names
     ∙ with_value_same (value_of_name names x) names _ _ (λ old same.
-    ap (λ l. play l (machine (old ∷ stack) 0 last) same) (append_assoc (written e) (Store x (Some op) ∷ []) more)
+    ap (λ l. play l (machine (old ∷ stack) 0 last) same) (append_assoc (instructions_of e) (Store x (Some op) ∷ []) more)
     ∙ go (Store x (Some op) ∷ more) (old ∷ stack) last same
     ∙ and_then_same (value_of e same) _ _ (λ v after.
     store_number x (binary op old v) more stack last after
@@ -247,9 +256,9 @@ pub goes : (e : Tree) → IsExpression e → Goes e
 goes (Constant n) g = λ more stack last names. ap (λ v. play more (machine (v ∷ stack) 0 last) names) (to_z_pos w64 n g)
 goes (Variable x) g = λ more stack last names. push_number (value_of_name names x) more stack last names
 goes (Parenthesized e) g = λ more stack last names.
-    ap (λ l. play l (machine stack 0 last) names) (append_assoc (written e) (Close ∷ []) more) ∙ goes e g (Close ∷ more) stack last names
+    ap (λ l. play l (machine stack 0 last) names) (append_assoc (instructions_of e) (Close ∷ []) more) ∙ goes e g (Close ∷ more) stack last names
 goes (Unary op e) g = λ more stack last names.
-    ap (λ l. play l (machine stack 0 last) names) (append_assoc (written e) (Apply op ∷ []) more)
+    ap (λ l. play l (machine stack 0 last) names) (append_assoc (instructions_of e) (Apply op ∷ []) more)
     ∙ goes e g.1 (Apply op ∷ more) stack last names
     ∙ sym (and_then_then (value_of e names) (λ v after. outcome (Ok (unary op v)) after) (λ r after. play more (machine (r ∷ stack) 0 last) after))
 goes (Operation op a b) g = operation_goes op (kind op) a b (goes a g.2) (goes b g.3)
@@ -260,7 +269,7 @@ goes (Assignment x op e) g = assignment_goes x op e (goes e g.2)
 plays_from : (trees : List Tree) (last : ℤ) (names : Environment) → AllByRecursion (Fits 64) trees → play (all_written trees) (machine [] 0 last) names ≡ values_from last trees names
 plays_from [] last names f = refl
 plays_from (e ∷ trees) last names f =
-    ap (λ l. play l (machine [] 0 last) names) (append_assoc (written e) (Finish ∷ []) (all_written trees))
+    ap (λ l. play l (machine [] 0 last) names) (append_assoc (instructions_of e) (Finish ∷ []) (all_written trees))
     ∙ goes e f.0.grammar (Finish ∷ all_written trees) [] last names
     ∙ and_then_same (value_of e names) _ _ (λ v after. plays_from trees v after f.1)
 

@@ -8,7 +8,7 @@ use Rattle.arith_syntax.specs.declared.instruction.Instruction.TheVariants.{Push
 use Rattle.arith_eval.specs.declared.error.ArithError.{ArithError}
 use Rattle.arith_eval.specs.declared.error.ArithError.TheVariants.{OutOfMemory}
 use Rattle.arith_eval.specs.Names.{Environment, assign}
-use Rattle.arith_eval.specs.Value.{Number, is_zero, truth, unary, binary, Outcome, outcome, value_of_name}
+use Rattle.arith_eval.specs.Value.{Number, is_zero, truth, unary, binary, value_of_name}
 
 -- values, the newest first; how many choices are passed over; the value of the last expression
 pub record Machine : Type 0 where
@@ -98,15 +98,6 @@ pass _ n = n
 
 abbrev pub step : Instruction → Machine → Environment → Move
 step i m names = if m.skip == 0 then act i m.stack m.last names else unchanged (turned m.stack (pass i m.skip) m.last) names
-
-abbrev pub goes_on : Move → Environment → (Machine → Environment → Outcome) → Outcome
-goes_on (Ok r) names go = go r.0 r.1
-goes_on (Err f) names go = outcome (Err f) names
-
--- instructions one after another
-abbrev pub play : List Instruction → Machine → Environment → Outcome
-play [] m names = outcome (Ok m.last) names
-play (i ∷ more) m names = goes_on (step i m names) names (λ n after. play more n after)
 
 -- what a function did to a machine is the turn, unless memory ran out
 abbrev pub Turns : {X : Type 0} → Result X ArithError → Machine → Turn → Type 0

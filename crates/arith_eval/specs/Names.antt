@@ -19,5 +19,5 @@ abbrev pub assign : Environment → List ℕ → ℤ → Environment
 assign names x v = λ y. if bytes_eq x y then Some v else names y
 
 -- the entries of a map, by the octets of their names
-abbrev pub named : List (String Global × ℤ) → Assigned
-named entries = map (λ e. (string_bytes e.0, e.1)) entries
+abbrev pub assignments : List (String Global × ℤ) → Assigned
+assignments entries = map (λ e. (string_bytes e.0, e.1)) entries

@@ -2,16 +2,21 @@
 
 use cluster_types::text::Text;
 use std::alloc::{AllocError, AllocFailed};
+use thiserror::Error;
 
 /// Why a program has no value.
-#[derive(Debug, Drop)]
+#[derive(Debug, Drop, Error)]
 pub enum ArithError {
     /// A name that was never assigned.
+    #[error("a name without a value")]
     NameError(Text),
     /// A divisor, or the right side of `%`, that is 0.
+    #[error("a division by 0")]
     ZeroDivision,
     /// A shift count outside 0 to 63.
+    #[error("a shift by {0}, outside 0 to 63")]
     ShiftRange(i64),
+    #[error("out of memory")]
     OutOfMemory,
 }
 

@@ -10,7 +10,6 @@ use crate::namespace::Namespace;
 use crate::operation::{binary, truth, unary};
 use arith_syntax::instruction::Instruction;
 use arith_syntax::operators::BinaryOperator;
-use cluster_types::copying::TryCopy;
 use cluster_types::text::Text;
 use std::alloc::{AllocError, Global};
 use std::marker::Model;
@@ -33,6 +32,7 @@ impl Model for Machine {
 }
 
 impl Machine {
+    /// A machine before its first instruction.
     pub fn new(alloc: Global) -> Machine
         ensures { result ≡ at_rest }
     {
@@ -67,6 +67,7 @@ impl Machine {
         self.act(instruction, names)
     }
 
+    /// Runs an instruction that is not passed over.
     fn act(&mut self, instruction: &Instruction, names: &mut Namespace) -> Result<(), ArithError>
         requires { self.old.skip ≡ 0 }
         ensures moves { Moves result self.new (value_in names.old) (value_in names.new) (act instruction.now self.old.stack self.old.last (value_in names.old)) }
@@ -103,6 +104,7 @@ impl Machine {
         Ok(())
     }
 
+    /// Pushes a value.
     fn push(&mut self, value: i64) -> Result<(), AllocError>
         ensures stack { OnOk result (self.new.stack ≡ value ∷ self.old.stack) }
         ensures skip { self.new.skip ≡ self.old.skip }
@@ -112,7 +114,7 @@ impl Machine {
         Ok(())
     }
 
-    // the newest value, of which there is one in every program
+    /// Pops the newest value, of which there is one in every program.
     fn pop(&mut self) -> i64
         ensures value { result ≡ top self.old.stack }
         ensures stack { self.new.stack ≡ below self.old.stack }
@@ -122,6 +124,7 @@ impl Machine {
         self.stack.pop().unwrap_or(0)
     }
 
+    /// Pushes the value of a name.
     fn load(&mut self, name: &Text, names: &Namespace) -> Result<(), ArithError>
         requires { self.old.skip ≡ 0 }
         ensures turns { Turns result self.new (pushed (value_of_name (value_in names.now) name.now) self.old.stack self.old.last) }
@@ -132,11 +135,11 @@ impl Machine {
                 self.push(value)?;
                 Ok(())
             }
-            None => Err(ArithError::NameError(name.copy()?)),
+            None => Err(ArithError::NameError(name.clone()?)),
         }
     }
 
-    // between the operands of an operator
+    /// Acts between the operands of an operator.
     fn begin_second(&mut self, operator: BinaryOperator) -> Result<(), ArithError>
         requires { self.old.skip ≡ 0 }
         ensures turns { Turns result self.new (infix_act operator self.old.stack self.old.last) }
@@ -159,18 +162,17 @@ impl Machine {
         }
     }
 
-    // the first operand decides, and the second is passed over
+    /// The first operand decides, and the second is passed over.
     fn decide(&mut self, value: i64) -> Result<(), AllocError>
         ensures stack { OnOk result (self.new.stack ≡ value ∷ self.old.stack) }
         ensures skip { self.new.skip ≡ 1 }
         ensures last { self.new.last ≡ self.old.last }
     {
         self.skip = 1;
-        self.push(value)?;
-        Ok(())
+        self.push(value)
     }
 
-    // behind the operands of an operator
+    /// Acts behind the operands of an operator.
     fn combine(&mut self, operator: BinaryOperator) -> Result<(), ArithError>
         requires { self.old.skip ≡ 0 }
         ensures turns { Turns result self.new (combine_act operator self.old.stack self.old.last) }
@@ -190,7 +192,7 @@ impl Machine {
         }
     }
 
-    // two values under an operator
+    /// Pops two values, and gives theirs under an operator.
     fn pop_combined(&mut self, operator: BinaryOperator) -> Result<i64, ArithError>
         ensures value { result ≡ binary operator (top (below self.old.stack)) (top self.old.stack) }
         ensures stack { self.new.stack ≡ below (below self.old.stack) }
@@ -202,6 +204,7 @@ impl Machine {
         binary(operator, first, second)
     }
 
+    /// Gives a name a value, which is pushed too.
     fn store(&mut self, name: &Text, value: i64, names: &mut Namespace) -> Result<(), ArithError>
         requires { self.old.skip ≡ 0 }
         ensures moves { Moves result self.new (value_in names.old) (value_in names.new) (stored name.now (Ok value) self.old.stack self.old.last (value_in names.old)) }
@@ -212,6 +215,7 @@ impl Machine {
         Ok(())
     }
 
+    /// Gives a name the value of an assignment with an operator.
     fn store_combined(
         &mut self,
         name: &Text,
@@ -223,12 +227,11 @@ impl Machine {
         ensures skip { self.new.skip ≡ 0 }
     {
         let value = self.pop_combined(operator)?;
-        self.store(name, value, names)?;
-        Ok(())
+        self.store(name, value, names)
     }
 }
 
-// how many choices are passed over behind an instruction that is passed over itself
+/// How many choices are passed over behind an instruction that is passed over itself.
 fn pass(instruction: &Instruction, skip: usize) -> usize
     requires few { skip < 2 ^ 63 }
     ensures value { result ≡ pass instruction.now skip }

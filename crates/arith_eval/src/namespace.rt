@@ -17,11 +17,11 @@ pub struct Namespace {
 
 impl Model for Namespace {
     ghost use Rattle.std.specs.Prelude.{ℕ, ℤ, List, map, string_bytes};
-    ghost use Rattle.arith_eval.specs.Names.{Assigned, named};
+    ghost use Rattle.arith_eval.specs.Names.{Assigned, assignments};
 
     ghost Value = { Assigned };
 
-    ghost view = { λ n. named n.values.entries };
+    ghost view = { λ n. assignments n.values.entries };
 }
 
 impl Namespace {

@@ -52,31 +52,35 @@ pub fn binary(operator: BinaryOperator, a: i64, b: i64) -> Result<i64, ArithErro
     }
 }
 
+/// The negative.
 fn negated(a: i64) -> i64
     ensures { result ≡ int_wrap w64 (neg_ℤ a) }
 {
     a.wrapping_neg()
 }
 
+/// The sum.
 fn sum(a: i64, b: i64) -> i64
     ensures { result ≡ int_wrap w64 (a +ℤ b) }
 {
     a.wrapping_add(b)
 }
 
+/// The difference.
 fn difference(a: i64, b: i64) -> i64
     ensures { result ≡ int_wrap w64 (a -ℤ b) }
 {
     a.wrapping_sub(b)
 }
 
+/// The product.
 fn product(a: i64, b: i64) -> i64
     ensures { result ≡ int_wrap w64 (a *ℤ b) }
 {
     a.wrapping_mul(b)
 }
 
-// toward zero
+/// The quotient, toward zero.
 fn quotient(a: i64, b: i64) -> Result<i64, ArithError>
     ensures { result ≡ divided (int_wrapping_div w64 a b) b }
 {
@@ -86,7 +90,7 @@ fn quotient(a: i64, b: i64) -> Result<i64, ArithError>
     Ok(a.wrapping_div(b))
 }
 
-// with the sign of the dividend
+/// The remainder, with the sign of the dividend.
 fn remainder(a: i64, b: i64) -> Result<i64, ArithError>
     ensures { result ≡ divided (int_rem a b) b }
 {
@@ -96,6 +100,7 @@ fn remainder(a: i64, b: i64) -> Result<i64, ArithError>
     Ok(a.wrapping_rem(b))
 }
 
+/// A number shifted to the left.
 fn shifted_left(a: i64, b: i64) -> Result<i64, ArithError>
     ensures { result ≡ shifted (λ count. int_shl w64 a count) b }
 {
@@ -105,7 +110,7 @@ fn shifted_left(a: i64, b: i64) -> Result<i64, ArithError>
     Ok(a << b)
 }
 
-// keeps the sign
+/// A number shifted to the right, which keeps its sign.
 fn shifted_right(a: i64, b: i64) -> Result<i64, ArithError>
     ensures { result ≡ shifted (λ count. int_shr a count) b }
 {

@@ -15,7 +15,8 @@ use Rattle.arith_syntax.specs.declared.pending.Pending.TheVariants.{Parenthesis,
 use Rattle.arith_syntax.specs.declared.refusal.Fault.TheVariants.{Misplaced}
 use Rattle.arith_syntax.specs.Tree.{Tree, Constant, Variable, Parenthesized, Unary, Operation, Conditional, Assignment, level, level_of, IsExpression, nesting, tokens_of, sign}
 use Rattle.arith_syntax.specs.Grammar.{Fits, joined, is_some_part, IsProgram}
-use Rattle.arith_syntax.specs.Reading.{State, nothing_read, tightness, depth_of, ending, close, waiting, nested, second_choice, parenthesized, expression_end, may_assign, step, steps, after, IsLooser}
+use Rattle.arith_syntax.specs.Reading.{State, nothing_read, tightness, depth_of, ending, close, waiting, nested, second_choice, parenthesized, expression_end, may_assign, step, IsLooser}
+use Rattle.arith_syntax.proofs.Steps.{steps, step_then}
 
 -- the instructions of an expression on top of others, the newest first
 abbrev pub put : Tree → List Instruction → List Instruction
@@ -200,12 +201,12 @@ reads limit (Constant n) code waits rest g a d = refl
 reads limit (Variable x) code waits rest g a d = refl
 reads limit (Parenthesized e) code waits rest g a d =
     let more = RightParenthesis ∷ rest in
-    ap (λ s. after s (λ t. steps limit t ((tokens_of e ++ RightParenthesis ∷ []) ++ rest))) (nested_ok limit Open Parenthesis code waits (omega arith))
+    ap (λ s. step_then s (λ t. steps limit t ((tokens_of e ++ RightParenthesis ∷ []) ++ rest))) (nested_ok limit Open Parenthesis code waits (omega arith))
     ∙ ap (steps limit (awaiting (Open ∷ code) (Parenthesis ∷ waits))) (append_assoc (tokens_of e) (RightParenthesis ∷ []) rest)
     ∙ reads limit e (Open ∷ code) (Parenthesis ∷ waits) more g (level_from e) (omega arith)
-    ∙ ap (λ (c : State). after (parenthesized c.code c.waits) (λ t. steps limit t rest)) (closing 1 e (Open ∷ code) (Parenthesis ∷ waits) (level_from e) g)
+    ∙ ap (λ (c : State). step_then (parenthesized c.code c.waits) (λ t. steps limit t rest)) (closing 1 e (Open ∷ code) (Parenthesis ∷ waits) (level_from e) g)
 reads limit (Unary op e) code waits rest g a d =
-    ap (λ s. after s (λ t. steps limit t (tokens_of e ++ rest))) (sign_step limit op code waits ∙ nested_ok limit (Sign op) (Prefixed op) code waits (omega arith))
+    ap (λ s. step_then s (λ t. steps limit t (tokens_of e ++ rest))) (sign_step limit op code waits ∙ nested_ok limit (Sign op) (Prefixed op) code waits (omega arith))
     ∙ reads limit e (Sign op ∷ code) (Prefixed op ∷ waits) rest g.1 g.0 (omega arith)
 reads limit (Operation op a b) code waits rest g adm d =
     let more = tokens_of b ++ rest in
@@ -221,15 +222,15 @@ reads limit (Conditional c a b) code waits rest g adm d =
     let head = Then ∷ put c code in
     ap (steps limit (awaiting code waits)) split
     ∙ reads limit c code waits first g.2 (admits_more waits 2 (level c) (omega (arith, g.0)) adm) (omega arith)
-    ∙ ap (λ (s : State). after (nested limit Then Condition s.code s.waits) (λ t. steps limit t (tokens_of a ++ second)))
+    ∙ ap (λ (s : State). step_then (nested limit Then Condition s.code s.waits) (λ t. steps limit t (tokens_of a ++ second)))
     (closing 3 c code waits g.0 g.2 ∙ stays 3 (put c code) waits (looser_condition waits adm))
-    ∙ ap (λ s. after s (λ t. steps limit t (tokens_of a ++ second))) (nested_ok limit Then Condition (put c code) waits (omega arith))
+    ∙ ap (λ s. step_then s (λ t. steps limit t (tokens_of a ++ second))) (nested_ok limit Then Condition (put c code) waits (omega arith))
     ∙ reads limit a head (Condition ∷ waits) second g.3 (level_from a) (omega arith)
-    ∙ ap (λ (s : State). after (second_choice s.code s.waits) (λ t. steps limit t (tokens_of b ++ rest))) (closing 1 a head (Condition ∷ waits) (level_from a) g.3)
+    ∙ ap (λ (s : State). step_then (second_choice s.code s.waits) (λ t. steps limit t (tokens_of b ++ rest))) (closing 1 a head (Condition ∷ waits) (level_from a) g.3)
     ∙ reads limit b (Else ∷ put a head) (Alternative ∷ waits) rest g.4 g.1 (omega arith)
 reads limit (Assignment x op e) code waits rest g adm d =
-    ap (λ b. after (cond b (nested limit (Target x op) (Assigned x op) code waits) (Err Misplaced)) (λ t. steps limit t (tokens_of e ++ rest))) (may_begin waits adm)
-    ∙ ap (λ s. after s (λ t. steps limit t (tokens_of e ++ rest))) (nested_ok limit (Target x op) (Assigned x op) code waits (omega arith))
+    ap (λ b. step_then (cond b (nested limit (Target x op) (Assigned x op) code waits) (Err Misplaced)) (λ t. steps limit t (tokens_of e ++ rest))) (may_begin waits adm)
+    ∙ ap (λ s. step_then s (λ t. steps limit t (tokens_of e ++ rest))) (nested_ok limit (Target x op) (Assigned x op) code waits (omega arith))
     ∙ reads limit e (Target x op ∷ code) (Assigned x op ∷ waits) rest g.2 (level_from e) (omega arith)
 
 -- the instructions of expressions one after another, on top of others
@@ -241,12 +242,12 @@ put_all (e ∷ trees) code = put_all trees (Finish ∷ put e code)
 expression_read : (limit : ℕ) (e : Tree) (code : List Instruction) (rest : List Token) → Fits limit e → steps limit (awaiting code []) (tokens_of e ++ Separator ∷ rest) ≡ steps limit (awaiting (Finish ∷ put e code) []) rest
 expression_read limit e code rest f =
     reads limit e code [] (Separator ∷ rest) f.grammar tt (omega (arith, f.depth))
-    ∙ ap (λ (c : State). after (expression_end c.code c.waits) (λ t. steps limit t rest)) (closing 1 e code [] (level_from e) f.grammar)
+    ∙ ap (λ (c : State). step_then (expression_end c.code c.waits) (λ t. steps limit t rest)) (closing 1 e code [] (level_from e) f.grammar)
 
 last_read : (limit : ℕ) (e : Tree) (code : List Instruction) → Fits limit e → steps limit (awaiting code []) (tokens_of e ++ End ∷ []) ≡ Ok (awaiting (Finish ∷ put e code) [])
 last_read limit e code f =
     reads limit e code [] (End ∷ []) f.grammar tt (omega (arith, f.depth))
-    ∙ ap (λ (c : State). after (expression_end c.code c.waits) (λ t. steps limit t [])) (closing 1 e code [] (level_from e) f.grammar)
+    ∙ ap (λ (c : State). step_then (expression_end c.code c.waits) (λ t. steps limit t [])) (closing 1 e code [] (level_from e) f.grammar)
 
 -- the parts of a program are taken one after another
 parts_read : (limit : ℕ) (first : List Token) (more : List (List Token)) (trees : List Tree) (code : List Instruction) → filter is_some_part (first ∷ more) ≡ map tokens_of trees → AllByRecursion (Fits limit) trees → steps limit (awaiting code []) (joined first more ++ End ∷ []) ≡ Ok (awaiting (put_all trees code) [])

@@ -10,7 +10,8 @@ use Rattle.arith_syntax.specs.declared.refusal.Fault.{Fault}
 use Rattle.arith_syntax.specs.declared.refusal.Fault.TheVariants as faults
 use Rattle.arith_syntax.specs.Tree.{Tree, Constant, Variable, Parenthesized, Unary, Operation, Conditional, Assignment, IsExpression, tokens_of, sign}
 use Rattle.arith_syntax.specs.Grammar.{Fits, joined, is_some_part, IsProgram}
-use Rattle.arith_syntax.specs.Reading.{State, nothing_read, Step, first_step, next_step, step, steps}
+use Rattle.arith_syntax.specs.Reading.{State, nothing_read, Step, first_step, next_step, step}
+use Rattle.arith_syntax.proofs.Steps.{steps}
 use Rattle.std.specs.Prelude.{◌⊎◌}
 use Rattle.std.proofs.Common.{inl, inr, ◌≢◌, length}
 use Rattle.std.proofs.lemmas.List.{append-nil}

@@ -15,7 +15,8 @@ use Rattle.arith_syntax.specs.declared.refusal.Fault.{Fault}
 use Rattle.arith_syntax.specs.declared.refusal.Fault.TheVariants as faults
 use Rattle.arith_syntax.specs.Tree.{Tree}
 use Rattle.arith_syntax.specs.Grammar.{Fits, IsProgram}
-use Rattle.arith_syntax.specs.Reading.{State, nothing_read, depth_of, close, Step, waiting, nested, operand, empty_expression, first_step, second_choice, parenthesized, expression_end, may_assign, assignment, next_step, step, steps, after}
+use Rattle.arith_syntax.specs.Reading.{State, nothing_read, depth_of, close, Step, waiting, nested, operand, empty_expression, first_step, second_choice, parenthesized, expression_end, may_assign, assignment, next_step, step}
+use Rattle.arith_syntax.proofs.Steps.{steps, step_then}
 use Rattle.std.specs.Prelude.{◌⊎◌}
 use Rattle.std.proofs.Common.{inl, inr, ◌≢◌, length}
 use Rattle.std.proofs.lemmas.Bool.{cases_lt}
@@ -145,7 +146,7 @@ step_same m n token s a b x y =
       | inr v ↦ nested_same m n v.0 v.1 v.2 v.3 a b (sym (v.4 m) ∙ x) (sym (v.4 n) ∙ y)
     ]
 
-pub after_ok : (r : Step) (f : State → Step) (t : State) → after r f ≡ Ok t → (s : State) × (r ≡ Ok s) × (f s ≡ Ok t)
+pub after_ok : (r : Step) (f : State → Step) (t : State) → step_then r f ≡ Ok t → (s : State) × (r ≡ Ok s) × (f s ≡ Ok t)
 after_ok (Ok s) f t e = (s, refl, e)
 after_ok (Err d) f t e = absurd cc
 
@@ -157,11 +158,11 @@ steps_same m n s a b (token ∷ read) x y =
     let e : p.0 ≡ q.0 = step_same m n token s p.0 q.0 p.1 q.1 in
     steps_same m n p.0 a b read p.2 (ap (λ t. steps n t read) e ∙ q.2)
 
-after_each : (r : Step) (h k g : State → Step) → ((t : State) → h t ≡ after (k t) g) → after r h ≡ after (after r k) g
+after_each : (r : Step) (h k g : State → Step) → ((t : State) → h t ≡ step_then (k t) g) → step_then r h ≡ step_then (step_then r k) g
 after_each (Ok s) h k g e = e s
 after_each (Err d) h k g e = refl
 
-pub steps_append : (limit : ℕ) (s : State) (x y : List Token) → steps limit s (x ++ y) ≡ after (steps limit s x) (λ t. steps limit t y)
+pub steps_append : (limit : ℕ) (s : State) (x y : List Token) → steps limit s (x ++ y) ≡ step_then (steps limit s x) (λ t. steps limit t y)
 steps_append limit s [] y = refl
 steps_append limit s (token ∷ x) y =
     after_each (step limit token s) (λ t. steps limit t (x ++ y)) (λ t. steps limit t x) (λ t. steps limit t y) (λ t. steps_append limit t x y)
@@ -502,8 +503,8 @@ further text before p l s at goes e =
       tokens_are = goes.tokens ∙ ap (λ x. x ++ l.0 ∷ []) at.tokens_are ∙ sym (tokens_more before l);
       read = ap (steps 64 nothing_read) (tokens_more before l)
           ∙ steps_append 64 nothing_read (tokens before) (l.0 ∷ [])
-          ∙ ap (λ r. after r (λ t. steps 64 t (l.0 ∷ []))) at.read
-          ∙ ap (λ r. after r (λ t. steps 64 t [])) e
+          ∙ ap (λ r. step_then r (λ t. steps 64 t (l.0 ∷ []))) at.read
+          ∙ ap (λ r. step_then r (λ t. steps 64 t [])) e
           ∙ ap Ok goes.state;
     }
 

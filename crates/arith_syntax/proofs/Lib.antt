@@ -6,5 +6,6 @@ pub mod Printed
 mod Rows
 pub mod Scans
 pub mod Sound
+pub mod Steps
 pub mod Words
 pub mod Writing

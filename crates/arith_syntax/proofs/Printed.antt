@@ -19,7 +19,7 @@ use Rattle.arith_syntax.specs.Lexical.{is_blank, value_after, number, begins_hex
 use Rattle.arith_syntax.specs.Grammar.{Fits, Grammar, tokens, is_some_part}
 use Rattle.arith_syntax.specs.declared.instruction.Instruction.{Instruction}
 use Rattle.arith_syntax.specs.declared.instruction.Instruction.TheVariants.{Close, Apply, Infix, Combine, Then, Else, Choose, Store, Finish}
-use Rattle.arith_syntax.specs.Written.{written, all_written}
+use Rattle.arith_syntax.specs.Written.{instructions_of, all_written}
 use Rattle.arith_syntax.specs.Printing.{sign_text, spelled, spaced, line, printed, instruction_text}
 use Rattle.arith_syntax.proofs.Sound.{over, program_without, some_tokens}
 use Rattle.arith_syntax.proofs.Words.{scan_skip}
@@ -405,36 +405,36 @@ sign_spelled Complement = refl
 sign_spelled Not = refl
 
 -- an expression's instructions print its tokens
-tree_text : (e : Tree) → flat_map instruction_text (written e) ≡ flat_map spaced (tokens_of e)
+tree_text : (e : Tree) → flat_map instruction_text (instructions_of e) ≡ flat_map spaced (tokens_of e)
 tree_text (Constant n) = refl
 tree_text (Variable x) = refl
 tree_text (Parenthesized e) =
-    ap (λ l. spaced LeftParenthesis ++ l) (flat_text (written e) (Close ∷ []) ∙ ap (λ l. l ++ (spaced RightParenthesis ++ [])) (tree_text e) ∙ sym (flat_append (tokens_of e) (RightParenthesis ∷ [])))
+    ap (λ l. spaced LeftParenthesis ++ l) (flat_text (instructions_of e) (Close ∷ []) ∙ ap (λ l. l ++ (spaced RightParenthesis ++ [])) (tree_text e) ∙ sym (flat_append (tokens_of e) (RightParenthesis ∷ [])))
 tree_text (Unary op e) =
-    ap (λ l. l ++ flat_map instruction_text (written e ++ Apply op ∷ [])) (sign_spelled op)
-    ∙ ap (λ l. spaced (sign op) ++ l) (flat_text (written e) (Apply op ∷ []) ∙ append-nil (flat_map instruction_text (written e)) ∙ tree_text e)
+    ap (λ l. l ++ flat_map instruction_text (instructions_of e ++ Apply op ∷ [])) (sign_spelled op)
+    ∙ ap (λ l. spaced (sign op) ++ l) (flat_text (instructions_of e) (Apply op ∷ []) ∙ append-nil (flat_map instruction_text (instructions_of e)) ∙ tree_text e)
 tree_text (Operation op a b) =
-    flat_text (written a) (Infix op ∷ (written b ++ Combine op ∷ []))
-    ∙ ap (λ l. l ++ (spaced (Binary op) ++ flat_map instruction_text (written b ++ Combine op ∷ []))) (tree_text a)
-    ∙ ap (λ l. flat_map spaced (tokens_of a) ++ (spaced (Binary op) ++ l)) (flat_text (written b) (Combine op ∷ []) ∙ append-nil (flat_map instruction_text (written b)) ∙ tree_text b)
+    flat_text (instructions_of a) (Infix op ∷ (instructions_of b ++ Combine op ∷ []))
+    ∙ ap (λ l. l ++ (spaced (Binary op) ++ flat_map instruction_text (instructions_of b ++ Combine op ∷ []))) (tree_text a)
+    ∙ ap (λ l. flat_map spaced (tokens_of a) ++ (spaced (Binary op) ++ l)) (flat_text (instructions_of b) (Combine op ∷ []) ∙ append-nil (flat_map instruction_text (instructions_of b)) ∙ tree_text b)
     ∙ sym (flat_append (tokens_of a) (Binary op ∷ tokens_of b))
 tree_text (Conditional c a b) =
-    flat_text (written c) (Then ∷ (written a ++ Else ∷ (written b ++ Choose ∷ [])))
-    ∙ ap (λ l. l ++ (spaced Question ++ flat_map instruction_text (written a ++ Else ∷ (written b ++ Choose ∷ [])))) (tree_text c)
+    flat_text (instructions_of c) (Then ∷ (instructions_of a ++ Else ∷ (instructions_of b ++ Choose ∷ [])))
+    ∙ ap (λ l. l ++ (spaced Question ++ flat_map instruction_text (instructions_of a ++ Else ∷ (instructions_of b ++ Choose ∷ [])))) (tree_text c)
     ∙ ap (λ l. flat_map spaced (tokens_of c) ++ (spaced Question ++ l))
-    (flat_text (written a) (Else ∷ (written b ++ Choose ∷ []))
-    ∙ ap (λ l. l ++ (spaced Colon ++ flat_map instruction_text (written b ++ Choose ∷ []))) (tree_text a)
-    ∙ ap (λ l. flat_map spaced (tokens_of a) ++ (spaced Colon ++ l)) (flat_text (written b) (Choose ∷ []) ∙ append-nil (flat_map instruction_text (written b)) ∙ tree_text b)
+    (flat_text (instructions_of a) (Else ∷ (instructions_of b ++ Choose ∷ []))
+    ∙ ap (λ l. l ++ (spaced Colon ++ flat_map instruction_text (instructions_of b ++ Choose ∷ []))) (tree_text a)
+    ∙ ap (λ l. flat_map spaced (tokens_of a) ++ (spaced Colon ++ l)) (flat_text (instructions_of b) (Choose ∷ []) ∙ append-nil (flat_map instruction_text (instructions_of b)) ∙ tree_text b)
     ∙ sym (flat_append (tokens_of a) (Colon ∷ tokens_of b)))
     ∙ sym (flat_append (tokens_of c) (Question ∷ (tokens_of a ++ Colon ∷ tokens_of b)))
 tree_text (Assignment x op e) =
-    append_assoc (spaced (Name x)) (spaced (Assign op)) (flat_map instruction_text (written e ++ Store x op ∷ []))
-    ∙ ap (λ l. spaced (Name x) ++ (spaced (Assign op) ++ l)) (flat_text (written e) (Store x op ∷ []) ∙ append-nil (flat_map instruction_text (written e)) ∙ tree_text e)
+    append_assoc (spaced (Name x)) (spaced (Assign op)) (flat_map instruction_text (instructions_of e ++ Store x op ∷ []))
+    ∙ ap (λ l. spaced (Name x) ++ (spaced (Assign op) ++ l)) (flat_text (instructions_of e) (Store x op ∷ []) ∙ append-nil (flat_map instruction_text (instructions_of e)) ∙ tree_text e)
 
 pub program_text : (trees : List Tree) → flat_map instruction_text (all_written trees) ≡ printed trees
 unfolding printed
 program_text [] = refl
 program_text (e ∷ trees) =
-    flat_text (written e ++ Finish ∷ []) (all_written trees)
-    ∙ ap (λ l. l ++ flat_map instruction_text (all_written trees)) (flat_text (written e) (Finish ∷ []) ∙ ap (λ l. l ++ 10 ∷ []) (tree_text e))
+    flat_text (instructions_of e ++ Finish ∷ []) (all_written trees)
+    ∙ ap (λ l. l ++ flat_map instruction_text (all_written trees)) (flat_text (instructions_of e) (Finish ∷ []) ∙ ap (λ l. l ++ 10 ∷ []) (tree_text e))
     ∙ ap (λ l. line e ++ l) (program_text trees)

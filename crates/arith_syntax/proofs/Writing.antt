@@ -14,7 +14,7 @@ use Rattle.arith_syntax.specs.declared.error.SyntaxError.TheVariants as errors
 use Rattle.arith_syntax.specs.Grammar.{Grammar, FirstFault}
 use Rattle.arith_syntax.specs.Lexical.{lexemes, scan}
 use Rattle.arith_syntax.specs.Reading.{run}
-use Rattle.arith_syntax.specs.Written.{written, all_written, trees_of, IsWhole}
+use Rattle.arith_syntax.specs.Written.{instructions_of, all_written, trees_of, IsWhole}
 use Rattle.arith_syntax.specs.Apart.{trees_back}
 use Rattle.arith_syntax.proofs.Complete.{put, put_all, awaiting}
 use Rattle.std.proofs.Common.{inl, inr}
@@ -41,32 +41,32 @@ onto_reverse [] code = refl
 onto_reverse (x ∷ xs) code =
     onto_reverse xs (x ∷ code) ∙ sym (append_assoc (reverse xs) (x ∷ []) code) ∙ ap (λ l. l ++ code) (sym (reverse-append (x ∷ []) xs))
 
-put_onto : (e : Tree) (code : List Instruction) → put e code ≡ onto (written e) code
+put_onto : (e : Tree) (code : List Instruction) → put e code ≡ onto (instructions_of e) code
 put_onto (Constant n) code = refl
 put_onto (Variable x) code = refl
-put_onto (Parenthesized e) code = ap (λ l. Close ∷ l) (put_onto e (Open ∷ code)) ∙ sym (onto_append (written e) (Close ∷ []) (Open ∷ code))
-put_onto (Unary op e) code = ap (λ l. Apply op ∷ l) (put_onto e (Sign op ∷ code)) ∙ sym (onto_append (written e) (Apply op ∷ []) (Sign op ∷ code))
+put_onto (Parenthesized e) code = ap (λ l. Close ∷ l) (put_onto e (Open ∷ code)) ∙ sym (onto_append (instructions_of e) (Close ∷ []) (Open ∷ code))
+put_onto (Unary op e) code = ap (λ l. Apply op ∷ l) (put_onto e (Sign op ∷ code)) ∙ sym (onto_append (instructions_of e) (Apply op ∷ []) (Sign op ∷ code))
 put_onto (Operation op a b) code =
     ap (λ l. Combine op ∷ put b (Infix op ∷ l)) (put_onto a code)
-    ∙ ap (λ l. Combine op ∷ l) (put_onto b (Infix op ∷ onto (written a) code))
-    ∙ sym (onto_append (written b) (Combine op ∷ []) (Infix op ∷ onto (written a) code))
-    ∙ sym (onto_append (written a) (Infix op ∷ (written b ++ Combine op ∷ [])) code)
+    ∙ ap (λ l. Combine op ∷ l) (put_onto b (Infix op ∷ onto (instructions_of a) code))
+    ∙ sym (onto_append (instructions_of b) (Combine op ∷ []) (Infix op ∷ onto (instructions_of a) code))
+    ∙ sym (onto_append (instructions_of a) (Infix op ∷ (instructions_of b ++ Combine op ∷ [])) code)
 put_onto (Conditional c a b) code =
     ap (λ l. Choose ∷ put b (Else ∷ put a (Then ∷ l))) (put_onto c code)
-    ∙ ap (λ l. Choose ∷ put b (Else ∷ l)) (put_onto a (Then ∷ onto (written c) code))
-    ∙ ap (λ l. Choose ∷ l) (put_onto b (Else ∷ onto (written a) (Then ∷ onto (written c) code)))
-    ∙ sym (onto_append (written b) (Choose ∷ []) (Else ∷ onto (written a) (Then ∷ onto (written c) code)))
-    ∙ sym (onto_append (written a) (Else ∷ (written b ++ Choose ∷ [])) (Then ∷ onto (written c) code))
-    ∙ sym (onto_append (written c) (Then ∷ (written a ++ Else ∷ (written b ++ Choose ∷ []))) code)
-put_onto (Assignment x op e) code = ap (λ l. Store x op ∷ l) (put_onto e (Target x op ∷ code)) ∙ sym (onto_append (written e) (Store x op ∷ []) (Target x op ∷ code))
+    ∙ ap (λ l. Choose ∷ put b (Else ∷ l)) (put_onto a (Then ∷ onto (instructions_of c) code))
+    ∙ ap (λ l. Choose ∷ l) (put_onto b (Else ∷ onto (instructions_of a) (Then ∷ onto (instructions_of c) code)))
+    ∙ sym (onto_append (instructions_of b) (Choose ∷ []) (Else ∷ onto (instructions_of a) (Then ∷ onto (instructions_of c) code)))
+    ∙ sym (onto_append (instructions_of a) (Else ∷ (instructions_of b ++ Choose ∷ [])) (Then ∷ onto (instructions_of c) code))
+    ∙ sym (onto_append (instructions_of c) (Then ∷ (instructions_of a ++ Else ∷ (instructions_of b ++ Choose ∷ []))) code)
+put_onto (Assignment x op e) code = ap (λ l. Store x op ∷ l) (put_onto e (Target x op ∷ code)) ∙ sym (onto_append (instructions_of e) (Store x op ∷ []) (Target x op ∷ code))
 
 put_all_onto : (trees : List Tree) (code : List Instruction) → put_all trees code ≡ onto (all_written trees) code
 put_all_onto [] code = refl
 put_all_onto (e ∷ trees) code =
     ap (λ l. put_all trees (Finish ∷ l)) (put_onto e code)
-    ∙ put_all_onto trees (Finish ∷ onto (written e) code)
-    ∙ ap (onto (all_written trees)) (sym (onto_append (written e) (Finish ∷ []) code))
-    ∙ sym (onto_append (written e ++ Finish ∷ []) (all_written trees) code)
+    ∙ put_all_onto trees (Finish ∷ onto (instructions_of e) code)
+    ∙ ap (onto (all_written trees)) (sym (onto_append (instructions_of e) (Finish ∷ []) code))
+    ∙ sym (onto_append (instructions_of e ++ Finish ∷ []) (all_written trees) code)
 
 -- what the reader has for trees is their instructions, the last one first
 pub put_all_is : (trees : List Tree) → put_all trees [] ≡ reverse (all_written trees)

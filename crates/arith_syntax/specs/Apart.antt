@@ -6,35 +6,35 @@ use Rattle.std.proofs.lemmas.List.{append-nil, reverse-append, reverse-reverse}
 use Rattle.arith_syntax.specs.declared.instruction.Instruction.{Instruction}
 use Rattle.arith_syntax.specs.declared.instruction.Instruction.TheVariants.{Close, Apply, Infix, Combine, Then, Else, Choose, Store, Finish}
 use Rattle.arith_syntax.specs.Tree.{Tree, Constant, Variable, Parenthesized, Unary, Operation, Conditional, Assignment}
-use Rattle.arith_syntax.specs.Written.{written, all_written, built, trees_of}
+use Rattle.arith_syntax.specs.Written.{instructions_of, all_written, built, trees_of}
 
 -- the instructions of an expression build it
-pub built_one : (trees : List Tree) (e : Tree) (more : List Instruction) → built trees (written e ++ more) ≡ built (e ∷ trees) more
+pub built_one : (trees : List Tree) (e : Tree) (more : List Instruction) → built trees (instructions_of e ++ more) ≡ built (e ∷ trees) more
 built_one trees (Constant n) more = refl
 built_one trees (Variable x) more = refl
 built_one trees (Parenthesized e) more =
-    ap (built trees) (append_assoc (written e) (Close ∷ []) more) ∙ built_one trees e (Close ∷ more)
+    ap (built trees) (append_assoc (instructions_of e) (Close ∷ []) more) ∙ built_one trees e (Close ∷ more)
 built_one trees (Unary op e) more =
-    ap (built trees) (append_assoc (written e) (Apply op ∷ []) more) ∙ built_one trees e (Apply op ∷ more)
+    ap (built trees) (append_assoc (instructions_of e) (Apply op ∷ []) more) ∙ built_one trees e (Apply op ∷ more)
 built_one trees (Operation op a b) more =
-    ap (built trees) (append_assoc (written a) (Infix op ∷ (written b ++ Combine op ∷ [])) more)
-    ∙ built_one trees a (Infix op ∷ ((written b ++ Combine op ∷ []) ++ more))
-    ∙ ap (built (a ∷ trees)) (append_assoc (written b) (Combine op ∷ []) more)
+    ap (built trees) (append_assoc (instructions_of a) (Infix op ∷ (instructions_of b ++ Combine op ∷ [])) more)
+    ∙ built_one trees a (Infix op ∷ ((instructions_of b ++ Combine op ∷ []) ++ more))
+    ∙ ap (built (a ∷ trees)) (append_assoc (instructions_of b) (Combine op ∷ []) more)
     ∙ built_one (a ∷ trees) b (Combine op ∷ more)
 built_one trees (Conditional c a b) more =
-    ap (built trees) (append_assoc (written c) (Then ∷ (written a ++ Else ∷ (written b ++ Choose ∷ []))) more)
-    ∙ built_one trees c (Then ∷ ((written a ++ Else ∷ (written b ++ Choose ∷ [])) ++ more))
-    ∙ ap (built (c ∷ trees)) (append_assoc (written a) (Else ∷ (written b ++ Choose ∷ [])) more)
-    ∙ built_one (c ∷ trees) a (Else ∷ ((written b ++ Choose ∷ []) ++ more))
-    ∙ ap (built (a ∷ c ∷ trees)) (append_assoc (written b) (Choose ∷ []) more)
+    ap (built trees) (append_assoc (instructions_of c) (Then ∷ (instructions_of a ++ Else ∷ (instructions_of b ++ Choose ∷ []))) more)
+    ∙ built_one trees c (Then ∷ ((instructions_of a ++ Else ∷ (instructions_of b ++ Choose ∷ [])) ++ more))
+    ∙ ap (built (c ∷ trees)) (append_assoc (instructions_of a) (Else ∷ (instructions_of b ++ Choose ∷ [])) more)
+    ∙ built_one (c ∷ trees) a (Else ∷ ((instructions_of b ++ Choose ∷ []) ++ more))
+    ∙ ap (built (a ∷ c ∷ trees)) (append_assoc (instructions_of b) (Choose ∷ []) more)
     ∙ built_one (a ∷ c ∷ trees) b (Choose ∷ more)
 built_one trees (Assignment x op e) more =
-    ap (built trees) (append_assoc (written e) (Store x op ∷ []) more) ∙ built_one trees e (Store x op ∷ more)
+    ap (built trees) (append_assoc (instructions_of e) (Store x op ∷ []) more) ∙ built_one trees e (Store x op ∷ more)
 
 built_all : (done trees : List Tree) → built done (all_written trees) ≡ reverse trees ++ done
 built_all done [] = refl
 built_all done (e ∷ trees) =
-    ap (built done) (append_assoc (written e) (Finish ∷ []) (all_written trees))
+    ap (built done) (append_assoc (instructions_of e) (Finish ∷ []) (all_written trees))
     ∙ built_one done e (Finish ∷ all_written trees)
     ∙ built_all (e ∷ done) trees
     ∙ sym (append_assoc (reverse trees) (e ∷ []) done)

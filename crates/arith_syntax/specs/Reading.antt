@@ -142,15 +142,6 @@ next_step limit _ s = Err Misplaced
 abbrev pub step : ℕ → Token → State → Step
 step limit token s = if s.complete then next_step limit token s else first_step limit token s
 
-abbrev pub after : Step → (State → Step) → Step
-after (Ok s) more = more s
-after (Err f) more = Err f
-
--- tokens one after another
-abbrev pub steps : ℕ → State → List Token → Step
-steps limit s [] = Ok s
-steps limit s (token ∷ more) = after (step limit token s) (λ t. steps limit t more)
-
 -- what a function did to a state is the step, unless memory ran out
 abbrev pub Steps : {X : Type 0} → Result X Refusal → State → Step → Type 0
 Steps (Ok _) new taken = taken ≡ Ok new

@@ -7,18 +7,18 @@ use Rattle.arith_syntax.specs.Tree.{Tree, Constant, Variable, Parenthesized, Una
 use Rattle.arith_syntax.specs.Grammar.{Fits}
 
 -- an expression in the order of reading, each operator a second time behind its last operand
-abbrev pub written : Tree → List Instruction
-written (Constant n) = Push n ∷ []
-written (Variable x) = Load x ∷ []
-written (Parenthesized e) = Open ∷ (written e ++ Close ∷ [])
-written (Unary op e) = Sign op ∷ (written e ++ Apply op ∷ [])
-written (Operation op a b) = written a ++ Infix op ∷ (written b ++ Combine op ∷ [])
-written (Conditional c a b) = written c ++ Then ∷ (written a ++ Else ∷ (written b ++ Choose ∷ []))
-written (Assignment x op e) = Target x op ∷ (written e ++ Store x op ∷ [])
+abbrev pub instructions_of : Tree → List Instruction
+instructions_of (Constant n) = Push n ∷ []
+instructions_of (Variable x) = Load x ∷ []
+instructions_of (Parenthesized e) = Open ∷ (instructions_of e ++ Close ∷ [])
+instructions_of (Unary op e) = Sign op ∷ (instructions_of e ++ Apply op ∷ [])
+instructions_of (Operation op a b) = instructions_of a ++ Infix op ∷ (instructions_of b ++ Combine op ∷ [])
+instructions_of (Conditional c a b) = instructions_of c ++ Then ∷ (instructions_of a ++ Else ∷ (instructions_of b ++ Choose ∷ []))
+instructions_of (Assignment x op e) = Target x op ∷ (instructions_of e ++ Store x op ∷ [])
 
 -- expressions one after another
 abbrev pub all_written : List Tree → List Instruction
-all_written = flat_map (λ e. written e ++ Finish ∷ [])
+all_written = flat_map (λ e. instructions_of e ++ Finish ∷ [])
 
 -- the trees that instructions build, the last one first; each takes its operands off those that are there
 abbrev pub built : List Tree → List Instruction → List Tree

@@ -7,7 +7,7 @@ ghost use Rattle.arith_syntax.specs.Lexical.{digit_value, is_octal, is_hexadecim
 
 use crate::token::Token;
 
-// one more than the greatest constant
+/// One more than the greatest constant.
 const LIMIT: u64 = 0x8000_0000_0000_0000;
 
 /// The constant that a run of letters, digits and `_` spells.
@@ -22,6 +22,7 @@ pub fn constant(run: &[u8]) -> Token
     }
 }
 
+/// The constant of hexadecimal digits.
 fn hexadecimal(digits: &[u8]) -> Token
     ensures { result ≡ constant_of 16 is_hexadecimal digits.now }
 {
@@ -32,6 +33,7 @@ fn hexadecimal(digits: &[u8]) -> Token
     }
 }
 
+/// The constant of decimal digits.
 fn decimal(digits: &[u8]) -> Token
     ensures { result ≡ constant_of 10 is_digit digits.now }
 {
@@ -42,6 +44,7 @@ fn decimal(digits: &[u8]) -> Token
     }
 }
 
+/// The constant of octal digits.
 fn octal(digits: &[u8]) -> Token
     ensures { result ≡ constant_of 8 is_octal digits.now }
 {
@@ -52,24 +55,28 @@ fn octal(digits: &[u8]) -> Token
     }
 }
 
+/// Whether each is a hexadecimal digit.
 fn all_hexadecimal(digits: &[u8]) -> bool
     ensures { result ≡ list_all is_hexadecimal digits.now }
 {
     digits.iter().all(|c| is_hexadecimal(*c))
 }
 
+/// Whether each is a decimal digit.
 fn all_decimal(digits: &[u8]) -> bool
     ensures { result ≡ list_all is_digit digits.now }
 {
     digits.iter().all(|c| is_digit(*c))
 }
 
+/// Whether each is an octal digit.
 fn all_octal(digits: &[u8]) -> bool
     ensures { result ≡ list_all is_octal digits.now }
 {
     digits.iter().all(|c| is_octal(*c))
 }
 
+/// The token of the number that digits of a base stand for.
 fn number(base: u64, digits: &[u8]) -> Token
     requires { 1 ≤ base }
     ensures { result ≡ number (value_after base 0 digits.now) }
@@ -94,12 +101,14 @@ fn value(base: u64, digits: &[u8]) -> u64
     value
 }
 
+/// A number with one more digit behind it, or 2^63 where that is more.
 fn appended(value: u64, base: u64, digit: u64) -> u64
     ensures { result ≡ min (value * base + digit) (2 ^ 63) }
 {
     value.saturating_mul(base).saturating_add(digit).min(LIMIT)
 }
 
+/// What a digit stands for.
 fn digit(c: u8) -> u64
     ensures { result ≡ digit_value c }
 {
@@ -119,12 +128,14 @@ pub fn is_digit(c: u8) -> bool
     c >= b'0' && c <= b'9'
 }
 
+/// Whether it is an octal digit.
 fn is_octal(c: u8) -> bool
     ensures { result ≡ is_octal c }
 {
     c >= b'0' && c <= b'7'
 }
 
+/// Whether it is a hexadecimal digit.
 fn is_hexadecimal(c: u8) -> bool
     ensures { result ≡ is_hexadecimal c }
 {

@@ -28,7 +28,7 @@ pub fn parse(alloc: Global, text: &str) -> Result<Program, SyntaxError>
     Ok(Program::from_code(reader.into_code()))
 }
 
-// reads all tokens of a text
+/// Reads all tokens of a text.
 fn read(alloc: Global, text: &[u8]) -> Result<Reader, SyntaxError>
     ensures ok { IfOk result (λ r. run nothing_read (scan 0 0 text.now) ≡ Ok r) }
     ensures err { IfErr result (λ e. (e ≡ SyntaxError.OutOfMemory) ⊎ (run nothing_read (scan 0 0 text.now) ≡ Err e)) }
@@ -42,7 +42,7 @@ fn read(alloc: Global, text: &[u8]) -> Result<Reader, SyntaxError>
     Ok(reader)
 }
 
-// reads the token at a place, if one stands there, and gives the place behind it
+/// Reads the token at a place, if one stands there, and gives the place behind it.
 fn read_one(
     alloc: Global,
     reader: &mut Reader,
@@ -62,7 +62,7 @@ fn read_one(
     Ok(at + count)
 }
 
-// takes the token that stands at a place
+/// Takes the token that stands at a place.
 fn take_at(reader: &mut Reader, token: Token, at: usize) -> Result<(), SyntaxError>
     ensures { Places at result reader.new (step 64 token reader.old) }
 {
@@ -73,6 +73,7 @@ fn take_at(reader: &mut Reader, token: Token, at: usize) -> Result<(), SyntaxErr
     }
 }
 
+/// The error of a fault at a place.
 fn placed(fault: Fault, at: usize) -> SyntaxError
     ensures { result ≡ error_at fault at }
 {

@@ -22,6 +22,7 @@ pub fn print(alloc: Global, program: &Program) -> Result<String, AllocError>
     Ok(text)
 }
 
+/// Appends the text of an instruction.
 fn put(alloc: Global, text: &mut String, instruction: &Instruction) -> Result<(), AllocError>
     ensures { OnOk result (string_bytes text.new ≡ string_bytes text.old ++ instruction_text instruction.now) }
 {
@@ -46,13 +47,14 @@ fn put(alloc: Global, text: &mut String, instruction: &Instruction) -> Result<()
     }
 }
 
+/// Appends a text.
 fn put_text(text: &mut String, more: &str) -> Result<(), AllocError>
     ensures { OnOk result (string_bytes text.new ≡ string_bytes text.old ++ more.now) }
 {
-    text.push_str(more)?;
-    Ok(())
+    text.push_str(more)
 }
 
+/// Appends a text and a space.
 fn put_spaced(text: &mut String, more: &str) -> Result<(), AllocError>
     ensures { OnOk result (string_bytes text.new ≡ string_bytes text.old ++ (more.now ++ 32 ∷ [])) }
 {
@@ -61,6 +63,7 @@ fn put_spaced(text: &mut String, more: &str) -> Result<(), AllocError>
     Ok(())
 }
 
+/// Appends an assignment operator and a space.
 fn put_assignment(text: &mut String, operator: Option<BinaryOperator>) -> Result<(), AllocError>
     ensures { OnOk result (string_bytes text.new ≡ string_bytes text.old ++ (assignment_text operator ++ 32 ∷ [])) }
 {
@@ -70,6 +73,7 @@ fn put_assignment(text: &mut String, operator: Option<BinaryOperator>) -> Result
     put_spaced(text, "=")
 }
 
+/// The text of a unary operator.
 fn sign_text(operator: UnaryOperator) -> &'static str
     ensures { result.now ≡ sign_text operator }
 {
@@ -81,6 +85,7 @@ fn sign_text(operator: UnaryOperator) -> &'static str
     }
 }
 
+/// The text of a binary operator.
 fn operator_text(operator: BinaryOperator) -> &'static str
     ensures { result.now ≡ operator_text operator }
 {

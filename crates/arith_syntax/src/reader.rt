@@ -9,7 +9,6 @@ use crate::operators::{BinaryOperator, UnaryOperator};
 use crate::pending::Pending;
 use crate::refusal::{Fault, Refusal};
 use crate::token::Token;
-use cluster_types::copying::TryCopy;
 use std::alloc::{AllocError, Global};
 use std::marker::Model;
 
@@ -34,6 +33,7 @@ impl Model for Reader {
 }
 
 impl Reader {
+    /// Nothing read.
     pub fn new(alloc: Global) -> Reader
         ensures { result ≡ nothing_read }
     {
@@ -49,12 +49,7 @@ impl Reader {
     pub fn into_code(self) -> Vec<Instruction>
         ensures { reverse result.items ≡ self.code }
     {
-        let Reader {
-            code,
-            waits: _,
-            complete: _,
-            depth: _,
-        } = self;
+        let Reader { code, .. } = self;
         code
     }
 
@@ -69,7 +64,7 @@ impl Reader {
         }
     }
 
-    // where an operand is awaited
+    /// Takes a token where an operand is awaited.
     fn take_first(&mut self, token: Token) -> Result<(), Refusal>
         ensures { Steps result self.new (first_step 64 token self.old) }
     {
@@ -88,7 +83,7 @@ impl Reader {
         }
     }
 
-    // behind an operand
+    /// Takes a token behind an operand.
     fn take_next(&mut self, token: Token) -> Result<(), Refusal>
         ensures { Steps result self.new (next_step 64 token self.old) }
     {
@@ -116,6 +111,7 @@ impl Reader {
         }
     }
 
+    /// Takes an operand.
     fn take_operand(&mut self, instruction: Instruction) -> Result<(), Refusal>
         ensures { Steps result self.new (operand instruction self.old) }
     {
@@ -124,13 +120,14 @@ impl Reader {
         Ok(())
     }
 
+    /// Takes a unary operator.
     fn take_sign(&mut self, operator: UnaryOperator) -> Result<(), Refusal>
         ensures { Steps result self.new (nested 64 (Instruction.Sign operator) (Pending.Prefixed operator) self.old.code self.old.waits) }
     {
         self.nest(Instruction::Sign(operator), Pending::Prefixed(operator))
     }
 
-    // opens one more construct
+    /// Opens one more construct.
     fn nest(&mut self, instruction: Instruction, pending: Pending) -> Result<(), Refusal>
         requires { nests pending ≡ 1 }
         ensures { Steps result self.new (nested 64 instruction pending self.old.code self.old.waits) }
@@ -145,6 +142,7 @@ impl Reader {
         Ok(())
     }
 
+    /// Ends an expression that has no token.
     fn end_empty(&self) -> Result<(), Refusal>
         ensures { Steps result self.now (empty_expression self.now self.now.waits) }
     {
@@ -155,6 +153,7 @@ impl Reader {
         }
     }
 
+    /// Takes a binary operator.
     fn take_operator(&mut self, operator: BinaryOperator) -> Result<(), Refusal>
         ensures { Steps result self.new (next_step 64 (Token.Binary operator) self.old) }
     {
@@ -165,7 +164,7 @@ impl Reader {
         Ok(())
     }
 
-    // what binds at least so tight takes the operand
+    /// What binds at least so tight takes the operand.
     fn close(&mut self, tight: usize) -> Result<(), Refusal>
         ensures ok { OnOk result (self.new ≡ close tight self.old.code self.old.waits) }
         ensures err { OnErr result (result ≡ Err Refusal.OutOfMemory) }
@@ -177,7 +176,7 @@ impl Reader {
         Ok(())
     }
 
-    // the newest of what waits, where it binds at least so tight
+    /// The newest of what waits, where it binds at least so tight.
     fn pop_tighter(&mut self, tight: usize) -> Option<Pending>
         ensures some { IfSome result (λ p. (self.old.waits ≡ p ∷ self.new.waits) × (tight ≤ tightness p)) }
         ensures none { IfNone result ((self.new ≡ self.old) × IsLooser tight self.old.waits) }
@@ -193,6 +192,7 @@ impl Reader {
         Some(pending)
     }
 
+    /// Takes the `:` of a choice.
     fn take_choice(&mut self) -> Result<(), Refusal>
         ensures { Steps result self.new (second_choice self.old.code self.old.waits) }
     {
@@ -206,6 +206,7 @@ impl Reader {
         Ok(())
     }
 
+    /// Takes the `)` of a parenthesis.
     fn take_parenthesis(&mut self) -> Result<(), Refusal>
         ensures { Steps result self.new (parenthesized self.old.code self.old.waits) }
     {
@@ -219,6 +220,7 @@ impl Reader {
         Ok(())
     }
 
+    /// Ends an expression.
     fn end(&mut self) -> Result<(), Refusal>
         ensures { Steps result self.new (expression_end self.old.code self.old.waits) }
     {
@@ -230,6 +232,7 @@ impl Reader {
         Ok(())
     }
 
+    /// Whether an assignment can stand here.
     fn may_assign(&self) -> bool
         ensures { result ≡ may_assign self.now.waits }
     {
@@ -240,6 +243,7 @@ impl Reader {
         }
     }
 
+    /// Takes an assignment operator behind the name that it assigns to.
     fn take_assignment(&mut self, operator: Option<BinaryOperator>) -> Result<(), Refusal>
         ensures { Steps result self.new (assignment 64 operator self.old.code self.old.waits) }
     {
@@ -250,7 +254,7 @@ impl Reader {
         if !may {
             return Err(Refusal::Fault(Fault::Misplaced));
         }
-        let again = name.copy()?;
+        let again = name.clone()?;
         self.nest(
             Instruction::Target(name, operator),
             Pending::Assigned(again, operator),
@@ -279,6 +283,7 @@ pub fn level(operator: BinaryOperator) -> usize
     }
 }
 
+/// How tight what waits binds.
 fn tightness_of(pending: &Pending) -> usize
     ensures { result ≡ tightness pending.now }
 {
@@ -291,6 +296,7 @@ fn tightness_of(pending: &Pending) -> usize
     }
 }
 
+/// The instruction that ends what waits.
 fn ending_of(pending: Pending) -> Instruction
     ensures { result ≡ ending pending }
 {

@@ -28,6 +28,7 @@ pub fn token_at(alloc: Global, octets: &[u8]) -> Result<(Token, usize), AllocErr
     }
 }
 
+/// The octet at a place, or 0 behind the end.
 fn octet_at(octets: &[u8], place: usize) -> u8
     ensures { result ≡ get_or octets.now place 0 }
 {
@@ -38,7 +39,7 @@ fn octet_at(octets: &[u8], place: usize) -> u8
     }
 }
 
-// how many letters, digits and `_` stand at the front
+/// How many letters, digits and `_` stand at the front.
 fn run_length(octets: &[u8]) -> usize
     ensures { result ≡ prefix_len is_word octets.now }
 {
@@ -49,7 +50,7 @@ fn run_length(octets: &[u8]) -> usize
     count
 }
 
-// a name, or a constant
+/// The name or the constant that a run of letters, digits and `_` spells.
 fn word(alloc: Global, run: &[u8]) -> Result<Token, AllocError>
     requires first { 0 < length run.now }
     requires words { list_all is_word run.now ≡ true }
@@ -65,6 +66,7 @@ fn word(alloc: Global, run: &[u8]) -> Result<Token, AllocError>
     Ok(Token::Name(name))
 }
 
+/// The text of a name.
 fn name_of(alloc: Global, run: &[u8]) -> Result<Text, AllocError>
     requires { list_all is_word run.now ≡ true }
     ensures { IfOk result (λ t. t ≡ run.now) }
@@ -75,7 +77,7 @@ fn name_of(alloc: Global, run: &[u8]) -> Result<Text, AllocError>
     }
 }
 
-// the longest token that begins with the first of three octets, where it is no letter, digit or `_`
+/// The longest token that begins with the first of three octets, where it is no letter, digit or `_`.
 #[tactic(auto, unfolding(crate::specs::Lexical::symbol))]
 fn symbol(first: u8, second: u8, third: u8) -> (Token, usize)
     ensures { (result.0, result.1) ≡ symbol first second third }
@@ -95,12 +97,14 @@ fn symbol(first: u8, second: u8, third: u8) -> (Token, usize)
     (single(first), 1)
 }
 
+/// Whether it is no token.
 fn is_bad(token: &Token) -> bool
     ensures { result ≡ is_bad token.now }
 {
     matches!(token, Token::Bad)
 }
 
+/// The token of three octets.
 fn three_of(first: u8, second: u8, third: u8) -> Token
     ensures { result ≡ (if second == first && third == 61 then shifts first else Token.Bad) }
 {
@@ -111,6 +115,7 @@ fn three_of(first: u8, second: u8, third: u8) -> Token
     }
 }
 
+/// The token of an octet and `=`.
 fn equals_of(first: u8, second: u8) -> Token
     ensures { result ≡ (if second == 61 then with_equals first else Token.Bad) }
 {
@@ -121,6 +126,7 @@ fn equals_of(first: u8, second: u8) -> Token
     }
 }
 
+/// The token of the same octet twice.
 fn twice_of(first: u8, second: u8) -> Token
     ensures { result ≡ (if second == first then doubled first else Token.Bad) }
 {
@@ -131,6 +137,7 @@ fn twice_of(first: u8, second: u8) -> Token
     }
 }
 
+/// The assignment operator that an octet begins, which stands twice, with `=` behind.
 fn shifts(c: u8) -> Token
     ensures { result ≡ shifts c }
 {
@@ -141,6 +148,7 @@ fn shifts(c: u8) -> Token
     }
 }
 
+/// The token that an octet begins, with `=` behind.
 fn with_equals(c: u8) -> Token
     ensures { result ≡ with_equals c }
 {
@@ -161,6 +169,7 @@ fn with_equals(c: u8) -> Token
     }
 }
 
+/// The token that an octet begins, which stands twice.
 fn doubled(c: u8) -> Token
     ensures { result ≡ doubled c }
 {
@@ -173,6 +182,7 @@ fn doubled(c: u8) -> Token
     }
 }
 
+/// The token of one octet.
 fn single(c: u8) -> Token
     ensures { result ≡ single c }
 {
@@ -199,12 +209,14 @@ fn single(c: u8) -> Token
     }
 }
 
+/// Whether it is a letter or `_`.
 fn is_letter(c: u8) -> bool
     ensures { result ≡ is_letter c }
 {
     c >= b'A' && c <= b'Z' || c >= b'a' && c <= b'z' || c == b'_'
 }
 
+/// Whether it is a letter, a digit or `_`.
 fn is_word(c: u8) -> bool
     ensures { result ≡ is_word c }
 {

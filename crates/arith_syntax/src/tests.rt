@@ -41,79 +41,66 @@ fn printed(alloc: Global, text: &str) -> Result<String, SyntaxError> {
     Ok(print(alloc, &program)?)
 }
 
+/// Texts, what comes of them, and the places of their faults. Then constants at their limits.
+const ROWS: &[(&str, &str, usize)] = &[
+    ("08", "BadToken", 0),
+    ("1+", "BadSyntax", 2),
+    ("9223372036854775808", "ConstantTooLarge", 0),
+    ("1 9223372036854775808", "BadSyntax", 2),
+    ("x+1=3", "BadSyntax", 3),
+    ("(x)=1", "BadSyntax", 3),
+    ("a?b:c=1", "BadSyntax", 5),
+    ("@", "BadToken", 0),
+    ("1+1@", "BadToken", 3),
+    (")", "BadSyntax", 0),
+    ("(1", "BadSyntax", 2),
+    ("1 2 @", "BadSyntax", 2),
+    ("1;2)", "BadSyntax", 3),
+    ("1+9223372036854775808", "ConstantTooLarge", 2),
+    ("x===1", "BadSyntax", 3),
+    ("1 ? 2", "BadSyntax", 5),
+    ("(1;2)", "BadSyntax", 2),
+    ("1+\u{e9}", "BadToken", 2),
+    ("9223372036854775807", "Ok", 0),
+    ("0777777777777777777777", "Ok", 0),
+    ("01000000000000000000000", "ConstantTooLarge", 0),
+    ("0x7fffFFFFffffFFFF", "Ok", 0),
+    ("0X8000000000000000", "ConstantTooLarge", 0),
+    ("0x", "BadToken", 0),
+    ("0xg", "BadToken", 0),
+    ("1a", "BadToken", 0),
+    ("0", "Ok", 0),
+];
+
+/// Texts of a front, so many equal pieces, a middle and as many ends, with what comes of them.
+const LONG_ROWS: &[(&str, &str, usize, &str, &str, &str, usize)] = &[
+    ("", "(", 64, "1", ")", "Ok", 0),
+    ("", "(", 65, "1", ")", "TooDeep", 64),
+    ("", "- ", 64, "1", "", "Ok", 0),
+    ("", "- ", 65, "1", "", "TooDeep", 128),
+    ("", "a=", 65, "1", "", "TooDeep", 129),
+    ("", "a?1:", 65, "1", "", "TooDeep", 257),
+    ("", " ", 65_536, "", "", "Ok", 0),
+    ("", "@", 65_537, "", "", "TooLong", 0),
+    ("1", "+1", 30_000, "", "", "Ok", 0),
+    ("", "x", 255, "", "", "Ok", 0),
+    ("", "x", 256, "", "", "BadToken", 0),
+];
+
 #[test]
-fn first_faults(rt: HostRuntime) {
-    for (text, name, at) in [
-        ("08", "BadToken", 0),
-        ("1+", "BadSyntax", 2),
-        ("9223372036854775808", "ConstantTooLarge", 0),
-        ("1 9223372036854775808", "BadSyntax", 2),
-        ("x+1=3", "BadSyntax", 3),
-        ("(x)=1", "BadSyntax", 3),
-        ("a?b:c=1", "BadSyntax", 5),
-        ("@", "BadToken", 0),
-        ("1+1@", "BadToken", 3),
-        (")", "BadSyntax", 0),
-        ("(1", "BadSyntax", 2),
-        ("1 2 @", "BadSyntax", 2),
-        ("1;2)", "BadSyntax", 3),
-        ("1+9223372036854775808", "ConstantTooLarge", 2),
-        ("x===1", "BadSyntax", 3),
-        ("1 ? 2", "BadSyntax", 5),
-        ("(1;2)", "BadSyntax", 2),
-        ("1+\u{e9}", "BadToken", 2),
-    ] {
-        assert_eq!(rt; outcome(rt.alloc(), text), (name, at), "at {text}");
+fn single_texts(rt: HostRuntime) {
+    for (text, name, at) in ROWS {
+        assert_eq!(rt; outcome(rt.alloc(), text), (*name, *at), "at {text}");
     }
 }
 
 #[test]
-fn constants_at_their_limits(rt: HostRuntime) {
-    for (text, name) in [
-        ("9223372036854775807", "Ok"),
-        ("0777777777777777777777", "Ok"),
-        ("01000000000000000000000", "ConstantTooLarge"),
-        ("0x7fffFFFFffffFFFF", "Ok"),
-        ("0X8000000000000000", "ConstantTooLarge"),
-        ("0x", "BadToken"),
-        ("0xg", "BadToken"),
-        ("1a", "BadToken"),
-        ("0", "Ok"),
-    ] {
-        assert_eq!(rt; outcome(rt.alloc(), text), (name, 0), "at {text}");
-    }
-}
-
-#[test]
-fn nesting(rt: HostRuntime) -> Result<(), Fail> {
+fn nesting_and_lengths(rt: HostRuntime) -> Result<(), Fail> {
     let alloc = rt.alloc();
-    for (open, close, times, name, at) in [
-        ("(", ")", 64, "Ok", 0),
-        ("(", ")", 65, "TooDeep", 64),
-        ("- ", "", 64, "Ok", 0),
-        ("- ", "", 65, "TooDeep", 128),
-        ("a=", "", 65, "TooDeep", 129),
-        ("a?1:", "", 65, "TooDeep", 257),
-    ] {
-        let front = repeated(alloc, "", open, times, "1")?;
-        let text = repeated(alloc, front.as_str(), close, times, "")?;
-        assert_eq!(rt; outcome(alloc, text.as_str()), (name, at), "at {open}");
-    }
-    Ok(())
-}
-
-#[test]
-fn lengths(rt: HostRuntime) -> Result<(), Fail> {
-    let alloc = rt.alloc();
-    for (front, piece, times, name) in [
-        ("", " ", 65_536, "Ok"),
-        ("", "@", 65_537, "TooLong"),
-        ("1", "+1", 30_000, "Ok"),
-        ("", "x", 255, "Ok"),
-        ("", "x", 256, "BadToken"),
-    ] {
-        let text = repeated(alloc, front, piece, times, "")?;
-        assert_eq!(rt; outcome(alloc, text.as_str()), (name, 0), "at {piece}");
+    for (front, piece, times, middle, end, name, at) in LONG_ROWS {
+        let front = repeated(alloc, front, piece, *times, middle)?;
+        let text = repeated(alloc, front.as_str(), end, *times, "")?;
+        assert_eq!(rt; outcome(alloc, text.as_str()), (*name, *at), "at {piece}");
     }
     Ok(())
 }

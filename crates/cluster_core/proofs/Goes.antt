@@ -8,9 +8,9 @@ use Rattle.cluster_defs.specs.Facts.{event_in}
 use Rattle.cluster_defs.specs.Scheduling.{due, Allowed, is_kept_as}
 use Rattle.cluster_defs.specs.Histories.{History, facts, is_stopping}
 use Rattle.cluster_defs.specs.Outs.{outs_as}
-use Rattle.cluster_outs.specs.Reached.{IsNext}
-use Rattle.cluster_state.specs.Plain.{Plain, InTime, facts_in, after}
-use Rattle.cluster_core.specs.Steps.{PlanView, Stands, planned, IsGrown, kept_one, stops_after, place_after}
+use Rattle.entry_outs.specs.Reached.{IsNext}
+use Rattle.cluster_state.specs.Plain.{Plain, InTime, facts_in, plain_after}
+use Rattle.cluster_core.specs.Steps.{PlanView, IsReadOff, planned, IsGrown, kept_one, stops_after, entry_place}
 use Rattle.cluster_core.proofs.Growing.{due_allowed, due_in_time, due_place, plain_time, grown_first}
 use Rattle.cluster_core.proofs.Plans.{place_is}
 
@@ -27,10 +27,10 @@ next_time old p d is = due_in_time (facts (planned old p)) d is
 pub now_time : (old : History) (p : PlanView) → IsGrown old p → p.plain.moment ≤ 253402300799999
 now_time old p g = plain_time (planned old p) p.plain p.place g.stands
 
-pub next_place : (old : History) (p : PlanView) (d : Entry) → IsGrown old p → due (facts (planned old p)) ≡ Some d → place_after d p.place ≡ p.place + 1
+pub next_place : (old : History) (p : PlanView) (d : Entry) → IsGrown old p → due (facts (planned old p)) ≡ Some d → entry_place d p.place ≡ p.place + 1
 next_place old p d g is =
     let one : suc p.place ≡ p.place + 1 = omega arith in
-    ap (place_after d) g.stands.place_is ∙ sym (place_is (planned old p) d) ∙ due_place (planned old p) d is ∙ ap suc (sym g.stands.place_is) ∙ one
+    ap (entry_place d) g.stands.place_is ∙ sym (place_is (planned old p) d) ∙ due_place (planned old p) d is ∙ ap suc (sym g.stands.place_is) ∙ one
 
 -- a plan that has an input alone
 pub record Begun (old : History) (before : Plain) (at : ℕ) (p : PlanView) (input : InputType) (event : Option Event) : Type 0 where
@@ -38,13 +38,13 @@ pub record Begun (old : History) (before : Plain) (at : ℕ) (p : PlanView) (inp
   pub time : InTime (Input input)
   pub event_is : event ≡ event_in (facts old) (Input input)
   pub alone : p.decisions ≡ []
-  pub place : p.place ≡ place_after (Input input) at
-  pub plain : p.plain ≡ after (facts_in before) (Input input) event before
+  pub place : p.place ≡ entry_place (Input input) at
+  pub plain : p.plain ≡ plain_after (facts_in before) (Input input) event before
   pub outs : p.outs ≡ outs_as p.place (facts_in before) (Input input) event
   pub kept : p.kept ≡ kept_one (is_kept_as (facts_in before) (Input input) event) (Input input)
   pub stops : p.stops ≡ stops_after (is_stopping old) input event
 
-pub grown_begun : (old : History) (before : Plain) (at : ℕ) (p : PlanView) (input : InputType) (event : Option Event) → Stands old before at → p.input ≡ input → Begun old before at p input event → IsGrown old p
+pub grown_begun : (old : History) (before : Plain) (at : ℕ) (p : PlanView) (input : InputType) (event : Option Event) → IsReadOff old before at → p.input ≡ input → Begun old before at p input event → IsGrown old p
 grown_begun old before at p input event s same begun =
     let b : Begun old before at p p.input event = subst (λ (i : InputType). Begun old before at p i event) (sym same) begun in
-    grown_first old before at p event s b.allowed b.time b.event_is b.alone (b.place ∙ ap (place_after (Input p.input)) s.place_is ∙ sym (place_is old (Input p.input))) b.plain b.outs b.kept b.stops
+    grown_first old before at p event s b.allowed b.time b.event_is b.alone (b.place ∙ ap (entry_place (Input p.input)) s.place_is ∙ sym (place_is old (Input p.input))) b.plain b.outs b.kept b.stops

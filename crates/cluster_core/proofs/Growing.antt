@@ -16,11 +16,11 @@ use Rattle.cluster_defs.specs.Outs.{outs, outs_as, outs_from}
 use Rattle.cluster_defs.proofs.Decide.{decide_all_more}
 use Rattle.cluster_defs.proofs.Falls.{due_falls}
 use Rattle.cluster_defs.proofs.Says.{due_says}
-use Rattle.cluster_state.specs.Plain.{Plain, facts_in, after, InTime}
+use Rattle.cluster_state.specs.Plain.{Plain, facts_in, plain_after, InTime}
 use Rattle.cluster_state.proofs.Exact.{exact}
 use Rattle.cluster_state.proofs.Steps.{taken_is}
 use Rattle.cluster_core.specs.More.{IsMore}
-use Rattle.cluster_core.specs.Steps.{PlanView, planned, AllInTime, kept_one, kept_from, Stands, IsGrown, stops_after}
+use Rattle.cluster_core.specs.Steps.{PlanView, planned, AllInTime, kept_one, kept_from, IsReadOff, IsGrown, stops_after}
 
 -- ENTRIES
 
@@ -88,21 +88,21 @@ moment_time (Settle id v c ∷ older) time = moment_time older time.1
 moment_time (Lose n ∷ older) time = moment_time older time.1
 
 -- data that stand are in time
-pub plain_time : (h : History) (p : Plain) (at : ℕ) → Stands h p at → p.moment ≤ 253402300799999
+pub plain_time : (h : History) (p : Plain) (at : ℕ) → IsReadOff h p at → p.moment ≤ 253402300799999
 plain_time h p at s = subst (λ (q : Plain). q.moment ≤ 253402300799999) (sym s.data_are) (moment_time h s.time)
 
 -- an entry more
-pub stands_more : (h : History) (p q : Plain) (at next_at : ℕ) (e : Entry) (event : Option Event) → Stands h p at → Allowed (facts h) e → InTime e → event ≡ event_in (facts h) e →
-    q ≡ after (facts_in p) e event p → next_at ≡ place (e ∷ h) → Stands (e ∷ h) q next_at
+pub stands_more : (h : History) (p q : Plain) (at next_at : ℕ) (e : Entry) (event : Option Event) → IsReadOff h p at → Allowed (facts h) e → InTime e → event ≡ event_in (facts h) e →
+    q ≡ plain_after (facts_in p) e event p → next_at ≡ place (e ∷ h) → IsReadOff (e ∷ h) q next_at
 stands_more h p q at next_at e event s allowed time meant is placed = record {
   legal = (allowed, s.legal);
   time = (time, s.time);
-  data_are = taken_is h e p q (allowed, s.legal) s.data_are (is ∙ ap (λ o. after (facts_in p) e o p) meant);
+  data_are = taken_is h e p q (allowed, s.legal) s.data_are (is ∙ ap (λ o. plain_after (facts_in p) e o p) meant);
   place_is = placed;
 }
 
 -- what is read of data that stand is what is read of the history
-pub facts_told : (h : History) (p : Plain) (at : ℕ) → Stands h p at → facts_in p ≡ facts h
+pub facts_told : (h : History) (p : Plain) (at : ℕ) → IsReadOff h p at → facts_in p ≡ facts h
 facts_told h p at s = ap facts_in s.data_are ∙ exact h s.legal
 
 -- OUTS AND KEPT ENTRIES
@@ -140,15 +140,15 @@ planned_length old input ds =
     omega (arith, a)
 
 -- a plan with an input alone
-pub grown_first : (old : History) (before : Plain) (at : ℕ) (p : PlanView) (event : Option Event) → Stands old before at → Allowed (facts old) (Input p.input) → InTime (Input p.input) →
-    event ≡ event_in (facts old) (Input p.input) → p.decisions ≡ [] → p.place ≡ place (Input p.input ∷ old) → p.plain ≡ after (facts_in before) (Input p.input) event before →
+pub grown_first : (old : History) (before : Plain) (at : ℕ) (p : PlanView) (event : Option Event) → IsReadOff old before at → Allowed (facts old) (Input p.input) → InTime (Input p.input) →
+    event ≡ event_in (facts old) (Input p.input) → p.decisions ≡ [] → p.place ≡ place (Input p.input ∷ old) → p.plain ≡ plain_after (facts_in before) (Input p.input) event before →
     p.outs ≡ outs_as p.place (facts_in before) (Input p.input) event → p.kept ≡ kept_one (is_kept_as (facts_in before) (Input p.input) event) (Input p.input) →
     p.stops ≡ stops_after (is_stopping old) p.input event → IsGrown old p
 grown_first old before at p event s allowed time meant none placed data_is sends keeps stops =
     let alone : planned old p ≡ Input p.input ∷ old = ap (λ (ds : List Entry). reverse ds ++ Input p.input ∷ old) none in
     let told : facts_in before ≡ facts old = facts_told old before at s in
     record {
-      stands = subst (λ (h : History). Stands h p.plain p.place) (sym alone) (stands_more old before p.plain at p.place (Input p.input) event s allowed time meant data_is placed);
+      stands = subst (λ (h : History). IsReadOff h p.plain p.place) (sym alone) (stands_more old before p.plain at p.place (Input p.input) event s allowed time meant data_is placed);
       outs_are = sends ∙ ap (λ n. outs_as n (facts_in before) (Input p.input) event) placed ∙ ap (λ f. outs_as (place (Input p.input ∷ old)) f (Input p.input) event) told
           ∙ ap (λ o. outs_as (place (Input p.input ∷ old)) (facts old) (Input p.input) o) meant ∙ sym (outs_first (Input p.input) old) ∙ ap (outs_from (length old)) (sym alone);
       kept_are = keeps ∙ ap (λ f. kept_one (is_kept_as f (Input p.input) event) (Input p.input)) told ∙ ap (λ o. kept_one (is_kept_as (facts old) (Input p.input) o) (Input p.input)) meant
@@ -169,7 +169,7 @@ grown_more old p q d g is more =
     let no_event = due_no_event (facts (planned old p)) d is in
     let placed : q.place ≡ place (d ∷ planned old p) = more.place ∙ ap suc g.stands.place_is ∙ sym (due_place (planned old p) d is) in
     record {
-      stands = subst (λ (k : History). Stands k q.plain q.place) (sym further)
+      stands = subst (λ (k : History). IsReadOff k q.plain q.place) (sym further)
           (stands_more (planned old p) p.plain q.plain p.place q.place d None g.stands (due_allowed (facts (planned old p)) d is) (due_in_time (facts (planned old p)) d is) (sym no_event) more.plain placed);
       outs_are = more.outs ∙ ap (λ os. os ++ outs_as q.place (facts_in p.plain) d None) g.outs_are
           ∙ ap (λ n. outs_from (length old) (planned old p) ++ outs_as n (facts_in p.plain) d None) placed

@@ -10,15 +10,15 @@ use Rattle.cluster_defs.specs.Scheduling.{due, Allowed, open_work}
 use Rattle.cluster_defs.specs.Histories.{History, facts, Legal, place, is_stopping, go_on, decided, decide_all}
 use Rattle.cluster_defs.specs.Outs.{outs_from}
 use Rattle.cluster_defs.proofs.Falls.{due_falls}
-use Rattle.cluster_state.specs.Plain.{Plain, facts_in, after, InTime}
-use Rattle.cluster_core.specs.Steps.{CoreView, PlanView, planned, AllInTime, Stands, IsGrown, IsPlan, kept_from, place_after}
+use Rattle.cluster_state.specs.Plain.{Plain, facts_in, plain_after, InTime}
+use Rattle.cluster_core.specs.Steps.{CoreView, PlanView, planned, AllInTime, IsReadOff, IsGrown, IsPlan, kept_from, entry_place}
 use Rattle.cluster_core.proofs.Growing.{stands_more, facts_told}
 
 -- a list to which an input and decisions were added, seen with the newest entry first
 pub reverse_added : (xs ds : List Entry) (e : Entry) → reverse ((xs ++ e ∷ []) ++ ds) ≡ reverse ds ++ e ∷ reverse xs
 reverse_added xs ds e = reverse-append (xs ++ e ∷ []) ds ∙ ap (λ (ys : List Entry). reverse ds ++ ys) (reverse-append xs (e ∷ []))
 
-pub place_is : (h : History) (e : Entry) → place (e ∷ h) ≡ place_after e (place h)
+pub place_is : (h : History) (e : Entry) → place (e ∷ h) ≡ entry_place e (place h)
 place_is h (Input (Open moment scheme hwm misses)) = refl
 place_is h (Input (Up conn channel moment word identity)) = refl
 place_is h (Input (Down conn moment word)) = refl
@@ -59,15 +59,15 @@ time_at xs i e lt is time =
     here.0
 
 -- data that stand for a front of a history stand for one entry more
-pub stands_at : (xs : List Entry) (i : ℕ) (e : Entry) (p q : Plain) (at next_at : ℕ) → i < length xs → e ≡ get_or xs i e → Legal (reverse xs) → AllInTime (reverse xs) → Stands (reverse (take i xs)) p at →
-    q ≡ after (facts_in p) e (event_in (facts_in p) e) p → next_at ≡ place_after e at → Stands (reverse (take (i + 1) xs)) q next_at
+pub stands_at : (xs : List Entry) (i : ℕ) (e : Entry) (p q : Plain) (at next_at : ℕ) → i < length xs → e ≡ get_or xs i e → Legal (reverse xs) → AllInTime (reverse xs) → IsReadOff (reverse (take i xs)) p at →
+    q ≡ plain_after (facts_in p) e (event_in (facts_in p) e) p → next_at ≡ entry_place e at → IsReadOff (reverse (take (i + 1) xs)) q next_at
 stands_at xs i e p q at next_at lt is legal time s taken placed =
     let front : take (i + 1) xs ≡ take i xs ++ e ∷ [] = take_more xs i e lt ∙ ap (λ (x : Entry). take i xs ++ x ∷ []) (sym is) in
     let turned : reverse (take (i + 1) xs) ≡ e ∷ reverse (take i xs) = ap reverse front ∙ reverse-append (take i xs) (e ∷ []) in
     let told : facts_in p ≡ facts (reverse (take i xs)) = facts_told (reverse (take i xs)) p at s in
-    subst (λ (h : History). Stands h q next_at) (sym turned)
+    subst (λ (h : History). IsReadOff h q next_at) (sym turned)
     (stands_more (reverse (take i xs)) p q at next_at e (event_in (facts_in p) e) s (allowed_at xs i e lt is legal) (time_at xs i e lt is time) (ap (λ f. event_in f e) told) taken
-    (placed ∙ ap (place_after e) s.place_is ∙ sym (place_is (reverse (take i xs)) e)))
+    (placed ∙ ap (entry_place e) s.place_is ∙ sym (place_is (reverse (take i xs)) e)))
 
 -- AFTER ALL DECISIONS NONE IS DUE
 
@@ -90,7 +90,7 @@ decide_all_rests h = rests_decided (open_work (facts h)) h (omega arith)
 -- APPLIED PLANS
 
 pub record Applied (old : History) (p q : PlanView) (new : History) : Type 0 where
-  pub stands : Stands new q.plain q.place
+  pub stands : IsReadOff new q.plain q.place
   pub rests : due (facts new) ≡ None
   pub history : new ≡ decide_all (Input p.input ∷ old)
   pub outs : q.outs ≡ outs_from (length old) new

@@ -47,7 +47,7 @@ kept_from at [] = []
 kept_from at (e ∷ older) = if nat_lt (length older) at then [] else kept_from at older ++ kept_one (is_kept (facts older) e) e
 
 -- a legal history in time, with the data that are read off it
-pub record Stands (history : History) (p : Plain) (at : ℕ) : Type 0 where
+pub record IsReadOff (history : History) (p : Plain) (at : ℕ) : Type 0 where
   pub legal : Legal history
   pub time : AllInTime history
   pub data_are : p ≡ plain_of (facts history)
@@ -55,7 +55,7 @@ pub record Stands (history : History) (p : Plain) (at : ℕ) : Type 0 where
 
 -- outs, kept entries and data are those of the input and the decisions so far
 pub record IsGrown (old : History) (p : PlanView) : Type 0 where
-  pub stands : Stands (planned old p) p.plain p.place
+  pub stands : IsReadOff (planned old p) p.plain p.place
   pub outs_are : p.outs ≡ outs_from (length old) (planned old p)
   pub kept_are : p.kept ≡ kept_from (length old) (planned old p)
   pub stops_is : p.stops ≡ is_stopping (planned old p)
@@ -77,6 +77,6 @@ stops_after was (Open moment scheme hwm misses) event = false
 stops_after was input event = asks_shutdown event || was
 
 -- the place of an entry behind one at a place
-abbrev pub place_after : Entry → ℕ → ℕ
-place_after (Input (Open moment scheme hwm misses)) at = 0
-place_after _ at = suc at
+abbrev pub entry_place : Entry → ℕ → ℕ
+entry_place (Input (Open moment scheme hwm misses)) at = 0
+entry_place _ at = suc at

@@ -1,7 +1,7 @@
 //! The core of a controller: it takes inputs, makes the decisions that are due, and says what to send and to keep.
 #![tactic(auto)]
 
-mod intake;
+mod known;
 mod live;
 pub mod machine;
 pub mod meaning;

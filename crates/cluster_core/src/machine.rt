@@ -10,10 +10,10 @@ ghost use Rattle.cluster_defs.specs.Histories.{facts, Legal, is_stopping, decide
 ghost use Rattle.cluster_defs.specs.Outs.{outs_from};
 ghost use Rattle.cluster_state.specs.Plain.{InTime, facts_in};
 ghost use Rattle.cluster_state.specs.Stands.{plain};
-ghost use Rattle.cluster_outs.specs.Asked.{type_on, told_type};
-ghost use Rattle.cluster_core.specs.Steps.{IsPlan, planned, kept_from, AllInTime, Stands};
+ghost use Rattle.entry_outs.specs.Asked.{type_on, told_type};
+ghost use Rattle.cluster_core.specs.Steps.{IsPlan, planned, kept_from, AllInTime, IsReadOff};
 
-use crate::intake::{Known, may_take, meaning_of_input, rebuilt};
+use crate::known::{Known, may_take, meaning_of_input, rebuilt};
 use crate::live::channel_told;
 use crate::meaning::Meaning;
 use crate::plan::Plan;
@@ -53,13 +53,13 @@ impl Model for Core {
     ghost use Rattle.cluster_defs.specs.Scheduling.{due};
     ghost use Rattle.cluster_defs.specs.Histories.{facts, Legal, is_stopping};
     ghost use Rattle.cluster_state.specs.Stands.{plain};
-    ghost use Rattle.cluster_core.specs.Steps.{CoreView, AllInTime, Stands};
+    ghost use Rattle.cluster_core.specs.Steps.{CoreView, AllInTime, IsReadOff};
 
     ghost Value = { CoreView };
 
     ghost view = { λ c. record { history = reverse c.entries.items; spare = vec_capacity c.entries - vec_len c.entries } };
 
-    ghost invariant = { λ c. Legal (reverse c.entries.items) × (due (facts (reverse c.entries.items)) ≡ None) × AllInTime (reverse c.entries.items) × (c.live ≡ length (facts (reverse c.entries.items)).connections) × (c.stops ≡ is_stopping (reverse c.entries.items)) × ForSome c.known (λ k. Stands (reverse c.entries.items) (plain k.state) k.place) };
+    ghost invariant = { λ c. Legal (reverse c.entries.items) × (due (facts (reverse c.entries.items)) ≡ None) × AllInTime (reverse c.entries.items) × (c.live ≡ length (facts (reverse c.entries.items)).connections) × (c.stops ≡ is_stopping (reverse c.entries.items)) × ForSome c.known (λ k. IsReadOff (reverse c.entries.items) (plain k.state) k.place) };
 }
 
 impl Core {
@@ -121,7 +121,7 @@ impl Core {
     /// What is known after the history. Where a step was given up, it is read off the entries again.
     fn take_known(&mut self) -> Result<Known, AllocError>
         ensures same { self.new.history ≡ self.old.history }
-        ensures known { IfOk result (λ k. Stands self.old.history (plain k.state) k.place) }
+        ensures known { IfOk result (λ k. IsReadOff self.old.history (plain k.state) k.place) }
     {
         let cached = self.known.take();
         known_after(*self.entries.allocator(), cached, self.entries.as_slice())
@@ -129,7 +129,7 @@ impl Core {
 
     /// Keeps what is known.
     fn keep_known(&mut self, known: Known)
-        requires { Stands self.old.history (plain known.state) known.place }
+        requires { IsReadOff self.old.history (plain known.state) known.place }
         ensures { self.new.history ≡ self.old.history }
     {
         self.known = Some(known);
@@ -245,7 +245,7 @@ impl Core {
 /// The channel of a connection, by what is known, or else by the entries.
 fn channel_in(known: Option<&Known>, entries: &[Entry], conn: u32) -> Option<Channel>
     requires legal { Legal (reverse entries.now) }
-    requires known { ForSome known (λ k. Stands (reverse entries.now) (plain k.now.state) k.now.place) }
+    requires known { ForSome known (λ k. IsReadOff (reverse entries.now) (plain k.now.state) k.now.place) }
     ensures { result ≡ channel_on (facts (reverse entries.now)).connections conn }
 {
     match known {
@@ -258,8 +258,8 @@ fn channel_in(known: Option<&Known>, entries: &[Entry], conn: u32) -> Option<Cha
 fn known_after(alloc: Global, cached: Option<Known>, entries: &[Entry]) -> Result<Known, AllocError>
     requires legal { Legal (reverse entries.now) }
     requires time { AllInTime (reverse entries.now) }
-    requires cached { ForSome cached (λ k. Stands (reverse entries.now) (plain k.state) k.place) }
-    ensures { IfOk result (λ k. Stands (reverse entries.now) (plain k.state) k.place) }
+    requires cached { ForSome cached (λ k. IsReadOff (reverse entries.now) (plain k.state) k.place) }
+    ensures { IfOk result (λ k. IsReadOff (reverse entries.now) (plain k.state) k.place) }
 {
     match cached {
         Some(known) => Ok(known),

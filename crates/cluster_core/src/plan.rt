@@ -2,27 +2,27 @@
 
 ghost use Rattle.std.specs.Prelude.{◌≡◌, ◌≤◌, ◌++◌, ◌∷◌, ◌+◌, [], length, reverse, true, Some, None, IfOk, OnOk};
 ghost use Rattle.cluster_types.specs.declared.entry.Entry.{Entry};
+ghost use Rattle.cluster_types.specs.Limits.{last_moment};
 ghost use Rattle.cluster_defs.specs.Facts.{event_in};
 ghost use Rattle.cluster_defs.specs.Scheduling.{due, is_kept_as, Allowed};
 ghost use Rattle.cluster_defs.specs.Histories.{facts, asks_shutdown, is_stopping, decide_all};
 ghost use Rattle.cluster_defs.specs.Outs.{outs_as};
-ghost use Rattle.cluster_state.specs.Plain.{facts_in, after, InTime};
+ghost use Rattle.cluster_state.specs.Plain.{facts_in, plain_after, InTime};
 ghost use Rattle.cluster_state.specs.Stands.{plain};
-ghost use Rattle.cluster_outs.specs.Asked.{type_on, told_type};
-ghost use Rattle.cluster_outs.specs.Reached.{IsNext};
-ghost use Rattle.cluster_core.specs.Steps.{PlanView, Stands, IsGrown, planned, kept_one, place_after, stops_after};
+ghost use Rattle.entry_outs.specs.Asked.{type_on, told_type};
+ghost use Rattle.entry_outs.specs.Reached.{IsNext};
+ghost use Rattle.cluster_core.specs.Steps.{PlanView, IsReadOff, IsGrown, planned, kept_one, entry_place, stops_after};
 ghost use Rattle.cluster_core.specs.More.{IsMore};
 
-use crate::intake::{Known, next_place};
+use crate::known::{Known, next_place};
 use crate::meaning::Meaning;
-use cluster_outs::entries::outs;
 use cluster_state::state::State;
-use cluster_types::copying::TryCopy;
 use cluster_types::entry::{Entries, Entry, Input};
 use cluster_types::event::{Event, Query};
 use cluster_types::out::{Out, Outs};
 use cluster_types::text::Text;
 use due_decisions::due::due;
+use entry_outs::entries::outs;
 use load_schemes::chooser::Chooser;
 use std::alloc::{AllocError, Global};
 use std::marker::Model;
@@ -46,6 +46,13 @@ impl Model for Plan {
     ghost Value = { PlanView };
 
     ghost view = { λ p. record { input = p.input; decisions = p.decisions.items; outs = p.outs.items; kept = p.kept.items; plain = plain p.known.state; place = p.known.place; stops = p.stops } };
+}
+
+/// A clone, which shares what the entry holds.
+fn same_entry(entry: &Entry) -> Result<Entry, AllocError>
+    ensures { IfOk result (λ e. e ≡ entry.now) }
+{
+    entry.clone()
 }
 
 /// The entry, where it is kept.
@@ -91,17 +98,17 @@ impl Plan {
         requires next { IsNext (plain known.state) (Entry.Input input) }
         requires kind { meaning.now.msg_type ≡ told_type meaning.now.event (type_on (Entry.Input input)) }
         requires time { InTime (Entry.Input input) }
-        requires now { known.state.moment ≤ 253402300799999 }
+        requires now { known.state.moment ≤ last_moment }
         ensures input { IfOk result (λ p. p.input ≡ input) }
         ensures decisions { IfOk result (λ p. p.decisions ≡ []) }
-        ensures place { IfOk result (λ p. p.place ≡ place_after (Entry.Input input) known.place) }
-        ensures data { IfOk result (λ p. p.plain ≡ after (facts_in (plain known.state)) (Entry.Input input) meaning.now.event (plain known.state)) }
+        ensures place { IfOk result (λ p. p.place ≡ entry_place (Entry.Input input) known.place) }
+        ensures data { IfOk result (λ p. p.plain ≡ plain_after (facts_in (plain known.state)) (Entry.Input input) meaning.now.event (plain known.state)) }
         ensures outs { IfOk result (λ p. p.outs ≡ outs_as p.place (facts_in (plain known.state)) (Entry.Input input) meaning.now.event) }
         ensures kept { IfOk result (λ p. p.kept ≡ kept_one (is_kept_as (facts_in (plain known.state)) (Entry.Input input) meaning.now.event) (Entry.Input input)) }
         ensures stops { IfOk result (λ p. p.stops ≡ stops_after was_stopping input meaning.now.event) }
     {
         let Known { mut state, place } = known;
-        let entry = Entry::Input(input.copy()?);
+        let entry = Entry::Input(input.clone()?);
         let place = next_place(place, &entry)?;
         let Meaning { event, msg_type } = meaning;
         let outs = outs(alloc, place, &state, &entry, event, msg_type)?.into_vec();
@@ -136,8 +143,8 @@ impl Plan {
     fn add(&mut self, alloc: Global, decision: Entry) -> Result<(), AllocError>
         requires next { IsNext self.old.plain decision }
         requires time { InTime decision }
-        requires now { self.old.plain.moment ≤ 253402300799999 }
-        requires no_open { place_after decision self.old.place ≡ self.old.place + 1 }
+        requires now { self.old.plain.moment ≤ last_moment }
+        requires no_open { entry_place decision self.old.place ≡ self.old.place + 1 }
         ensures { OnOk result (IsMore self.old self.new decision) }
     {
         let place = next_place(self.known.place, &decision)?;
@@ -145,7 +152,7 @@ impl Plan {
         let state = &self.known.state;
         let mut outs = outs(alloc, place, state, &decision, &None, &none)?.into_vec();
         self.outs.append(&mut outs)?;
-        self.kept.push(decision.copy()?)?;
+        self.kept.push(same_entry(&decision)?)?;
         self.known.state.take(&decision, &None)?;
         self.known.place = place;
         self.decisions.push(decision)?;
@@ -190,7 +197,7 @@ impl Plan {
         was_stopping: bool,
         chooser: &Chooser,
     ) -> Result<Plan, AllocError>
-        requires stands { Stands (reverse history.now) (plain known.state) known.place }
+        requires stands { IsReadOff (reverse history.now) (plain known.state) known.place }
         requires event { meaning.now.event ≡ event_in (facts (reverse history.now)) (Entry.Input input) }
         requires kind { meaning.now.msg_type ≡ told_type meaning.now.event (type_on (Entry.Input input)) }
         requires allowed { Allowed (facts (reverse history.now)) (Entry.Input input) }

@@ -8,9 +8,9 @@ ghost use Rattle.cluster_state.specs.Plain.{InTime};
 use crate::machine::Core;
 use cluster_types::config::{Channel, Scheme};
 use cluster_types::entry::Input;
-use cluster_types::message::Message;
 use cluster_types::octets::Octets;
 use cluster_types::sequence::Sequence;
+use cluster_types::shared_message::SharedMessage;
 use load_schemes::chooser::{Choose, Chooser};
 use load_schemes::place::place_of;
 use std::alloc::{AllocError, Global};
@@ -50,15 +50,9 @@ fn down(conn: u32) -> Input
     }
 }
 
-fn message(alloc: Global, header: &[u8], content: &[u8]) -> Result<Message, AllocError> {
-    Ok(Message {
-        target: Octets::new(alloc, b"")?,
-        header: Octets::new(alloc, header)?,
-        parent: Octets::new(alloc, b"{}")?,
-        metadata: Octets::new(alloc, b"{}")?,
-        content: Octets::new(alloc, content)?,
-        buffers: Sequence::new(alloc),
-    })
+fn message(alloc: Global, header: &[u8], content: &[u8]) -> Result<SharedMessage, AllocError> {
+    let buffers = Sequence::new(alloc);
+    SharedMessage::new(alloc, b"", header, b"{}", b"{}", content, buffers)
 }
 
 fn said(alloc: Global, conn: u32, header: &[u8], content: &[u8]) -> Result<Input, AllocError>
@@ -144,8 +138,9 @@ fn stops(alloc: Global, chooser: &Chooser) -> Result<bool, AllocError> {
     Ok(made == Some((1, 0)) && core.stopping())
 }
 
-/// A chooser by the four schemes.
-fn new_chooser(alloc: Global) -> Result<Chooser, AllocError> {
+#[test]
+fn steps(rt: HostRuntime) -> Result<(), Fail> {
+    let alloc = rt.alloc();
     let choose: Choose = Box::new(
         alloc,
         |scheme: Scheme, loads: &[u32], word: u64| -> usize
@@ -153,29 +148,9 @@ fn new_chooser(alloc: Global) -> Result<Chooser, AllocError> {
             ensures { result ≡ pick scheme loads.now word }
         { place_of(scheme, loads, word) },
     )?;
-    Ok(Chooser::new(choose))
-}
-
-#[test]
-fn a_request_is_handed_out(rt: HostRuntime) -> Result<(), Fail> {
-    let alloc = rt.alloc();
-    let chooser = new_chooser(alloc)?;
+    let chooser = Chooser::new(choose);
     assert!(rt; hands_out(alloc, &chooser)?);
-    Ok(())
-}
-
-#[test]
-fn connections_come_and_go(rt: HostRuntime) -> Result<(), Fail> {
-    let alloc = rt.alloc();
-    let chooser = new_chooser(alloc)?;
     assert!(rt; connections(alloc, &chooser)?);
-    Ok(())
-}
-
-#[test]
-fn a_shutdown_is_remembered(rt: HostRuntime) -> Result<(), Fail> {
-    let alloc = rt.alloc();
-    let chooser = new_chooser(alloc)?;
     assert!(rt; stops(alloc, &chooser)?);
     Ok(())
 }

@@ -6,6 +6,7 @@ use Rattle.cluster_types.specs.declared.event.Dep.{Dep}
 use Rattle.cluster_types.specs.declared.event.Submission.{Submission}
 use Rattle.cluster_types.specs.declared.event.Event.{Event}
 use Rattle.cluster_types.specs.declared.event.Event.TheVariants.{Submit, Direct}
+use Rattle.cluster_types.specs.Limits.{most_ids}
 use Rattle.cluster_defs.specs.declared.acceptance.Acceptance.{Acceptance}
 use Rattle.cluster_defs.specs.declared.acceptance.Acceptance.TheVariants.{Reserved, Purged, Again, NoSuchEngine, Full, Accepted}
 use Rattle.cluster_defs.specs.Words.{Id, is_listed, same_lists, begins_with, alike}
@@ -27,10 +28,6 @@ demanded _ = None
 -- ids that begin so are those of resubmissions
 unfoldable pub reserved_front : List ℕ
 reserved_front = codes "resubmit:"
-
--- how many ids a database may know
-abbrev pub most_ids : ℕ
-most_ids = 2000000
 
 -- whether kind, target, type, metadata, content and buffers are those of the request that has the id
 abbrev pub is_same : Demand → Message → Option Request → Option Body → Bool

@@ -3,6 +3,7 @@ use Rattle.std.specs.Prelude.{ℕ, nat_lt, nat_le, ◌+◌, ◌-◌, ◌==◌, L
 use Rattle.std.specs.List.{list_any}
 use Rattle.cluster_types.specs.declared.event.Event.{Event}
 use Rattle.cluster_types.specs.declared.event.Event.TheVariants.{Join, Leave, Pong}
+use Rattle.cluster_types.specs.Limits.{most_engines}
 use Rattle.cluster_defs.specs.declared.engine.Engine.{Engine}
 use Rattle.cluster_defs.specs.declared.engine.Joining.{Joining}
 use Rattle.cluster_defs.specs.declared.engine.Joining.TheVariants.{Repeat, AlreadyJoined, UuidInUse, UsedUp, Accepted}
@@ -38,7 +39,7 @@ joining_again uuid e = if bytes_eq e.uuid uuid then Repeat e.number else Already
 -- on another connection, where the uuid has that live engine, or none
 abbrev pub joining_new : ℕ → Option Engine → Joining
 joining_new next (Some holder) = UuidInUse holder.number
-joining_new next None = if next == 4294967295 then UsedUp else Accepted
+joining_new next None = if next == most_engines then UsedUp else Accepted
 
 abbrev pub joining_at : Engines → List ℕ → Option Engine → Joining
 joining_at engines uuid (Some e) = joining_again uuid e
@@ -65,9 +66,9 @@ with_engine conn beats (Some uuid) engines =
 -- ENDS
 
 -- the engine that a Leave ends: the live one on its connection
-abbrev pub left : List Engine → ℕ → Option Event → Option ℕ
-left live conn (Some Leave) = option_map (λ e. e.number) (engine_on live conn)
-left live conn _ = None
+abbrev pub left_engine : List Engine → ℕ → Option Event → Option ℕ
+left_engine live conn (Some Leave) = option_map (λ e. e.number) (engine_on live conn)
+left_engine live conn _ = None
 
 abbrev pub without_number : ℕ → Engines → Engines
 without_number number engines = record engines { live = filter (λ e. not (e.number == number)) engines.live }

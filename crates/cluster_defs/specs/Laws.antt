@@ -18,7 +18,7 @@ use Rattle.cluster_defs.specs.Words.{Id, is_listed, once}
 use Rattle.cluster_defs.specs.Engines.{conn_in}
 use Rattle.cluster_defs.specs.Tasks.{Settled, engine_of}
 use Rattle.cluster_defs.specs.Facts.{is_settled}
-use Rattle.cluster_defs.specs.Acceptance.{most_ids}
+use Rattle.cluster_types.specs.Limits.{most_ids}
 use Rattle.cluster_defs.specs.Purges.{purge_list, purging, resubmitting}
 use Rattle.cluster_defs.specs.Scheduling.{due, may_run, open_work, is_live}
 use Rattle.cluster_defs.specs.Histories.{History, facts, Legal, kept, decide_all}

@@ -8,7 +8,7 @@ use Rattle.message_defs.specs.Texts.{resubmit_id, resubmit_header}
 use Rattle.cluster_defs.specs.Words.{Id, is_empty, is_listed, once}
 use Rattle.cluster_defs.specs.Requests.{Request, Body, is_invalid, targets_of}
 use Rattle.cluster_defs.specs.Facts.{Facts, is_settled}
-use Rattle.cluster_defs.specs.Acceptance.{most_ids}
+use Rattle.cluster_types.specs.Limits.{most_ids}
 
 -- ids that are unsettled
 abbrev pub inflight : Facts → List Id → List Id

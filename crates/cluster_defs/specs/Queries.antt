@@ -11,6 +11,7 @@ use Rattle.cluster_types.specs.declared.event.Query.{Query}
 use Rattle.cluster_types.specs.declared.event.Query.TheVariants.{Connection, Queue, Result as ResultQuery, History, Shutdown, Unknown as UnknownQuery, Bad}
 use Rattle.cluster_types.specs.declared.event.Event.{Event}
 use Rattle.cluster_types.specs.declared.event.Event.TheVariants.{Submit, Direct, Reply, Join, Leave, Pong, Purge, Resubmit, Ask}
+use Rattle.cluster_types.specs.Limits.{body_limit, most_buffers}
 use Rattle.message_defs.specs.Header.{message_type}
 use Rattle.message_defs.specs.Texts.{reply_type, submit_refused, ok_content, join_content, error_content, connection_content, history_content, queue_content, result_content, resubmit_content, EngineQueue, Settled as SettledText}
 use Rattle.cluster_defs.specs.declared.acceptance.Acceptance.{Acceptance}
@@ -19,7 +20,7 @@ use Rattle.cluster_defs.specs.declared.answer.Answer.{Answer}
 use Rattle.cluster_defs.specs.declared.engine.Joining.{Joining}
 use Rattle.cluster_defs.specs.declared.engine.Joining.TheVariants.{Repeat, AlreadyJoined, UuidInUse, UsedUp, Accepted as AcceptedEngine}
 use Rattle.cluster_defs.specs.Words.{Id, is_empty, is_number, once}
-use Rattle.cluster_defs.specs.Engines.{joining, left}
+use Rattle.cluster_defs.specs.Engines.{joining, left_engine}
 use Rattle.cluster_defs.specs.Tasks.{runs_at, Settled}
 use Rattle.cluster_defs.specs.Facts.{Facts, is_settled, is_direct_id}
 use Rattle.cluster_defs.specs.Acceptance.{acceptance}
@@ -155,9 +156,14 @@ abbrev pub is_hub : Channel → Bool
 is_hub Hub = true
 is_hub _ = false
 
+-- the most octets of the content and the buffers of an answer together
+abbrev pub answer_limit : ℕ
+answer_limit = 33000000
+
 -- a content of more than 16,777,216 octets, content and buffers of more than 33,000,000, or more than 58 buffers
 abbrev pub is_too_long : Answer → Bool
-is_too_long a = nat_lt 16777216 (length a.content) || nat_lt 33000000 (length a.content + sum (map length a.buffers)) || nat_lt 58 (length a.buffers)
+is_too_long a =
+    nat_lt body_limit (length a.content) || nat_lt answer_limit (length a.content + sum (map length a.buffers)) || nat_lt most_buffers (length a.buffers)
 
 -- on channel hub an answer past a limit, an error answer too, gives way to ReplyTooLong
 abbrev pub limited : Channel → Answer → Answer
@@ -174,7 +180,7 @@ abbrev pub answer_event : Facts → ℕ → Channel → Message → Event → Op
 answer_event f conn channel m (Submit s) = demand_answer s.id m.target (acceptance f (record { direct = false; submission = s }) m)
 answer_event f conn channel m (Direct s) = demand_answer s.id m.target (acceptance f (record { direct = true; submission = s }) m)
 answer_event f conn channel m (Join uuid) = Some (join_answer f.engines.next (joining f.engines conn uuid))
-answer_event f conn channel m Leave = Some (leave_answer (left f.engines.live conn (Some Leave)))
+answer_event f conn channel m Leave = Some (leave_answer (left_engine f.engines.live conn (Some Leave)))
 answer_event f conn channel m (Purge all ids) = Some (limited channel (purge_answer (purging f (purge_list f all ids))))
 answer_event f conn channel m (Resubmit ids) = Some (limited channel (resubmit_answer (resubmitting f (once ids))))
 answer_event f conn channel m (Ask query) = Some (answer f channel query (message_type m))

@@ -60,9 +60,9 @@ abbrev pub gone_as : Option Record → Bool
 gone_as None = true
 gone_as (Some r) = r.purged
 
-abbrev pub settled_in : Option Record → Bool
-settled_in None = false
-settled_in (Some r) = is_some r.settled
+abbrev pub is_settled_record : Option Record → Bool
+is_settled_record None = false
+is_settled_record (Some r) = is_some r.settled
 
 -- what a settled task left, by its record
 abbrev pub left_in : Record → Option SettledText
@@ -75,14 +75,14 @@ all_left records false ids = filter_map (λ id. option_and_then left_in (record_
 
 abbrev pub results_in : List Record → List Id → List SettledText → Answer
 results_in records ids results = record {
-  content = result_content (filter (λ id. not (settled_in (record_in records id))) ids) (filter (λ id. settled_in (record_in records id)) ids) results;
+  content = result_content (filter (λ id. not (is_settled_record (record_in records id))) ids) (filter (λ id. is_settled_record (record_in records id)) ids) results;
   buffers = flat_map (λ r. r.outcome.buffers) results;
 }
 
 abbrev pub result_in : List Record → List Id → Bool → Answer
 result_in records ids status_only =
     if not (is_empty (filter (λ id. gone_as (record_in records id)) ids)) then refusal (codes "UnknownIds") [] (filter (λ id. gone_as (record_in records id)) ids)
-    else results_in records ids (all_left records status_only (filter (λ id. settled_in (record_in records id)) ids))
+    else results_in records ids (all_left records status_only (filter (λ id. is_settled_record (record_in records id)) ids))
 
 -- THE ANSWER
 

@@ -3,14 +3,14 @@ use Rattle.std.specs.Prelude.{ℕ, nat_lt, ◌+◌, List, length, Bool, true, fa
 use Rattle.cluster_types.specs.declared.record.Record.{Record}
 use Rattle.cluster_defs.specs.Words.{Id, is_empty, once}
 use Rattle.cluster_defs.specs.Purges.{Purging, Unknown, Inflight, Drops, copies_from, Resubmitting, NeverKnown, Gone, Running, NoRoom, Makes}
-use Rattle.cluster_defs.specs.RecordAnswers.{ids_where, record_in, gone_as, settled_in}
+use Rattle.cluster_defs.specs.RecordAnswers.{ids_where, record_in, gone_as, is_settled_record}
 
 -- ids never known or purged, and ids that are unsettled
 abbrev pub gone_in : List Record → List Id → List Id
 gone_in records = filter (λ id. gone_as (record_in records id))
 
 abbrev pub inflight_in : List Record → List Id → List Id
-inflight_in records = filter (λ id. not (settled_in (record_in records id)))
+inflight_in records = filter (λ id. not (is_settled_record (record_in records id)))
 
 -- the ids that a Purge lists: with `all` every settled id that isn't purged
 abbrev pub purge_list_in : List Record → Bool → List Id → List Id

@@ -12,7 +12,7 @@ use Rattle.cluster_defs.specs.declared.connection.Connection.{Connection}
 use Rattle.cluster_defs.specs.declared.engine.Engine.{Engine}
 use Rattle.cluster_defs.specs.Words.{Id, or_else}
 use Rattle.cluster_defs.specs.Connections.{with_connection, without_connection}
-use Rattle.cluster_defs.specs.Engines.{Engines, engine_on, joined, with_engine, left, without_left, echoed, with_mark}
+use Rattle.cluster_defs.specs.Engines.{Engines, engine_on, joined, with_engine, left_engine, without_left, echoed, with_mark}
 use Rattle.cluster_defs.specs.Tasks.{Task, lost, handed, counts, after_reply, after_end, Settled, settled_as}
 use Rattle.cluster_defs.specs.Requests.{Request, Body, parts_of}
 use Rattle.cluster_defs.specs.Facts.{Facts, event_in, is_direct_id}
@@ -27,7 +27,7 @@ is_valid_reply f conn _ = false
 -- whether what a message asks for changes anything: it is then kept
 abbrev pub changes : Facts → ℕ → Message → Option Event → Bool
 changes f conn message event =
-    is_some (accepted f message event) || is_some (joined f.engines conn event) || is_some (left f.engines.live conn event)
+    is_some (accepted f message event) || is_some (joined f.engines conn event) || is_some (left_engine f.engines.live conn event)
     || is_some (echoed f.engines.live conn f.beats event) || is_some (purged_by f event) || is_some (copied_by f event)
     || is_valid_reply f conn event
 
@@ -102,14 +102,14 @@ connections_after _ live = live
 -- the engine that an entry ends: by its connection's Down, its Leave or its Lose
 abbrev pub engine_end : List Engine → Entry → Option Event → Option ℕ
 engine_end live (Input (Down conn moment word)) event = option_map (λ e. e.number) (engine_on live conn)
-engine_end live (Input (In conn moment word message)) event = left live conn event
+engine_end live (Input (In conn moment word message)) event = left_engine live conn event
 engine_end live (Lose engine) event = Some engine
 engine_end live _ event = None
 
 -- a message may make an engine, end one, or raise its mark
 abbrev pub engines_in : Facts → ℕ → Option Event → Engines
 engines_in f conn event =
-    with_mark conn (echoed f.engines.live conn f.beats event) (without_left (left f.engines.live conn event) (with_engine conn f.beats (joined f.engines conn event) f.engines))
+    with_mark conn (echoed f.engines.live conn f.beats event) (without_left (left_engine f.engines.live conn event) (with_engine conn f.beats (joined f.engines conn event) f.engines))
 
 abbrev pub engines_after : Facts → Entry → Option Event → Engines
 engines_after f (Input (Open moment scheme hwm misses)) event = record { live = []; next = f.engines.next }
@@ -155,7 +155,7 @@ abbrev pub task_after : Facts → Entry → Option Event → Id → Task → Tas
 task_after f (Hand name engine) event id t = if bytes_eq name id then handed engine t else t
 task_after f (Input (Open moment scheme hwm misses)) event id t = lost t.last t
 task_after f (Input (In conn moment word message)) event id t =
-    after_end (left f.engines.live conn event) (after_reply f.engines.live conn id (is_direct_id f id) event t)
+    after_end (left_engine f.engines.live conn event) (after_reply f.engines.live conn id (is_direct_id f id) event t)
 task_after f e event id t = after_end (engine_end f.engines.live e event) t
 
 abbrev pub reply_from : Facts → ℕ → Message → Id → Option Event → Option Message → Option Message

@@ -1,5 +1,5 @@
 -- Small words on lists and options that the definitions use.
-use Rattle.std.specs.Prelude.{ℕ, nat_eq, List, [], ◌∷◌, length, take, drop, ◌-◌, Option, Some, None, Bool, true, false, not, ◌&&◌, filter, bytes_eq}
+use Rattle.std.specs.Prelude.{ℕ, nat_eq, List, [], ◌∷◌, length, take, Option, Some, None, Bool, true, false, not, ◌&&◌, filter, bytes_eq}
 use Rattle.std.specs.List.{list_any}
 
 -- an id of a task, and any other text, is the list of its octets
@@ -35,12 +35,9 @@ same_lists [] [] = true
 same_lists (x ∷ xs) (y ∷ ys) = bytes_eq x y && same_lists xs ys
 same_lists _ _ = false
 
--- whether a text begins, or ends, with another
+-- whether a text begins with another
 abbrev pub begins_with : List ℕ → List ℕ → Bool
 begins_with front text = bytes_eq (take (length front) text) front
-
-abbrev pub ends_with : List ℕ → List ℕ → Bool
-ends_with rest text = bytes_eq (drop (length text - length rest) text) rest
 
 -- whether a number is there, and is this one
 abbrev pub is_number : ℕ → Option ℕ → Bool

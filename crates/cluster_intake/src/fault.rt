@@ -2,13 +2,16 @@
 
 use cluster_types::event::Reason;
 use std::alloc::AllocError;
+use thiserror::Error;
 
 /// Why a message has no event.
-#[derive(Debug, Drop)]
+#[derive(Debug, Drop, Error)]
 pub enum IntakeError {
     /// It means nothing, and why.
+    #[error("the message means nothing")]
     Junk(Reason),
     /// There was no memory.
+    #[error("out of memory")]
     OutOfMemory,
 }
 

@@ -4,7 +4,7 @@
 #![tactic(auto)]
 
 ghost use Rattle.std.specs.Prelude.{◌≡◌, ◌⊎◌, ◌==◌, Ok, Err, Some, None, Result, IfOk, IfErr, length, codes};
-ghost use Rattle.message_defs.specs.Event.{fault_field, event_in, asked, hub_request, hub_event, submission, submitted, task_event, direct_meta, mux_event, echoed, replied, reply_event, is_registration, is_echo, engine_event, event_under, event_of};
+ghost use Rattle.message_defs.specs.Event.{fault_field, event_of_content, request_event, hub_request, hub_event, submission, submitted, task_event, direct_meta, mux_event, echo_event, replied, reply_event, is_registration, is_echo, engine_event, event_under, event_of};
 ghost use Rattle.cluster_intake.specs.Intake.{taken_in};
 ghost use Rattle.message_defs.specs.Header.{read_header, message_type};
 ghost use Rattle.message_defs.specs.Hub.{request_of, read_content};
@@ -17,10 +17,9 @@ mod tests;
 pub mod understood;
 
 use cluster_types::config::Channel;
-use cluster_types::copying::TryCopy;
 use cluster_types::event::{Event, Query, Reason, Submission};
-use cluster_types::message::Message;
 use cluster_types::sequence::Sequence;
+use cluster_types::shared_message::SharedMessage;
 use cluster_types::text::Text;
 use fault::IntakeError;
 use jupyter_header::header::read_header;
@@ -47,8 +46,8 @@ fn fault_field(alloc: Global, part: &str, fault: ReadError) -> Result<Field, All
 }
 
 /// What a content asks for.
-fn event_in(content: HubContent) -> Event
-    ensures { result ≡ event_in content }
+fn event_of_content(content: HubContent) -> Event
+    ensures { result ≡ event_of_content content }
 {
     match content {
         HubContent::Connection => Event::Ask(Query::Connection),
@@ -64,11 +63,11 @@ fn event_in(content: HubContent) -> Event
 }
 
 /// What a content asks for, or that it is bad.
-fn asked(alloc: Global, request: Request, content: &[u8]) -> Result<Event, AllocError>
-    ensures { IfOk result (λ e. e ≡ asked (read_content request content.now)) }
+fn request_event(alloc: Global, request: Request, content: &[u8]) -> Result<Event, AllocError>
+    ensures { IfOk result (λ e. e ≡ request_event (read_content request content.now)) }
 {
     match read_content(alloc, request, content) {
-        Ok(content) => Ok(event_in(content)),
+        Ok(content) => Ok(event_of_content(content)),
         Err(ReadError::OutOfMemory) => Err(AllocError),
         Err(fault) => {
             let field = fault_field(alloc, "content", fault)?;
@@ -93,10 +92,7 @@ fn hub_event(alloc: Global, msg_type: &Text, content: &[u8]) -> Result<Event, Al
 {
     match hub_request(request_of(msg_type.as_str())) {
         None => Ok(Event::Ask(Query::Unknown)),
-        Some(request) => {
-            let event = asked(alloc, request, content)?;
-            Ok(event)
-        }
+        Some(request) => request_event(alloc, request, content),
     }
 }
 
@@ -172,25 +168,25 @@ fn mux_event(alloc: Global, header: Header, target: &[u8]) -> Result<Event, Inta
 }
 
 /// The echo of a heartbeat.
-fn echoed(alloc: Global, content: &[u8]) -> Result<Event, IntakeError>
-    ensures ok { IfOk result (λ e. echoed (read_content Request.Beat content.now) ≡ Ok e) }
-    ensures err { IfErr result (λ e. (e ≡ IntakeError.OutOfMemory) ⊎ (taken_in (echoed (read_content Request.Beat content.now)) ≡ Err e)) }
+fn echo_event(alloc: Global, content: &[u8]) -> Result<Event, IntakeError>
+    ensures ok { IfOk result (λ e. echo_event (read_content Request.Beat content.now) ≡ Ok e) }
+    ensures err { IfErr result (λ e. (e ≡ IntakeError.OutOfMemory) ⊎ (taken_in (echo_event (read_content Request.Beat content.now)) ≡ Err e)) }
 {
     match read_content(alloc, Request::Beat, content) {
-        Ok(content) => Ok(event_in(content)),
+        Ok(content) => Ok(event_of_content(content)),
         Err(ReadError::OutOfMemory) => Err(IntakeError::OutOfMemory),
         Err(_) => Err(IntakeError::Junk(Reason::BadReply)),
     }
 }
 
 /// The reply to a task.
-fn replied(alloc: Global, header: Header, message: &Message) -> Result<Event, IntakeError>
+fn replied(alloc: Global, header: Header, message: &SharedMessage) -> Result<Event, IntakeError>
     ensures ok { IfOk result (λ e. replied header (read_reply message.now.parent message.now.metadata message.now.content) ≡ Ok e) }
     ensures err { IfErr result (λ e. (e ≡ IntakeError.OutOfMemory) ⊎ (taken_in (replied header (read_reply message.now.parent message.now.metadata message.now.content)) ≡ Err e)) }
 {
-    let parent = message.parent.as_slice();
-    let metadata = message.metadata.as_slice();
-    match read_reply(alloc, parent, metadata, message.content.as_slice()) {
+    let parent = message.parent();
+    let metadata = message.metadata();
+    match read_reply(alloc, parent, metadata, message.content()) {
         Ok(meta) => Ok(Event::Reply {
             task: meta.task,
             header_id: header.msg_id,
@@ -203,7 +199,7 @@ fn replied(alloc: Global, header: Header, message: &Message) -> Result<Event, In
 }
 
 /// A message of an engine that is neither a registration nor an echo.
-fn reply_event(alloc: Global, header: Header, message: &Message) -> Result<Event, IntakeError>
+fn reply_event(alloc: Global, header: Header, message: &SharedMessage) -> Result<Event, IntakeError>
     ensures ok { IfOk result (λ e. reply_event header message.now ≡ Ok e) }
     ensures err { IfErr result (λ e. (e ≡ IntakeError.OutOfMemory) ⊎ (taken_in (reply_event header message.now) ≡ Err e)) }
 {
@@ -213,8 +209,7 @@ fn reply_event(alloc: Global, header: Header, message: &Message) -> Result<Event
     if !is_reply(&header.msg_type) {
         return Err(IntakeError::Junk(Reason::BadType));
     }
-    let event = replied(alloc, header, message)?;
-    Ok(event)
+    replied(alloc, header, message)
 }
 
 /// Whether a message registers an engine.
@@ -232,37 +227,39 @@ fn is_echo(found: Option<Request>) -> bool
 }
 
 /// What a message of an engine says.
-fn engine_event(alloc: Global, header: Header, message: &Message) -> Result<Event, IntakeError>
+fn engine_event(
+    alloc: Global,
+    header: Header,
+    message: &SharedMessage,
+) -> Result<Event, IntakeError>
     ensures ok { IfOk result (λ e. engine_event header message.now ≡ Ok e) }
     ensures err { IfErr result (λ e. (e ≡ IntakeError.OutOfMemory) ⊎ (taken_in (engine_event header message.now) ≡ Err e)) }
 {
     let request = request_of(header.msg_type.as_str());
     if is_registration(request) {
-        let event = asked(alloc, Request::Registration, message.content.as_slice())?;
+        let event = request_event(alloc, Request::Registration, message.content())?;
         return Ok(event);
     }
     if is_echo(request) {
-        let event = echoed(alloc, message.content.as_slice())?;
-        return Ok(event);
+        return echo_event(alloc, message.content());
     }
-    let event = reply_event(alloc, header, message)?;
-    Ok(event)
+    reply_event(alloc, header, message)
 }
 
 /// What a message with this header means.
 fn event_under(
     alloc: Global,
     channel: Channel,
-    message: &Message,
+    message: &SharedMessage,
     header: Header,
 ) -> Result<Event, IntakeError>
     ensures ok { IfOk result (λ e. event_under channel message.now (Ok header) ≡ Ok e) }
     ensures err { IfErr result (λ e. (e ≡ IntakeError.OutOfMemory) ⊎ (taken_in (event_under channel message.now (Ok header)) ≡ Err e)) }
 {
     let event = match channel {
-        Channel::Hub => hub_event(alloc, &header.msg_type, message.content.as_slice())?,
-        Channel::Task => task_event(alloc, header, message.metadata.as_slice())?,
-        Channel::Mux => mux_event(alloc, header, message.target.as_slice())?,
+        Channel::Hub => hub_event(alloc, &header.msg_type, message.content())?,
+        Channel::Task => task_event(alloc, header, message.metadata())?,
+        Channel::Mux => mux_event(alloc, header, message.target())?,
         Channel::Engine => engine_event(alloc, header, message)?,
     };
     Ok(event)
@@ -272,14 +269,14 @@ fn event_under(
 fn understood_under(
     alloc: Global,
     channel: Channel,
-    message: &Message,
+    message: &SharedMessage,
     header: Header,
 ) -> Result<Understood, IntakeError>
     ensures ok { IfOk result (λ u. event_under channel message.now (Ok header) ≡ Ok u.event) }
     ensures kind { IfOk result (λ u. u.msg_type ≡ header.msg_type) }
     ensures err { IfErr result (λ e. (e ≡ IntakeError.OutOfMemory) ⊎ (taken_in (event_under channel message.now (Ok header)) ≡ Err e)) }
 {
-    let msg_type = header.msg_type.copy()?;
+    let msg_type = header.msg_type.clone()?;
     let event = event_under(alloc, channel, message, header)?;
     Ok(Understood { event, msg_type })
 }
@@ -289,24 +286,25 @@ fn understood_under(
 pub fn understand(
     alloc: Global,
     channel: Channel,
-    message: &Message,
+    message: &SharedMessage,
 ) -> Result<Understood, IntakeError>
     ensures ok { IfOk result (λ u. event_of channel message.now ≡ Ok u.event) }
     ensures kind { IfOk result (λ u. u.msg_type ≡ message_type message.now) }
     ensures err { IfErr result (λ e. (e ≡ IntakeError.OutOfMemory) ⊎ (taken_in (event_of channel message.now) ≡ Err e)) }
 {
-    match read_header(alloc, message.header.as_slice()) {
-        Ok(header) => {
-            let understood = understood_under(alloc, channel, message, header)?;
-            Ok(understood)
-        }
+    match read_header(alloc, message.header()) {
+        Ok(header) => understood_under(alloc, channel, message, header),
         Err(ReadError::OutOfMemory) => Err(IntakeError::OutOfMemory),
         Err(_) => Err(IntakeError::Junk(Reason::BadHeader)),
     }
 }
 
 /// What a message on a channel means, or why it means nothing.
-pub fn event_of(alloc: Global, channel: Channel, message: &Message) -> Result<Event, IntakeError>
+pub fn event_of(
+    alloc: Global,
+    channel: Channel,
+    message: &SharedMessage,
+) -> Result<Event, IntakeError>
     ensures ok { IfOk result (λ e. event_of channel message.now ≡ Ok e) }
     ensures err { IfErr result (λ e. (e ≡ IntakeError.OutOfMemory) ⊎ (taken_in (event_of channel message.now) ≡ Err e)) }
 {

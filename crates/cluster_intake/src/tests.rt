@@ -4,9 +4,8 @@ use crate::fault::IntakeError;
 use crate::{event_of, understand};
 use cluster_types::config::Channel;
 use cluster_types::event::{Event, Query, Reason};
-use cluster_types::message::Message;
-use cluster_types::octets::Octets;
 use cluster_types::sequence::Sequence;
+use cluster_types::shared_message::SharedMessage;
 use std::alloc::{AllocError, Global};
 use std::test::Fail;
 
@@ -17,15 +16,16 @@ fn message_of(
     parent: &str,
     metadata: &str,
     content: &str,
-) -> Result<Message, AllocError> {
-    Ok(Message {
-        target: Octets::new(alloc, b"")?,
-        header: Octets::new(alloc, header.as_bytes())?,
-        parent: Octets::new(alloc, parent.as_bytes())?,
-        metadata: Octets::new(alloc, metadata.as_bytes())?,
-        content: Octets::new(alloc, content.as_bytes())?,
-        buffers: Sequence::new(alloc),
-    })
+) -> Result<SharedMessage, AllocError> {
+    SharedMessage::new(
+        alloc,
+        b"",
+        header.as_bytes(),
+        parent.as_bytes(),
+        metadata.as_bytes(),
+        content.as_bytes(),
+        Sequence::new(alloc),
+    )
 }
 
 /// Whether an event has this kind: the reason of junk, the field of a bad request, or the event's name.

@@ -14,9 +14,10 @@ use Rattle.message_defs.specs.Texts.{resubmit_id}
 use Rattle.cluster_defs.specs.declared.engine.Engine.{Engine}
 use Rattle.cluster_defs.specs.declared.engine.Joining.TheVariants.{Repeat, AlreadyJoined}
 use Rattle.cluster_defs.specs.Words.{Id, is_listed}
-use Rattle.cluster_defs.specs.Engines.{Engines, engine_on, engine_named, joining_again, joining_new, joining_at, joining, is_joined, joined, left, echoed, with_engine, without_left, with_mark, marked, raises}
+use Rattle.cluster_defs.specs.Engines.{Engines, engine_on, engine_named, joining_again, joining_new, joining_at, joining, is_joined, joined, left_engine, echoed, with_engine, without_left, with_mark, marked, raises}
 use Rattle.cluster_defs.specs.Facts.{Facts, event_on}
-use Rattle.cluster_defs.specs.Acceptance.{Demand, accepted, accepted_id, most_ids}
+use Rattle.cluster_types.specs.Limits.{most_ids}
+use Rattle.cluster_defs.specs.Acceptance.{Demand, accepted, accepted_id}
 use Rattle.cluster_defs.specs.Purges.{Copy, copies_from, copied_by, copied_ids}
 use Rattle.cluster_defs.specs.Steps.{next}
 use Rattle.cluster_defs.specs.Histories.{History, facts, kept}
@@ -260,7 +261,7 @@ ordered_more f (Input (Beat moment word)) h = h
 ordered_more f (Input (Time moment word)) h = h
 ordered_more f (Input (In conn moment word m)) h =
     let o = event_on f conn m in
-    mark_ordered conn (echoed f.engines.live conn f.beats o) _ (left_ordered (left f.engines.live conn o) _ (engine_ordered f.engines conn f.beats o (joined f.engines conn o) refl h))
+    mark_ordered conn (echoed f.engines.live conn f.beats o) _ (left_ordered (left_engine f.engines.live conn o) _ (engine_ordered f.engines conn f.beats o (joined f.engines conn o) refl h))
 
 ordered : (h : History) → Ordered (facts h).engines
 ordered [] = record { ascend = tt; below = refl }

@@ -7,7 +7,7 @@ use Rattle.std.proofs.lemmas.List.Folds.{list_any-append}
 use Rattle.cluster_types.specs.declared.entry.Input.TheVariants.{Open, Up, Down, In, Beat, Time}
 use Rattle.cluster_types.specs.declared.entry.Entry.{Entry}
 use Rattle.cluster_types.specs.declared.entry.Entry.TheVariants.{Input, Hand, Settle, Lose}
-use Rattle.cluster_defs.specs.Engines.{engine_on, joined, left, echoed, with_mark, with_engine, without_left}
+use Rattle.cluster_defs.specs.Engines.{engine_on, joined, left_engine, echoed, with_mark, with_engine, without_left}
 use Rattle.cluster_defs.specs.Facts.{Facts, event_on, is_direct_id}
 use Rattle.cluster_defs.specs.Steps.{next, moved, with_joined}
 use Rattle.cluster_defs.specs.Scheduling.{is_live}
@@ -142,7 +142,7 @@ new_used f (Input (Beat moment word)) h = absurd (omega arith)
 new_used f (Input (Time moment word)) h = absurd (omega arith)
 new_used f (Input (In conn moment word message)) h =
     let o = event_on f conn message in
-    in_new f conn (echoed f.engines.live conn f.beats o) (left f.engines.live conn o) (joined f.engines conn o) f.by_use h
+    in_new f conn (echoed f.engines.live conn f.beats o) (left_engine f.engines.live conn o) (joined f.engines conn o) f.by_use h
 
 pub live_used : (h : History) (n : ℕ) → is_live (facts h) n ≡ true → list_any (λ m. m == n) (facts h).by_use ≡ true
 live_used [] n live = cc

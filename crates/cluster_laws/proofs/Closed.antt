@@ -17,7 +17,7 @@ use Rattle.cluster_defs.specs.declared.attempt.Attempt.{Attempt}
 use Rattle.cluster_defs.specs.declared.attempt.Attempt.TheVariants.{Never, Running, EndedOk, EndedBadly, Lost, Declined}
 use Rattle.cluster_defs.specs.declared.engine.Engine.{Engine}
 use Rattle.cluster_defs.specs.Words.{Id, or_else, is_listed, is_number}
-use Rattle.cluster_defs.specs.Engines.{engine_on, left}
+use Rattle.cluster_defs.specs.Engines.{engine_on, left_engine}
 use Rattle.cluster_defs.specs.Tasks.{Task, Settled, Ending, Well, Badly, Declines, ending, settled_as, lost, took, replied, after_reply, after_end, counts, home, handed, runs, runs_at}
 use Rattle.cluster_defs.specs.Requests.{Request}
 use Rattle.cluster_defs.specs.Facts.{Facts, event_on, is_settled, is_direct_id}
@@ -198,7 +198,7 @@ input_idle f (Beat moment word) id h = h
 input_idle f (Time moment word) id h = h
 input_idle f (In conn moment word m) id h =
     let event = event_on f conn m in
-    end_idle (left f.engines.live conn event) _ (reply_idle f.engines.live conn id (is_direct_id f id) event (f.task id) h)
+    end_idle (left_engine f.engines.live conn event) _ (reply_idle f.engines.live conn id (is_direct_id f id) event (f.task id) h)
 
 -- an id that is settled by an entry was settled before, or is the one that it names
 settled_by : (o : Option Settled) (b : Bool) (s : Settled) → is_some (or_else o (cond b (Some s) None)) ≡ true → (b ≡ false) → is_some o ≡ true

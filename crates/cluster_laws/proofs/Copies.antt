@@ -7,7 +7,7 @@ use Rattle.cluster_types.specs.declared.event.Event.{Event}
 use Rattle.cluster_types.specs.declared.event.Event.TheVariants.{Submit, Direct, Reply, Join, Leave, Pong, Purge, Resubmit, Ask}
 use Rattle.cluster_defs.specs.Words.{Id, is_empty, is_listed, once}
 use Rattle.cluster_defs.specs.Facts.{Facts, is_settled}
-use Rattle.cluster_defs.specs.Acceptance.{most_ids}
+use Rattle.cluster_types.specs.Limits.{most_ids}
 use Rattle.cluster_defs.specs.Purges.{inflight, gone_or_unknown, purge_list, purging, Unknown, Inflight, Drops, dropped, purged_by, drops, Copy, copies_from, never_known, gone, resubmitting, resubmitting_known, Resubmitting, NeverKnown, Gone, Running, NoRoom, Makes, made, copied_by, copied_ids, copied_from}
 use Rattle.cluster_defs.proofs.Options.{same_id}
 

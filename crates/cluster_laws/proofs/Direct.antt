@@ -14,7 +14,7 @@ use Rattle.cluster_defs.specs.declared.attempt.Attempt.{Attempt}
 use Rattle.cluster_defs.specs.declared.attempt.Attempt.TheVariants.{Never, Running, EndedOk, EndedBadly, Lost, Declined}
 use Rattle.cluster_defs.specs.declared.engine.Engine.{Engine}
 use Rattle.cluster_defs.specs.Words.{Id, or_else, is_listed}
-use Rattle.cluster_defs.specs.Engines.{Engines, engine_on, engine_named, lists_number, left, missed}
+use Rattle.cluster_defs.specs.Engines.{Engines, engine_on, engine_named, lists_number, left_engine, missed}
 use Rattle.cluster_defs.specs.Tasks.{Task, Ending, Well, Badly, Declines, ending, lost, took, replied, after_reply, after_end, counts, handed, runs_at, is_never}
 use Rattle.cluster_defs.specs.Requests.{Request}
 use Rattle.cluster_defs.specs.Facts.{Facts, event_on, is_settled, is_direct_id}
@@ -91,7 +91,7 @@ task_never f (Input (Beat moment word)) id h = h
 task_never f (Input (Time moment word)) id h = h
 task_never f (Input (In conn moment word message)) id h =
     let event = event_on f conn message in
-    reply_never f.engines.live conn id (is_direct_id f id) event (f.task id) (end_never (left f.engines.live conn event) _ h)
+    reply_never f.engines.live conn id (is_direct_id f id) event (f.task id) (end_never (left_engine f.engines.live conn event) _ h)
 
 none_before : {X : Type 0} (o p : Option X) → is_some (or_else o p) ≡ false → is_some o ≡ false
 none_before None p h = refl

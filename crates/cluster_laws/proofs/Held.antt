@@ -18,7 +18,7 @@ use Rattle.cluster_defs.specs.declared.attempt.Attempt.{Attempt}
 use Rattle.cluster_defs.specs.declared.attempt.Attempt.TheVariants.{Never, Running, EndedOk, EndedBadly, Lost, Declined}
 use Rattle.cluster_defs.specs.declared.engine.Engine.{Engine}
 use Rattle.cluster_defs.specs.Words.{Id, or_else, is_listed}
-use Rattle.cluster_defs.specs.Engines.{engine_on, left, conn_in, lists_number}
+use Rattle.cluster_defs.specs.Engines.{engine_on, left_engine, conn_in, lists_number}
 use Rattle.cluster_defs.specs.Tasks.{Task, Settled, ending, settled_as, lost, took, replied, after_reply, after_end, counts, handed, runs_at}
 use Rattle.cluster_defs.specs.Requests.{Request, Body, body_of, parts_of, is_direct}
 use Rattle.cluster_defs.specs.Facts.{Facts, event_on, is_settled, is_direct_id}
@@ -153,7 +153,7 @@ replied_more f (Input (Beat moment word)) replied id h = replied id h
 replied_more f (Input (Time moment word)) replied id h = replied id h
 replied_more f (Input (In conn moment word m)) replied id h =
     let event = event_on f conn m in
-    event_has f conn m id event (replied id) (end_before (left f.engines.live conn event) (after_reply f.engines.live conn id (is_direct_id f id) event (f.task id)) h)
+    event_has f conn m id event (replied id) (end_before (left_engine f.engines.live conn event) (after_reply f.engines.live conn id (is_direct_id f id) event (f.task id)) h)
 
 pub replied_all : (h : History) → Replied (facts h)
 unfolding Replied

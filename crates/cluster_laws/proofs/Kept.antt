@@ -8,7 +8,7 @@ use Rattle.cluster_types.specs.declared.entry.Input.TheVariants.{Open, Up, Down,
 use Rattle.cluster_types.specs.declared.entry.Entry.{Entry}
 use Rattle.cluster_types.specs.declared.entry.Entry.TheVariants.{Input, Hand, Settle, Lose}
 use Rattle.cluster_defs.specs.Words.{Id, or_else}
-use Rattle.cluster_defs.specs.Engines.{joined, left, echoed}
+use Rattle.cluster_defs.specs.Engines.{joined, left_engine, echoed}
 use Rattle.cluster_defs.specs.Tasks.{counts, after_reply, after_end}
 use Rattle.cluster_defs.specs.Facts.{Facts, event_on, is_direct_id}
 use Rattle.cluster_defs.specs.Acceptance.{accepted, accepted_id, request_from, body_from}
@@ -22,7 +22,7 @@ use Rattle.cluster_defs.proofs.Options.{none_from, same_id, or_else-None}
 pub record Still (f : Facts) (conn : ℕ) (m : Message) (event : Option Event) : Type 0 where
   pub none_accepted : accepted f m event ≡ None
   pub no_join : joined f.engines conn event ≡ None
-  pub no_leave : left f.engines.live conn event ≡ None
+  pub no_leave : left_engine f.engines.live conn event ≡ None
   pub no_echo : echoed f.engines.live conn f.beats event ≡ None
   pub none_purged : purged_by f event ≡ None
   pub none_copied : copied_by f event ≡ None
@@ -82,7 +82,7 @@ or_false : (b : Bool) → (b || false) ≡ b
 or_false true = refl
 or_false false = refl
 
-task_same : (f : Facts) (conn : ℕ) (m : Message) (id : Id) (event : Option Event) → Still f conn m event → after_end (left f.engines.live conn event) (after_reply f.engines.live conn id (is_direct_id f id) event (f.task id)) ≡ f.task id
+task_same : (f : Facts) (conn : ℕ) (m : Message) (id : Id) (event : Option Event) → Still f conn m event → after_end (left_engine f.engines.live conn event) (after_reply f.engines.live conn id (is_direct_id f id) event (f.task id)) ≡ f.task id
 task_same f conn m id event still = rw still.no_leave (reply_same f conn id (is_direct_id f id) event still.not_valid)
 
 engines_same : (f : Facts) (conn : ℕ) (m : Message) (event : Option Event) → Still f conn m event → engines_in f conn event ≡ f.engines

@@ -13,7 +13,7 @@ use Rattle.cluster_defs.specs.declared.attempt.Attempt.{Attempt}
 use Rattle.cluster_defs.specs.declared.attempt.Attempt.TheVariants.{Running}
 use Rattle.cluster_defs.specs.declared.engine.Engine.{Engine}
 use Rattle.cluster_defs.specs.Words.{Id, or_else}
-use Rattle.cluster_defs.specs.Engines.{Engines, engine_on, lists_number, joined, left, echoed, with_engine, without_left, with_mark, marked, raises}
+use Rattle.cluster_defs.specs.Engines.{Engines, engine_on, lists_number, joined, left_engine, echoed, with_engine, without_left, with_mark, marked, raises}
 use Rattle.cluster_defs.specs.Tasks.{Task, Settled, Ending, Well, Badly, Declines, ending, lost, took, replied, after_reply, after_end, counts, handed, runs_at}
 use Rattle.cluster_defs.specs.Requests.{Request}
 use Rattle.cluster_defs.specs.Facts.{Facts, event_on, is_direct_id}
@@ -61,7 +61,7 @@ came f (Input (Time moment word)) n h = inl h
 came f (Input (In conn moment word message)) n h =
     let event = event_on f conn message in
     marked_came n conn (echoed f.engines.live conn f.beats event) f.engines _
-    (left_came n (left f.engines.live conn event) f.engines _ (joined_came n conn f.beats (joined f.engines conn event) f.engines)) h
+    (left_came n (left_engine f.engines.live conn event) f.engines _ (joined_came n conn f.beats (joined f.engines conn event) f.engines)) h
 
 joined_rises : (conn beats : ℕ) (uuid : Option (List ℕ)) (old : Engines) → old.next ≤ (with_engine conn beats uuid old).next
 joined_rises conn beats None old = omega arith
@@ -90,7 +90,7 @@ next_rises f (Input (Beat moment word)) = omega arith
 next_rises f (Input (Time moment word)) = omega arith
 next_rises f (Input (In conn moment word message)) =
     let event = event_on f conn message in
-    rw (in_next f conn (echoed f.engines.live conn f.beats event) (left f.engines.live conn event) (joined f.engines conn event)) (joined_rises conn f.beats (joined f.engines conn event) f.engines)
+    rw (in_next f conn (echoed f.engines.live conn f.beats event) (left_engine f.engines.live conn event) (joined f.engines conn event)) (joined_rises conn f.beats (joined f.engines conn event) f.engines)
 
 -- REQUESTS AND OUTCOMES
 
@@ -162,7 +162,7 @@ excluded_stays f (Input (Beat moment word)) id n h = h
 excluded_stays f (Input (Time moment word)) id n h = h
 excluded_stays f (Input (In conn moment word message)) id n h =
     let event = event_on f conn message in
-    end_keeps n (left f.engines.live conn event) _ (reply_keeps n f.engines.live conn id (is_direct_id f id) event (f.task id) h)
+    end_keeps n (left_engine f.engines.live conn event) _ (reply_keeps n f.engines.live conn id (is_direct_id f id) event (f.task id) h)
 
 -- LATER FACTS
 

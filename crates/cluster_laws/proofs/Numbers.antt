@@ -18,7 +18,8 @@ use Rattle.cluster_defs.specs.declared.acceptance.Acceptance.TheVariants.{Reserv
 use Rattle.cluster_defs.specs.Words.{Id, is_listed, begins_with}
 use Rattle.cluster_defs.specs.Engines.{engine_named}
 use Rattle.cluster_defs.specs.Facts.{Facts, event_on}
-use Rattle.cluster_defs.specs.Acceptance.{Demand, demanded, reserved_front, most_ids, is_repeat, acceptance_new, acceptance_open, acceptance, is_accepted, accepted_as, accepted, accepted_id}
+use Rattle.cluster_types.specs.Limits.{most_ids}
+use Rattle.cluster_defs.specs.Acceptance.{Demand, demanded, reserved_front, is_repeat, acceptance_new, acceptance_open, acceptance, is_accepted, accepted_as, accepted, accepted_id}
 use Rattle.cluster_defs.specs.Purges.{Copy, copies_from, copied_by, copied_ids}
 use Rattle.cluster_defs.specs.Steps.{next}
 use Rattle.cluster_defs.specs.Histories.{History, facts}

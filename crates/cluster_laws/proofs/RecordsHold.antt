@@ -13,7 +13,7 @@ use Rattle.cluster_types.specs.declared.entry.Input.TheVariants.{Open, Up, Down,
 use Rattle.cluster_types.specs.declared.entry.Entry.{Entry}
 use Rattle.cluster_types.specs.declared.entry.Entry.TheVariants.{Input, Hand, Settle, Lose}
 use Rattle.cluster_defs.specs.Words.{Id, or_else, is_listed}
-use Rattle.cluster_defs.specs.Engines.{engine_on, left}
+use Rattle.cluster_defs.specs.Engines.{engine_on, left_engine}
 use Rattle.cluster_defs.specs.Tasks.{Settled, settled_as, engine_of, handed, after_reply}
 use Rattle.cluster_defs.specs.Facts.{Facts, event_on, is_settled, is_direct_id}
 use Rattle.cluster_defs.specs.Steps.{next}
@@ -115,7 +115,7 @@ input_engine f (Beat moment word) id = refl
 input_engine f (Time moment word) id = refl
 input_engine f (In conn moment word m) id =
     let event = event_on f conn m in
-    end_engine (left f.engines.live conn event) (after_reply f.engines.live conn id (is_direct_id f id) event (f.task id)) ∙ reply_engine f.engines.live conn id (is_direct_id f id) event (f.task id)
+    end_engine (left_engine f.engines.live conn event) (after_reply f.engines.live conn id (is_direct_id f id) event (f.task id)) ∙ reply_engine f.engines.live conn id (is_direct_id f id) event (f.task id)
 
 placed_more : (older : History) (e : Entry) → Legal (e ∷ older) → Placed (facts older) → Placed (next (facts older) e)
 unfolding Placed

@@ -5,22 +5,22 @@ use Rattle.std.proofs.lemmas.Bool.{false_from_ne_true, both_ways}
 use Rattle.cluster_defs.specs.Words.{Id, is_empty, is_listed, once}
 use Rattle.cluster_defs.specs.Tasks.{Settled}
 use Rattle.cluster_defs.specs.Facts.{Facts, is_settled}
-use Rattle.cluster_defs.specs.Acceptance.{most_ids}
+use Rattle.cluster_types.specs.Limits.{most_ids}
 use Rattle.cluster_defs.specs.Purges.{Unknown, Inflight, Drops, inflight, gone_or_unknown, purge_list, purging, copies_from, never_known, gone, NeverKnown, Gone, Running, NoRoom, Makes, resubmitting}
 use Rattle.cluster_defs.specs.Histories.{History, facts, Legal}
 use Rattle.cluster_defs.specs.TaskRecords.{record_of, records_of}
-use Rattle.cluster_defs.specs.RecordAnswers.{record_in, gone_as, settled_in}
+use Rattle.cluster_defs.specs.RecordAnswers.{record_in, gone_as, is_settled_record}
 use Rattle.cluster_defs.specs.RecordPlans.{gone_in, inflight_in, purge_list_in, purge_in, unknown_in, purged_in, resubmit_in}
 use Rattle.cluster_laws.proofs.Closed.{Closed, closed}
 use Rattle.cluster_laws.proofs.RecordsTell.{same_filter, some_map, picked, gone_told, record_is}
 
 -- whether an id is settled, by its record
-settled_as : (f : Facts) (id : Id) (b : Bool) → is_listed id f.known ≡ b → (is_settled f id ≡ true → is_listed id f.known ≡ true) → settled_in (cond b (Some (record_of f id)) None) ≡ is_settled f id
+settled_as : (f : Facts) (id : Id) (b : Bool) → is_listed id f.known ≡ b → (is_settled f id ≡ true → is_listed id f.known ≡ true) → is_settled_record (cond b (Some (record_of f id)) None) ≡ is_settled f id
 settled_as f id true is listed = some_map (λ (s : Settled). (s.verdict, s.cause)) (f.settled id)
 settled_as f id false is listed = sym (false_from_ne_true (is_settled f id) (λ on. both_ways (is_listed id f.known) is (listed on)))
 
-settled_told : (f : Facts) → Closed f → (id : Id) → settled_in (record_in (records_of f) id) ≡ is_settled f id
-settled_told f closed id = ap settled_in (record_is f f.known id) ∙ settled_as f id (is_listed id f.known) refl (closed.listed id)
+settled_told : (f : Facts) → Closed f → (id : Id) → is_settled_record (record_in (records_of f) id) ≡ is_settled f id
+settled_told f closed id = ap is_settled_record (record_is f f.known id) ∙ settled_as f id (is_listed id f.known) refl (closed.listed id)
 
 inflight_told : (f : Facts) → Closed f → (ids : List Id) → inflight_in (records_of f) ids ≡ inflight f ids
 inflight_told f closed ids = same_filter _ _ (λ id. ap not (settled_told f closed id)) ids

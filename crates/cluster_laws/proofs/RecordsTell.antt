@@ -26,7 +26,7 @@ use Rattle.cluster_defs.specs.Histories.{History, facts, Legal}
 use Rattle.cluster_defs.specs.Outcomes.{outcome}
 use Rattle.cluster_defs.specs.Queries.{plain, refusal, finished_on, engine_queue, unassigned, shown, queue_of, queue_answer, left_as, left_by, results_of, result_with, result_answer, answer_query, answer, limited}
 use Rattle.cluster_defs.specs.TaskRecords.{record_of, records_of}
-use Rattle.cluster_defs.specs.RecordAnswers.{ids_where, record_in, waits_in, runs_in, finished_in, queue_in, asked_engines, lives_in, queues_in, gone_as, settled_in, left_in, all_left, results_in, result_in, query_in, answer_in}
+use Rattle.cluster_defs.specs.RecordAnswers.{ids_where, record_in, waits_in, runs_in, finished_in, queue_in, asked_engines, lives_in, queues_in, gone_as, is_settled_record, left_in, all_left, results_in, result_in, query_in, answer_in}
 use Rattle.cluster_defs.proofs.Options.{same_id}
 use Rattle.cluster_laws.proofs.Copies.{none_pass}
 use Rattle.cluster_laws.proofs.RecordsHold.{settled_engine}
@@ -158,8 +158,8 @@ all_open f (id ∷ ids) h = let both = and_parts _ _ h in (open_of f id (is_list
 known_record : (f : Facts) (id : Id) → is_listed id f.known ≡ true → record_in (records_of f) id ≡ Some (record_of f id)
 known_record f id h = record_is f f.known id ∙ ap (λ b. cond b (Some (record_of f id)) None) h
 
-settled_told : (f : Facts) (id : Id) → Open f id → settled_in (record_in (records_of f) id) ≡ is_settled f id
-settled_told f id is = ap settled_in (known_record f id is.0) ∙ some_map (λ (s : Settled). (s.verdict, s.cause)) (f.settled id)
+settled_told : (f : Facts) (id : Id) → Open f id → is_settled_record (record_in (records_of f) id) ≡ is_settled f id
+settled_told f id is = ap is_settled_record (known_record f id is.0) ∙ some_map (λ (s : Settled). (s.verdict, s.cause)) (f.settled id)
 
 -- filters by tests that agree on these ids
 open_filter : (f : Facts) (p q : Id → Bool) → ((id : Id) → Open f id → p id ≡ q id) → (ids : List Id) → AllOpen f ids → filter p ids ≡ filter q ids
@@ -196,18 +196,18 @@ all_left_told h legal true ids all = refl
 all_left_told h legal false ids all = each_left h legal ids all
 
 results_told : (h : History) → Legal h → (ids : List Id) (status_only : Bool) → AllOpen (facts h) ids →
-    results_in (records_of (facts h)) ids (all_left (records_of (facts h)) status_only (filter (λ id. settled_in (record_in (records_of (facts h)) id)) ids))
+    results_in (records_of (facts h)) ids (all_left (records_of (facts h)) status_only (filter (λ id. is_settled_record (record_in (records_of (facts h)) id)) ids))
     ≡ result_with (facts h) ids (results_of (facts h) status_only (filter (is_settled (facts h)) ids))
 results_told h legal ids status_only all =
     let f = facts h in
-    let told : Id → Bool = λ id. settled_in (record_in (records_of f) id) in
+    let told : Id → Bool = λ id. is_settled_record (record_in (records_of f) id) in
     let settled = open_filter f told (is_settled f) (settled_told f) ids all in
     let pending = open_filter f (λ id. not (told id)) (λ id. not (is_settled f id)) (λ id is. ap not (settled_told f id is)) ids all in
     let left = ap (all_left (records_of f) status_only) settled ∙ all_left_told h legal status_only (filter (is_settled f) ids) (filter_open f (is_settled f) ids all) in
     λ i. record { content = result_content (pending i) (settled i) (left i); buffers = flat_map (λ (r : SettledText). r.outcome.buffers) (left i) }
 
 choose : (h : History) → Legal h → (ids : List Id) (status_only : Bool) (b : Bool) → is_empty (gone_or_unknown (facts h) ids) ≡ b →
-    cond (not b) (refusal (codes "UnknownIds") [] (gone_or_unknown (facts h) ids)) (results_in (records_of (facts h)) ids (all_left (records_of (facts h)) status_only (filter (λ id. settled_in (record_in (records_of (facts h)) id)) ids)))
+    cond (not b) (refusal (codes "UnknownIds") [] (gone_or_unknown (facts h) ids)) (results_in (records_of (facts h)) ids (all_left (records_of (facts h)) status_only (filter (λ id. is_settled_record (record_in (records_of (facts h)) id)) ids)))
     ≡ cond (not b) (refusal (codes "UnknownIds") [] (gone_or_unknown (facts h) ids)) (result_with (facts h) ids (results_of (facts h) status_only (filter (is_settled (facts h)) ids)))
 choose h legal ids status_only false is = refl
 choose h legal ids status_only true is = results_told h legal ids status_only (all_open (facts h) ids (none_pass (λ id. not (is_listed id (facts h).known) || (facts h).purged id) ids is))
@@ -216,7 +216,7 @@ result_told : (h : History) → Legal h → (ids : List Id) (status_only : Bool)
 result_told h legal ids status_only =
     let f = facts h in
     let gone = same_filter (λ id. gone_as (record_in (records_of f) id)) (λ id. not (is_listed id f.known) || f.purged id) (gone_told f) ids in
-    ap (λ x. cond (not (is_empty x)) (refusal (codes "UnknownIds") [] x) (results_in (records_of f) ids (all_left (records_of f) status_only (filter (λ id. settled_in (record_in (records_of f) id)) ids)))) gone
+    ap (λ x. cond (not (is_empty x)) (refusal (codes "UnknownIds") [] x) (results_in (records_of f) ids (all_left (records_of f) status_only (filter (λ id. is_settled_record (record_in (records_of f) id)) ids)))) gone
     ∙ choose h legal ids status_only (is_empty (gone_or_unknown f ids)) refl
 
 -- THE ANSWER

@@ -16,7 +16,7 @@ use Rattle.cluster_defs.specs.declared.attempt.Attempt.{Attempt}
 use Rattle.cluster_defs.specs.declared.attempt.Attempt.TheVariants.{Never, Running, EndedOk, EndedBadly, Lost, Declined}
 use Rattle.cluster_defs.specs.declared.engine.Engine.{Engine}
 use Rattle.cluster_defs.specs.Words.{Id, or_else}
-use Rattle.cluster_defs.specs.Engines.{engine_on, left}
+use Rattle.cluster_defs.specs.Engines.{engine_on, left_engine}
 use Rattle.cluster_defs.specs.Tasks.{Task, Settled, Ending, Well, Badly, Declines, ending, settled_as, engine_of, lost, took, replied, after_reply, after_end, counts, handed, runs_at}
 use Rattle.cluster_defs.specs.Requests.{Request}
 use Rattle.cluster_defs.specs.Facts.{Facts, event_on, is_direct_id}
@@ -137,7 +137,7 @@ task_sound f (Input (Beat moment word)) sound hand id n h = sound.attempt id n h
 task_sound f (Input (Time moment word)) sound hand id n h = sound.attempt id n h
 task_sound f (Input (In conn moment word m)) sound hand id n h =
     let event = event_on f conn m in
-    sound.attempt id n (sym (end_engine (left f.engines.live conn event) (after_reply f.engines.live conn id (is_direct_id f id) event (f.task id)) ∙ reply_engine f.engines.live conn id (is_direct_id f id) event (f.task id)) ∙ h)
+    sound.attempt id n (sym (end_engine (left_engine f.engines.live conn event) (after_reply f.engines.live conn id (is_direct_id f id) event (f.task id)) ∙ reply_engine f.engines.live conn id (is_direct_id f id) event (f.task id)) ∙ h)
 
 made_engine : (f : Facts) → Sound f → (b : Bool) (v : Verdict) (c : Cause) (id : Id) (o : Option Settled) → f.settled id ≡ o → (s : Settled) (n : ℕ) → or_else o (cond b (Some (settled_as v c f.moment (f.task id))) None) ≡ Some s → s.engine ≡ Some n → n < f.engines.next
 made_engine f sound b v c id (Some q) is s n h e = sound.settled id s n (is ∙ h) e

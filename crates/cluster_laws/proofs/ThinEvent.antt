@@ -17,12 +17,12 @@ use Rattle.message_defs.specs.declared.content.HubContent.{HubContent}
 use Rattle.message_defs.specs.declared.content.HubContent.TheVariants.{Connection as ConnectionContent, History as HistoryContent, Shutdown as ShutdownContent, Queue as QueueContent, Result as ResultContent, Purge as PurgeContent, Resubmit as ResubmitContent, Join, Pong}
 use Rattle.message_defs.specs.declared.request.Request.{Request}
 use Rattle.message_defs.specs.declared.request.Request.TheVariants.{Registration, Beat}
-use Rattle.message_defs.specs.Json.{Reading, after}
+use Rattle.message_defs.specs.Json.{Reading, reading_then}
 use Rattle.message_defs.specs.Header.{read_header}
 use Rattle.message_defs.specs.Submit.{read_submit}
 use Rattle.message_defs.specs.Reply.{read_reply, read_task, read_declined, read_status}
 use Rattle.message_defs.specs.Hub.{request_of, read_content}
-use Rattle.message_defs.specs.Event.{event_of, event_under, event_in as content_event, asked, hub_request, hub_event, submitted, task_event, mux_event, engine_event, reply_event, replied, echoed, is_registration, is_echo, is_leave, is_reply, is_request, direct_meta, submission}
+use Rattle.message_defs.specs.Event.{event_of, event_under, event_of_content as content_event, request_event, hub_request, hub_event, submitted, task_event, mux_event, engine_event, reply_event, replied, echo_event, is_registration, is_echo, is_leave, is_reply, is_request, direct_meta, submission}
 use Rattle.cluster_defs.specs.Thin.{short_reply}
 
 -- a message with another content and other buffers
@@ -51,7 +51,7 @@ content_plain (ResubmitContent ids) = (refl, refl)
 content_plain (Join uuid) = (refl, refl)
 content_plain (Pong beat) = (refl, refl)
 
-asked_plain : (r : Reading HubContent) → (is_demand (asked r) ≡ false) × (is_answer (asked r) ≡ false)
+asked_plain : (r : Reading HubContent) → (is_demand (request_event r) ≡ false) × (is_answer (request_event r) ≡ false)
 asked_plain (Ok c) = content_plain c
 asked_plain (Err fault) = (refl, refl)
 
@@ -79,9 +79,9 @@ never e r h = cc
 
 engine_demand : (header : HeaderType) (m : Message) (e : Event) → engine_event header m ≡ Ok e → is_demand e ≡ true → ⊥
 engine_demand header m e h on =
-    (elim (is_registration (request_of header.msg_type)) as (λ b. cond b (Ok (asked (read_content Registration m.content))) (cond (is_echo (request_of header.msg_type)) (echoed (read_content Beat m.content)) (reply_event header m)) ≡ Ok e → ⊥) [
+    (elim (is_registration (request_of header.msg_type)) as (λ b. cond b (Ok (request_event (read_content Registration m.content))) (cond (is_echo (request_of header.msg_type)) (echo_event (read_content Beat m.content)) (reply_event header m)) ≡ Ok e → ⊥) [
       | true ↦ λ k. clash is_demand _ e ((asked_plain (read_content Registration m.content)).0) k on
-      | false ↦ λ k. (elim (is_echo (request_of header.msg_type)) as (λ b. cond b (echoed (read_content Beat m.content)) (reply_event header m) ≡ Ok e → ⊥) [
+      | false ↦ λ k. (elim (is_echo (request_of header.msg_type)) as (λ b. cond b (echo_event (read_content Beat m.content)) (reply_event header m) ≡ Ok e → ⊥) [
         | true ↦ λ l. echo (read_content Beat m.content) l
         | false ↦ λ l. (elim (is_leave header.msg_type) as (λ b. cond b (Ok Leave) (cond (is_reply header.msg_type) (replied header (read_reply m.parent m.metadata m.content)) (Err BadType)) ≡ Ok e → ⊥) [
           | true ↦ λ n. clash is_demand Leave e refl n on
@@ -93,7 +93,7 @@ engine_demand header m e h on =
       ]) k
     ]) h
   where
-    echo : (r : Reading HubContent) → echoed r ≡ Ok e → ⊥
+    echo : (r : Reading HubContent) → echo_event r ≡ Ok e → ⊥
     echo (Ok c) l = clash is_demand _ e ((content_plain c).0) l on
     echo (Err fault) l = never e BadReply l
 
@@ -131,17 +131,17 @@ replied_short : (header : HeaderType) (m : Message) (name id : List ℕ) (ok dec
     replied header (read_reply m.parent m.metadata (short_reply ok)) ≡ Ok (Reply name id ok declined)
 replied_short header m name id ok declined h = at_task (read_task m.parent) h
   where
-    at_status : (task : List ℕ) (out : Bool) (s : Reading Bool) → replied header (after s (λ b. Ok (record { task = task; ok = b; declined = out }))) ≡ Ok (Reply name id ok declined) → replied header (after (read_status (short_reply ok)) (λ b. Ok (record { task = task; ok = b; declined = out }))) ≡ Ok (Reply name id ok declined)
+    at_status : (task : List ℕ) (out : Bool) (s : Reading Bool) → replied header (reading_then s (λ b. Ok (record { task = task; ok = b; declined = out }))) ≡ Ok (Reply name id ok declined) → replied header (reading_then (read_status (short_reply ok)) (λ b. Ok (record { task = task; ok = b; declined = out }))) ≡ Ok (Reply name id ok declined)
     at_status task out (Err fault) k = absurd (never _ BadReply k)
     at_status task out (Ok b) k =
         let same : b ≡ ok = reply_parts task header.msg_id b out ok declined name id (ok_same _ _ k) in
         rw (short_status ok) (subst (λ x. replied header (Ok (record { task = task; ok = x; declined = out })) ≡ Ok (Reply name id ok declined)) same k)
 
-    at_declined : (task : List ℕ) (d : Reading Bool) → replied header (after d (λ out. after (read_status m.content) (λ b. Ok (record { task = task; ok = b; declined = out })))) ≡ Ok (Reply name id ok declined) → replied header (after d (λ out. after (read_status (short_reply ok)) (λ b. Ok (record { task = task; ok = b; declined = out })))) ≡ Ok (Reply name id ok declined)
+    at_declined : (task : List ℕ) (d : Reading Bool) → replied header (reading_then d (λ out. reading_then (read_status m.content) (λ b. Ok (record { task = task; ok = b; declined = out })))) ≡ Ok (Reply name id ok declined) → replied header (reading_then d (λ out. reading_then (read_status (short_reply ok)) (λ b. Ok (record { task = task; ok = b; declined = out })))) ≡ Ok (Reply name id ok declined)
     at_declined task (Err fault) k = absurd (never _ BadReply k)
     at_declined task (Ok out) k = at_status task out (read_status m.content) k
 
-    at_task : (t : Reading (List ℕ)) → replied header (after t (λ task. after (read_declined m.metadata) (λ out. after (read_status m.content) (λ b. Ok (record { task = task; ok = b; declined = out }))))) ≡ Ok (Reply name id ok declined) → replied header (after t (λ task. after (read_declined m.metadata) (λ out. after (read_status (short_reply ok)) (λ b. Ok (record { task = task; ok = b; declined = out }))))) ≡ Ok (Reply name id ok declined)
+    at_task : (t : Reading (List ℕ)) → replied header (reading_then t (λ task. reading_then (read_declined m.metadata) (λ out. reading_then (read_status m.content) (λ b. Ok (record { task = task; ok = b; declined = out }))))) ≡ Ok (Reply name id ok declined) → replied header (reading_then t (λ task. reading_then (read_declined m.metadata) (λ out. reading_then (read_status (short_reply ok)) (λ b. Ok (record { task = task; ok = b; declined = out }))))) ≡ Ok (Reply name id ok declined)
     at_task (Err fault) k = absurd (never _ BadReply k)
     at_task (Ok task) k = at_declined task (read_declined m.metadata) k
 
@@ -150,9 +150,9 @@ engine_reply : (header : HeaderType) (m : Message) (buffers : List (List ℕ)) (
 engine_reply header m buffers name id ok declined h =
     let e = Reply name id ok declined in
     let n : Message = with_body (short_reply ok) buffers m in
-    (elim (is_registration (request_of header.msg_type)) as (λ b. cond b (Ok (asked (read_content Registration m.content))) (cond (is_echo (request_of header.msg_type)) (echoed (read_content Beat m.content)) (reply_event header m)) ≡ Ok e → cond b (Ok (asked (read_content Registration n.content))) (cond (is_echo (request_of header.msg_type)) (echoed (read_content Beat n.content)) (reply_event header n)) ≡ Ok e) [
+    (elim (is_registration (request_of header.msg_type)) as (λ b. cond b (Ok (request_event (read_content Registration m.content))) (cond (is_echo (request_of header.msg_type)) (echo_event (read_content Beat m.content)) (reply_event header m)) ≡ Ok e → cond b (Ok (request_event (read_content Registration n.content))) (cond (is_echo (request_of header.msg_type)) (echo_event (read_content Beat n.content)) (reply_event header n)) ≡ Ok e) [
       | true ↦ λ k. absurd (clash is_answer _ e ((asked_plain (read_content Registration m.content)).1) k refl)
-      | false ↦ λ k. (elim (is_echo (request_of header.msg_type)) as (λ b. cond b (echoed (read_content Beat m.content)) (reply_event header m) ≡ Ok e → cond b (echoed (read_content Beat n.content)) (reply_event header n) ≡ Ok e) [
+      | false ↦ λ k. (elim (is_echo (request_of header.msg_type)) as (λ b. cond b (echo_event (read_content Beat m.content)) (reply_event header m) ≡ Ok e → cond b (echo_event (read_content Beat n.content)) (reply_event header n) ≡ Ok e) [
         | true ↦ λ l. absurd (echo (read_content Beat m.content) l)
         | false ↦ λ l. (elim (is_leave header.msg_type) as (λ b. cond b (Ok Leave) (cond (is_reply header.msg_type) (replied header (read_reply m.parent m.metadata m.content)) (Err BadType)) ≡ Ok e → cond b (Ok Leave) (cond (is_reply header.msg_type) (replied header (read_reply n.parent n.metadata n.content)) (Err BadType)) ≡ Ok e) [
           | true ↦ λ o. o
@@ -164,7 +164,7 @@ engine_reply header m buffers name id ok declined h =
       ]) k
     ]) h
   where
-    echo : (r : Reading HubContent) → echoed r ≡ Ok (Reply name id ok declined) → ⊥
+    echo : (r : Reading HubContent) → echo_event r ≡ Ok (Reply name id ok declined) → ⊥
     echo (Ok c) l = clash is_answer _ _ ((content_plain c).1) l refl
     echo (Err fault) l = never _ BadReply l
 

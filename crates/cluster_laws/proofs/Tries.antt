@@ -15,7 +15,7 @@ use Rattle.cluster_defs.specs.declared.attempt.Attempt.{Attempt}
 use Rattle.cluster_defs.specs.declared.attempt.Attempt.TheVariants.{Never, Running, EndedOk, EndedBadly, Lost, Declined}
 use Rattle.cluster_defs.specs.declared.engine.Engine.{Engine}
 use Rattle.cluster_defs.specs.Words.{Id, or_else, is_number}
-use Rattle.cluster_defs.specs.Engines.{engine_on, left}
+use Rattle.cluster_defs.specs.Engines.{engine_on, left_engine}
 use Rattle.cluster_defs.specs.Tasks.{Task, Ending, Well, Badly, Declines, ending, lost, handed, runs, runs_at, is_never, home, counts, took, replied, after_reply, after_end}
 use Rattle.cluster_defs.specs.Requests.{Request}
 use Rattle.cluster_defs.specs.Facts.{Facts, event_on, is_direct_id}
@@ -92,7 +92,7 @@ input_used f (Time moment word) id = omega arith
 input_used f (In conn moment word message) id =
     let event = event_on f conn message in
     let e = event_used f conn id event in
-    let g = end_used (left f.engines.live conn event) (after_reply f.engines.live conn id (is_direct_id f id) event (f.task id)) in
+    let g = end_used (left_engine f.engines.live conn event) (after_reply f.engines.live conn id (is_direct_id f id) event (f.task id)) in
     omega arith
 
 -- what an accepted request allows, only rises
@@ -165,7 +165,7 @@ fresh_more f (Input (Beat moment word)) id fresh h = fresh h
 fresh_more f (Input (Time moment word)) id fresh h = fresh h
 fresh_more f (Input (In conn moment word message)) id fresh h =
     let event = event_on f conn message in
-    end_fresh (left f.engines.live conn event) _ (reply_fresh f.engines.live conn id (is_direct_id f id) event (f.task id) fresh) h
+    end_fresh (left_engine f.engines.live conn event) _ (reply_fresh f.engines.live conn id (is_direct_id f id) event (f.task id) fresh) h
 
 pub fresh : (h : History) (id : Id) → Fresh ((facts h).task id)
 fresh [] id h = refl

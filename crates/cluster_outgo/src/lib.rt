@@ -2,9 +2,10 @@
 #![tactic(auto)]
 
 ghost use Rattle.std.specs.Prelude.{◌≡◌, ◌≤◌, IfOk};
+ghost use Rattle.cluster_types.specs.Limits.{last_moment};
 ghost use Rattle.edges.specs.Date.{date_of};
 ghost use Rattle.message_defs.specs.Sent.{sent_message};
-ghost use Rattle.message_defs.specs.Texts.{made_header, empty_object};
+ghost use Rattle.message_defs.specs.Texts.{made_header};
 ghost use Rattle.jupyter_parts.specs.Signed.{signed_frames, IsSigned};
 ghost use Rattle.cluster_outgo.specs.Frames.{IsSendable, frames_of};
 
@@ -17,6 +18,7 @@ use cluster_types::text::Text;
 use edges::date::{Moment, date_text};
 use edges::frames::Frames;
 use hmac_sign::Key;
+use jupyter_header::contents::empty_object;
 use jupyter_header::write::made_header;
 use jupyter_parts::write::write_signed;
 use std::alloc::{AllocError, Global};
@@ -28,20 +30,11 @@ fn header_at(
     msg_id: &Text,
     msg_type: &Text,
 ) -> Result<Octets, AllocError>
-    requires { moment ≤ 253_402_300_799_999 }
+    requires { moment ≤ last_moment }
     ensures { IfOk result (λ o. o ≡ made_header msg_id.now msg_type.now (date_of moment)) }
 {
     let date = date_text(alloc, Moment { millis: moment })?;
-    let header = made_header(alloc, msg_id, msg_type, date.as_str())?;
-    Ok(header)
-}
-
-/// The octets of an object without members.
-#[tactic(auto, unfolding(message_defs::specs::Texts::empty_object))]
-fn empty_object() -> &'static [u8]
-    ensures { result.now ≡ empty_object }
-{
-    b"{}"
+    made_header(alloc, msg_id, msg_type, date.as_str())
 }
 
 /// The frames of an out, signed under the key: of a message that is passed on, all parts as they are, and of one that the
@@ -52,29 +45,26 @@ pub fn frames_of(alloc: Global, out: &Out, key: &Key) -> Result<Frames, AllocErr
     ensures signed { IfOk result (λ f. IsSigned key.now f (sent_message date_of out.now)) }
 {
     match out {
-        Out::Pass { conn: _, message } => {
-            let frames = write_signed(
-                alloc,
-                key,
-                message.header.as_slice(),
-                message.parent.as_slice(),
-                message.metadata.as_slice(),
-                message.content.as_slice(),
-                &message.buffers,
-            )?;
-            Ok(frames)
-        }
+        Out::Pass { message, .. } => write_signed(
+            alloc,
+            key,
+            message.header(),
+            message.parent(),
+            message.metadata(),
+            message.content(),
+            message.buffers(),
+        ),
         Out::Made {
-            conn: _,
             moment,
             msg_id,
             msg_type,
             parent,
             content,
             buffers,
+            ..
         } => {
             let header = header_at(alloc, *moment, msg_id, msg_type)?;
-            let frames = write_signed(
+            write_signed(
                 alloc,
                 key,
                 header.as_slice(),
@@ -82,8 +72,7 @@ pub fn frames_of(alloc: Global, out: &Out, key: &Key) -> Result<Frames, AllocErr
                 empty_object(),
                 content.as_slice(),
                 buffers,
-            )?;
-            Ok(frames)
+            )
         }
     }
 }

@@ -1,10 +1,10 @@
 //! The frames of one out of each kind, under the key `k`, as the Python model gives them.
 
 use crate::frames_of;
-use cluster_types::message::Message;
 use cluster_types::octets::Octets;
 use cluster_types::out::Out;
 use cluster_types::sequence::Sequence;
+use cluster_types::shared_message::SharedMessage;
 use cluster_types::text::Text;
 use hmac_sign::Key;
 use std::test::Fail;
@@ -46,14 +46,15 @@ fn sends_passed(rt: HostRuntime) -> Result<(), Fail> {
     let alloc = rt.alloc();
     let passed = Out::Pass {
         conn: 2,
-        message: Message {
-            target: Octets::new(alloc, b"e0")?,
-            header: Octets::new(alloc, b"{\"msg_id\":\"a\",\"msg_type\":\"t\"}")?,
-            parent: Octets::new(alloc, b"{}")?,
-            metadata: Octets::new(alloc, b"{\"timeout\": 0.0}")?,
-            content: Octets::new(alloc, b"{\"code\":\"1\"}")?,
-            buffers: Sequence::new(alloc),
-        },
+        message: SharedMessage::new(
+            alloc,
+            b"e0",
+            b"{\"msg_id\":\"a\",\"msg_type\":\"t\"}",
+            b"{}",
+            b"{\"timeout\": 0.0}",
+            b"{\"code\":\"1\"}",
+            Sequence::new(alloc),
+        )?,
     };
     let frames = frames_of(alloc, &passed, &Key::new(alloc, b"k")?)?;
     assert_eq!(rt; frames.len(), 6);

@@ -1,8 +1,6 @@
 -- What a request for a task comes to, by the task of its id.
-use Rattle.std.proofs.Common.{◌≡◌, Bool, true, false, cond, refl, sym, ap, ◌∙◌, Option, Some, None}
-use Rattle.std.specs.Prelude.{is_some}
+use Rattle.std.proofs.Common.{◌≡◌, false, refl, Some, None}
 use Rattle.cluster_types.specs.declared.message.Message.{Message}
-use Rattle.cluster_defs.specs.declared.acceptance.Acceptance.{Acceptance}
 use Rattle.cluster_defs.specs.declared.acceptance.Acceptance.TheVariants.{Again}
 use Rattle.cluster_defs.specs.Words.{begins_with}
 use Rattle.cluster_defs.specs.Acceptance.{Demand, acceptance, acceptance_new, is_same, reserved_front}

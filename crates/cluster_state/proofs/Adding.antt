@@ -1,10 +1,8 @@
 -- What accepted requests make of the data.
-use Rattle.std.proofs.Common.{◌≡◌, ℕ, ◌+◌, List, [], ◌∷◌, ◌++◌, append-nil, map, length, Bool, true, false, cond, not, ◌||◌, refl, sym, ap, ◌∙◌, subst, bytes_eq, Option, Some, None, arith}
+use Rattle.std.proofs.Common.{◌≡◌, ℕ, ◌+◌, List, [], ◌∷◌, ◌++◌, append-nil, map, length, Bool, true, false, cond, not, ◌||◌, refl, sym, ap, ◌∙◌, bytes_eq, Option, Some, None, arith}
 use Rattle.std.specs.Prelude.{is_some, if◌then◌else◌, suc}
 use Rattle.std.specs.List.{position_or_len}
-use Rattle.std.proofs.lemmas.Bool.{false_from_ne_true, both_ways}
 use Rattle.std.proofs.lemmas.List.{map-append, length-map}
-use Rattle.std.proofs.lemmas.List.Folds.{list_any-append}
 use Rattle.cluster_types.specs.declared.message.Message.{Message}
 use Rattle.cluster_types.specs.declared.event.Submission.{Submission}
 use Rattle.cluster_types.specs.declared.event.Event.{Event}
@@ -12,25 +10,21 @@ use Rattle.cluster_types.specs.declared.event.Event.TheVariants.{Submit, Direct}
 use Rattle.cluster_types.specs.declared.entry.Input.TheVariants.{In}
 use Rattle.cluster_types.specs.declared.entry.Entry.TheVariants.{Input}
 use Rattle.cluster_defs.specs.Words.{Id, or_else, is_listed}
-use Rattle.cluster_defs.specs.Engines.{left}
-use Rattle.cluster_defs.specs.Tasks.{Task, new_task, after_reply, after_end, Settled}
-use Rattle.cluster_defs.specs.Requests.{Request, Body, body_of}
-use Rattle.cluster_defs.specs.Facts.{Facts, is_direct_id}
+use Rattle.cluster_defs.specs.Requests.{body_of}
+use Rattle.cluster_defs.specs.Facts.{Facts}
 use Rattle.cluster_defs.specs.Acceptance.{Demand, accepted, accepted_id, request_made, request_from, body_from}
-use Rattle.cluster_defs.specs.Purges.{copied_by, purged_by}
-use Rattle.cluster_defs.specs.Steps.{step, changes, engines_in, with_joined, reply_from}
+use Rattle.cluster_defs.specs.Steps.{step, changes}
 use Rattle.cluster_defs.specs.Histories.{History, facts, Legal}
 use Rattle.cluster_defs.specs.Outcomes.{number_of}
-use Rattle.cluster_defs.specs.Engines.{joined}
-use Rattle.cluster_defs.proofs.Options.{or_else-None, none_from, same_id, id_self}
-use Rattle.cluster_laws.proofs.Closed.{closed, Closed, requested, Requested}
+use Rattle.cluster_defs.proofs.Options.{or_else-None, id_self}
+use Rattle.cluster_laws.proofs.Closed.{closed, requested, Requested}
 use Rattle.cluster_laws.proofs.Held.{bodied, Bodied}
 use Rattle.cluster_laws.proofs.Numbers.{accepted_says}
-use Rattle.cluster_state.specs.Seen.{Seen, begun}
-use Rattle.cluster_state.specs.Plain.{Plain, look, plain_of, told, noted, accepted_by}
+use Rattle.cluster_state.specs.Seen.{begun}
+use Rattle.cluster_state.specs.Plain.{look, plain_of, told, noted, accepted_by}
 use Rattle.cluster_state.proofs.Lists.{map_listed}
-use Rattle.cluster_state.proofs.Pieces.{seen_from, look_is}
-use Rattle.cluster_state.proofs.Blank.{Blank, blank}
+use Rattle.cluster_state.proofs.Pieces.{look_is}
+use Rattle.cluster_state.proofs.Blank.{blank}
 use Rattle.cluster_state.proofs.Exact.{unsettled, unpurged}
 use Rattle.cluster_state.proofs.Told.{noted_is, or_false}
 

@@ -1,7 +1,6 @@
 -- Of an id that isn't known, a legal history says nothing.
-use Rattle.std.proofs.Common.{◌≡◌, ℕ, List, [], ◌∷◌, ◌++◌, Bool, true, false, cond, not, ◌&&◌, ◌||◌, refl, sym, ap, ◌∙◌, subst, bytes_eq, Option, Some, None}
-use Rattle.std.specs.Prelude.{is_some, find, option_map}
-use Rattle.std.specs.Option.{option_and_then}
+use Rattle.std.proofs.Common.{◌≡◌, ℕ, List, [], ◌∷◌, ◌++◌, Bool, true, false, cond, ◌&&◌, ◌||◌, refl, sym, ap, ◌∙◌, subst, bytes_eq, Option, Some, None}
+use Rattle.std.specs.Prelude.{find, option_map}
 use Rattle.std.proofs.lemmas.Bool.{false_from_ne_true, both_ways}
 use Rattle.std.proofs.lemmas.List.Folds.{list_any-append}
 use Rattle.cluster_types.specs.declared.message.Message.{Message}
@@ -11,17 +10,16 @@ use Rattle.cluster_types.specs.declared.entry.Input.TheVariants.{Open, Up, Down,
 use Rattle.cluster_types.specs.declared.entry.Entry.{Entry}
 use Rattle.cluster_types.specs.declared.entry.Entry.TheVariants.{Input, Hand, Settle, Lose}
 use Rattle.cluster_defs.specs.declared.engine.Engine.{Engine}
-use Rattle.cluster_defs.specs.Words.{Id, or_else, is_listed}
-use Rattle.cluster_defs.specs.Engines.{left}
-use Rattle.cluster_defs.specs.Tasks.{Task, new_task, after_reply, after_end}
-use Rattle.cluster_defs.specs.Requests.{Request, Body, body_of}
+use Rattle.cluster_defs.specs.Words.{Id, is_listed}
+use Rattle.cluster_defs.specs.Engines.{left_engine}
+use Rattle.cluster_defs.specs.Tasks.{new_task, after_reply, after_end}
 use Rattle.cluster_defs.specs.Facts.{Facts, event_on, is_direct_id}
-use Rattle.cluster_defs.specs.Acceptance.{Demand, accepted, accepted_id, request_from, body_from, request_made}
-use Rattle.cluster_defs.specs.Purges.{Copy, copied_by, copied_ids, copied_from, request_copied, body_copied, resubmitted}
+use Rattle.cluster_defs.specs.Acceptance.{Demand, accepted, accepted_id, request_from, body_from}
+use Rattle.cluster_defs.specs.Purges.{Copy, copied_by, copied_ids, copied_from}
 use Rattle.cluster_defs.specs.Steps.{next, reply_from, engine_end}
 use Rattle.cluster_defs.specs.Histories.{History, facts, Legal}
 use Rattle.cluster_defs.proofs.Options.{same_id, id_self}
-use Rattle.cluster_defs.proofs.Says.{due_says, Found}
+use Rattle.cluster_defs.proofs.Says.{due_says}
 use Rattle.cluster_laws.proofs.Closed.{listed_stays}
 use Rattle.cluster_state.proofs.Lists.{or_left, or_right}
 
@@ -118,7 +116,7 @@ message_blank f conn moment word m id old off =
     record {
       request = rw (old.request, none_made f conn moment m id (accepted f m event) not_made, none_copied id (copied_by f event) not_copied) refl;
       body = rw (old.body, none_bodied m id (accepted f m event) not_made, none_copied id (copied_by f event) not_copied) refl;
-      task = rw (old.task, reply_new f.engines.live conn id (is_direct_id f id) event) (end_new (left f.engines.live conn event));
+      task = rw (old.task, reply_new f.engines.live conn id (is_direct_id f id) event) (end_new (left_engine f.engines.live conn event));
       reply = rw old.reply (answer_new f conn m id event old.task);
     }
 

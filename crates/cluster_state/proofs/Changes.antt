@@ -1,15 +1,14 @@
 -- Which messages change anything, kind by kind.
-use Rattle.std.proofs.Common.{◌≡◌, ℕ, List, Bool, true, false, cond, ◌||◌, refl, sym, ap, ◌∙◌, Option, Some, None}
-use Rattle.std.specs.Prelude.{is_some, if◌then◌else◌}
+use Rattle.std.proofs.Common.{◌≡◌, ℕ, List, Bool, true, false, cond, ◌||◌, refl, ◌∙◌, Some, None}
+use Rattle.std.specs.Prelude.{is_some}
 use Rattle.cluster_types.specs.declared.message.Message.{Message}
 use Rattle.cluster_types.specs.declared.event.Submission.{Submission}
-use Rattle.cluster_types.specs.declared.event.Query.{Query}
-use Rattle.cluster_types.specs.declared.event.Event.TheVariants.{Submit, Direct, Reply, Join, Leave, Pong, Purge, Resubmit, Ask}
+use Rattle.cluster_types.specs.declared.event.Event.TheVariants.{Submit, Direct, Reply, Join, Leave, Pong, Purge, Resubmit}
 use Rattle.cluster_defs.specs.Words.{Id}
-use Rattle.cluster_defs.specs.Engines.{joined, left, echoed}
+use Rattle.cluster_defs.specs.Engines.{joined, left_engine, echoed}
 use Rattle.cluster_defs.specs.Tasks.{counts}
 use Rattle.cluster_defs.specs.Facts.{Facts}
-use Rattle.cluster_defs.specs.Acceptance.{Demand, acceptance, is_accepted}
+use Rattle.cluster_defs.specs.Acceptance.{acceptance, is_accepted}
 use Rattle.cluster_defs.specs.Purges.{purged_by, copied_by}
 use Rattle.cluster_defs.specs.Steps.{changes}
 use Rattle.cluster_state.proofs.Told.{or_false}
@@ -36,8 +35,8 @@ changes_join f conn m uuid = by (is_some (joined f.engines conn (Some (Join uuid
     by true = refl
     by false = refl
 
-pub changes_leave : (f : Facts) (conn : ℕ) (m : Message) → changes f conn m (Some Leave) ≡ is_some (left f.engines.live conn (Some Leave))
-changes_leave f conn m = by (is_some (left f.engines.live conn (Some Leave)))
+pub changes_leave : (f : Facts) (conn : ℕ) (m : Message) → changes f conn m (Some Leave) ≡ is_some (left_engine f.engines.live conn (Some Leave))
+changes_leave f conn m = by (is_some (left_engine f.engines.live conn (Some Leave)))
   where
     by : (b : Bool) → (b || false || false || false || false) ≡ b
     by true = refl

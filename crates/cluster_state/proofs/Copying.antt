@@ -1,14 +1,13 @@
 -- Copies, one after another.
-use Rattle.std.proofs.Common.{◌≡◌, ℕ, ◌+◌, List, [], ◌∷◌, ◌++◌, append_assoc, length, Bool, true, false, cond, not, ◌&&◌, ◌||◌, refl, sym, ap, ◌∙◌, Option, Some, None}
+use Rattle.std.proofs.Common.{◌≡◌, ◌+◌, List, [], ◌∷◌, length, Bool, true, false, cond, not, ◌&&◌, ◌||◌, refl, sym, ap, ◌∙◌, Option, Some, None}
 use Rattle.std.specs.Prelude.{is_none, filter, nat_lt, if◌then◌else◌}
 use Rattle.std.specs.List.{list_any}
 use Rattle.std.proofs.lemmas.Bool.{and_parts}
 use Rattle.std.proofs.lemmas.List.{length-map}
 use Rattle.cluster_defs.specs.Words.{Id, is_empty, is_listed}
-use Rattle.cluster_defs.specs.Requests.{Request}
 use Rattle.cluster_defs.specs.Facts.{Facts, is_settled}
-use Rattle.cluster_defs.specs.Acceptance.{most_ids}
-use Rattle.cluster_defs.specs.Purges.{Copy, copies_from, Resubmitting, NeverKnown, Gone, Running, NoRoom, Makes, resubmitting, made}
+use Rattle.cluster_types.specs.Limits.{most_ids}
+use Rattle.cluster_defs.specs.Purges.{copies_from, NeverKnown, Gone, Running, NoRoom, Makes, resubmitting, made}
 use Rattle.cluster_state.specs.Seen.{Seen, all_open}
 use Rattle.cluster_state.specs.Plain.{Plain, facts_in, may_copy}
 

@@ -1,27 +1,25 @@
 -- What each decision makes of the data.
-use Rattle.std.proofs.Common.{◌≡◌, ℕ, List, [], ◌∷◌, map, Bool, true, false, cond, ◌||◌, refl, sym, ap, ◌∙◌, subst, bytes_eq, Option, Some, None}
+use Rattle.std.proofs.Common.{◌≡◌, ℕ, ◌∷◌, map, false, cond, refl, sym, ap, ◌∙◌, bytes_eq, Option, Some, None}
 use Rattle.std.specs.Prelude.{is_some}
 use Rattle.std.proofs.lemmas.Bool.{false_from_ne_true, both_ways}
 use Rattle.cluster_types.specs.declared.verdict.Verdict.{Verdict}
 use Rattle.cluster_types.specs.declared.verdict.Cause.{Cause}
 use Rattle.cluster_types.specs.declared.verdict.Cause.TheVariants.{Reply, EngineError, ImpossibleDependency, InvalidDependency, TaskTimeout}
-use Rattle.cluster_types.specs.declared.entry.Entry.{Entry}
 use Rattle.cluster_types.specs.declared.entry.Entry.TheVariants.{Hand, Settle, Lose}
 use Rattle.cluster_defs.specs.declared.attempt.Attempt.{Attempt}
 use Rattle.cluster_defs.specs.declared.attempt.Attempt.TheVariants.{Never, Running, EndedOk, EndedBadly, Lost, Declined}
 use Rattle.cluster_defs.specs.Words.{Id, or_else}
-use Rattle.cluster_defs.specs.Tasks.{Task, runs, runs_at, handed, lost, after_end, Settled, settled_as}
+use Rattle.cluster_defs.specs.Tasks.{Task, runs, runs_at, lost, after_end, Settled, settled_as}
 use Rattle.cluster_defs.specs.Facts.{Facts, is_settled, is_direct_id}
-use Rattle.cluster_defs.specs.Steps.{step, next}
-use Rattle.cluster_defs.specs.Scheduling.{due}
+use Rattle.cluster_defs.specs.Steps.{step}
 use Rattle.cluster_defs.specs.Histories.{History, facts, Legal}
-use Rattle.cluster_defs.specs.Outcomes.{number_of, made_outcome}
+use Rattle.cluster_defs.specs.Outcomes.{number_of}
 use Rattle.cluster_defs.proofs.Options.{none_from, or_else-None, id_self}
 use Rattle.cluster_defs.proofs.Says.{due_says}
 use Rattle.cluster_laws.proofs.Apart.{known_once}
 use Rattle.cluster_laws.proofs.Closed.{closed, Closed}
-use Rattle.cluster_state.specs.Seen.{Seen, handed_to, ended_on, settled_with, changed, on_unsettled}
-use Rattle.cluster_state.specs.Plain.{Plain, look, tasks_of, plain_of, handed_out, settled_at, settled_out, engine_ended}
+use Rattle.cluster_state.specs.Seen.{Seen, handed_to, ended_on, changed, on_unsettled}
+use Rattle.cluster_state.specs.Plain.{look, plain_of, handed_out, settled_at, settled_out, engine_ended}
 use Rattle.cluster_state.proofs.Lists.{changed_one, map_all, map_twice}
 use Rattle.cluster_state.proofs.Pieces.{seen_from, look_is}
 

@@ -1,22 +1,21 @@
 -- What a purge makes of the data.
-use Rattle.std.proofs.Common.{◌≡◌, ℕ, List, [], ◌∷◌, ◌++◌, append-nil, map, Bool, true, false, cond, ◌||◌, refl, sym, ap, ◌∙◌, subst, bytes_eq, Option, Some, None}
+use Rattle.std.proofs.Common.{◌≡◌, ℕ, List, [], ◌∷◌, ◌++◌, append-nil, map, Bool, true, false, ◌||◌, refl, sym, ap, ◌∙◌, bytes_eq, Option, Some, None}
 use Rattle.std.specs.Prelude.{if◌then◌else◌}
 use Rattle.cluster_types.specs.declared.message.Message.{Message}
-use Rattle.cluster_types.specs.declared.event.Event.{Event}
 use Rattle.cluster_types.specs.declared.event.Event.TheVariants.{Purge}
 use Rattle.cluster_types.specs.declared.entry.Input.TheVariants.{In}
 use Rattle.cluster_types.specs.declared.entry.Entry.TheVariants.{Input}
-use Rattle.cluster_defs.specs.Words.{Id, or_else, is_listed}
+use Rattle.cluster_defs.specs.Words.{Id, is_listed}
 use Rattle.cluster_defs.specs.Facts.{Facts}
 use Rattle.cluster_defs.specs.Laws.{EachOnce}
 use Rattle.cluster_defs.specs.Outcomes.{number_of}
 use Rattle.cluster_defs.specs.Purges.{purged_by, drops}
 use Rattle.cluster_defs.specs.Steps.{step, changes}
-use Rattle.cluster_defs.specs.Histories.{History, facts, Legal}
+use Rattle.cluster_defs.specs.Histories.{History, facts}
 use Rattle.cluster_defs.proofs.Options.{or_else-None, id_self}
 use Rattle.cluster_laws.proofs.Apart.{known_once}
-use Rattle.cluster_state.specs.Seen.{Seen, purged_out, changed}
-use Rattle.cluster_state.specs.Plain.{Plain, look, plain_of, told, noted, purged_tasks, dropped_by}
+use Rattle.cluster_state.specs.Seen.{purged_out, changed}
+use Rattle.cluster_state.specs.Plain.{look, plain_of, told, noted, purged_tasks, dropped_by}
 use Rattle.cluster_state.proofs.Lists.{changed_one, map_all}
 use Rattle.cluster_state.proofs.Pieces.{seen_from, look_is}
 use Rattle.cluster_state.proofs.Told.{noted_is, or_false}

@@ -1,19 +1,16 @@
 -- The data of a legal history tell all that is read off it.
-use Rattle.std.proofs.Common.{◌≡◌, ℕ, List, [], ◌∷◌, map, Bool, true, false, cond, ◌||◌, refl, sym, ap, ◌∙◌, subst, bytes_eq, Option, Some, None}
-use Rattle.std.specs.Prelude.{is_some, find}
+use Rattle.std.proofs.Common.{◌≡◌, List, [], ◌∷◌, map, Bool, true, false, cond, ◌||◌, refl, sym, ap, bytes_eq, Some, None}
 use Rattle.std.specs.Option.{option_and_then}
 use Rattle.std.proofs.lemmas.Bool.{false_from_ne_true, both_ways}
-use Rattle.cluster_types.specs.declared.message.Message.{Message}
 use Rattle.cluster_defs.specs.Words.{Id, is_listed}
-use Rattle.cluster_defs.specs.Tasks.{Task, new_task, Settled}
-use Rattle.cluster_defs.specs.Requests.{Request, Body}
-use Rattle.cluster_defs.specs.Facts.{Facts, is_settled}
+use Rattle.cluster_defs.specs.Tasks.{new_task}
+use Rattle.cluster_defs.specs.Facts.{Facts}
 use Rattle.cluster_defs.specs.Histories.{History, facts, Legal}
 use Rattle.cluster_defs.proofs.Options.{none_from, same_id}
 use Rattle.cluster_laws.proofs.Closed.{closed, Closed}
 use Rattle.cluster_state.specs.Seen.{Seen, seen_in}
-use Rattle.cluster_state.specs.Plain.{Plain, look, tasks_of, plain_of, facts_in}
-use Rattle.cluster_state.proofs.Blank.{Blank, blank}
+use Rattle.cluster_state.specs.Plain.{look, plain_of, facts_in}
+use Rattle.cluster_state.proofs.Blank.{blank}
 
 -- what is seen of an id is what the history says of it, where it is known
 pub seen_is : (f : Facts) (ids : List Id) (id : Id) → seen_in (map (look f) ids) id ≡ cond (is_listed id ids) (Some (look f id)) None

@@ -1,15 +1,13 @@
 -- What each input but a message makes of the data.
-use Rattle.std.proofs.Common.{◌≡◌, ℕ, List, [], ◌∷◌, map, Bool, true, false, cond, refl, sym, ap, ◌∙◌, subst, Option, Some, None}
+use Rattle.std.proofs.Common.{◌≡◌, ℕ, List, ◌∷◌, map, false, refl, sym, ap, ◌∙◌, Option, Some, None}
 use Rattle.std.specs.Prelude.{is_some, option_map}
 use Rattle.cluster_types.specs.declared.config.Channel.{Channel}
 use Rattle.cluster_types.specs.declared.config.Scheme.{Scheme}
 use Rattle.cluster_types.specs.declared.entry.Input.TheVariants.{Open, Up, Down, Beat, Time}
-use Rattle.cluster_types.specs.declared.entry.Entry.{Entry}
 use Rattle.cluster_types.specs.declared.entry.Entry.TheVariants.{Input}
 use Rattle.cluster_defs.specs.declared.attempt.Attempt.{Attempt}
 use Rattle.cluster_defs.specs.declared.attempt.Attempt.TheVariants.{Never, Running, EndedOk, EndedBadly, Lost, Declined}
 use Rattle.cluster_defs.specs.Words.{Id}
-use Rattle.cluster_defs.specs.Connections.{without_connection}
 use Rattle.cluster_defs.specs.Engines.{engine_on}
 use Rattle.cluster_defs.specs.Tasks.{Task, runs, lost, after_end, Settled}
 use Rattle.cluster_defs.specs.Facts.{Facts}
@@ -18,7 +16,7 @@ use Rattle.cluster_defs.specs.Histories.{History, facts, Legal}
 use Rattle.cluster_defs.specs.Outcomes.{number_of}
 use Rattle.cluster_laws.proofs.Closed.{closed, Closed}
 use Rattle.cluster_state.specs.Seen.{Seen, ended_on, lost_all, on_unsettled}
-use Rattle.cluster_state.specs.Plain.{Plain, look, plain_of, opened, input_at, came_up, went_down, tasks_ended, engine_ended, beaten, passed}
+use Rattle.cluster_state.specs.Plain.{look, plain_of, opened, input_at, came_up, went_down, tasks_ended, engine_ended, beaten, passed}
 use Rattle.cluster_state.proofs.Lists.{map_all, map_twice}
 use Rattle.cluster_state.proofs.Pieces.{seen_from, look_is}
 use Rattle.cluster_state.proofs.Decisions.{end_seen}

@@ -1,8 +1,8 @@
 -- Ids that are known, and lists that are the same.
-use Rattle.std.proofs.Common.{◌≡◌, ℕ, ◌<◌, ◌≤◌, ◌+◌, List, [], ◌∷◌, map, length, drop, Bool, true, false, cond, ◌&&◌, ◌||◌, suc, refl, sym, ap, ◌∙◌, subst, bytes_eq, Option, Some, None}
+use Rattle.std.proofs.Common.{◌≡◌, ℕ, ◌<◌, ◌≤◌, ◌+◌, List, [], ◌∷◌, map, length, drop, true, false, cond, ◌&&◌, ◌||◌, suc, refl, sym, ap, ◌∙◌, bytes_eq, Option, Some, None}
 use Rattle.std.proofs.Common.{Bor, slice_index_or}
 use Rattle.std.proofs.lemmas.List.{drop_more, drop_all}
-use Rattle.std.specs.Prelude.{is_some, find}
+use Rattle.std.specs.Prelude.{is_some}
 use Rattle.std.specs.Option.{option_copied}
 use Rattle.cluster_defs.specs.Words.{Id, is_listed, same_lists}
 use Rattle.cluster_state.specs.Seen.{Seen, seen_in}

@@ -1,5 +1,5 @@
 -- Lists of what is seen, where one id or all of them change.
-use Rattle.std.proofs.Common.{◌≡◌, ℕ, List, [], ◌∷◌, map, Bool, true, false, cond, ◌||◌, refl, sym, ap, ◌∙◌, subst, bytes_eq}
+use Rattle.std.proofs.Common.{◌≡◌, List, [], ◌∷◌, map, Bool, true, false, cond, ◌||◌, refl, sym, ap, subst, bytes_eq}
 use Rattle.std.proofs.lemmas.Bool.{false_from_ne_true, both_ways}
 use Rattle.cluster_defs.specs.Words.{Id, is_listed}
 use Rattle.cluster_defs.specs.Facts.{Facts}

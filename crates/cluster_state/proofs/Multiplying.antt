@@ -1,35 +1,30 @@
 -- What a resubmission makes of the data.
-use Rattle.std.proofs.Common.{◌≡◌, ℕ, ◌+◌, List, [], ◌∷◌, ◌++◌, append-nil, append_assoc, map, length, Bool, true, false, cond, not, ◌||◌, refl, sym, ap, ◌∙◌, subst, bytes_eq, Option, Some, None, arith}
+use Rattle.std.proofs.Common.{◌≡◌, ℕ, ◌+◌, List, [], ◌∷◌, ◌++◌, append-nil, append_assoc, map, length, Bool, true, false, ◌||◌, refl, sym, ap, ◌∙◌, subst, bytes_eq, Option, Some, None, arith}
 use Rattle.std.specs.Prelude.{is_some, if◌then◌else◌, option_map, find, suc}
-use Rattle.std.specs.Option.{option_and_then}
 use Rattle.std.specs.List.{position_or_len}
 use Rattle.std.proofs.lemmas.Bool.{false_from_ne_true, both_ways}
 use Rattle.std.proofs.lemmas.List.{map-append, length-map, length-append}
 use Rattle.std.proofs.lemmas.List.Folds.{list_any-append}
 use Rattle.cluster_types.specs.declared.message.Message.{Message}
-use Rattle.cluster_types.specs.declared.event.Event.{Event}
 use Rattle.cluster_types.specs.declared.event.Event.TheVariants.{Resubmit}
 use Rattle.cluster_types.specs.declared.entry.Input.TheVariants.{In}
 use Rattle.cluster_types.specs.declared.entry.Entry.TheVariants.{Input}
 use Rattle.cluster_defs.specs.Words.{Id, or_else, is_listed, once}
-use Rattle.cluster_defs.specs.Tasks.{new_task}
 use Rattle.cluster_defs.specs.Requests.{Request, Body}
-use Rattle.cluster_defs.specs.Facts.{Facts, event_on}
+use Rattle.cluster_defs.specs.Facts.{Facts}
 use Rattle.cluster_defs.specs.Laws.{EachOnce}
-use Rattle.cluster_defs.specs.Purges.{Copy, copies_from, copied_by, copied_ids, copied_from, request_copied, body_copied, resubmitted, resubmitting}
+use Rattle.cluster_defs.specs.Purges.{Copy, copied_by, copied_ids, copied_from, request_copied, body_copied, resubmitted}
 use Rattle.cluster_defs.specs.Steps.{step, changes}
 use Rattle.cluster_defs.specs.Histories.{History, facts, Legal}
 use Rattle.cluster_defs.specs.Outcomes.{number_of}
-use Rattle.cluster_defs.proofs.Options.{or_else-None, same_id, id_self}
-use Rattle.cluster_laws.proofs.Apart.{known_once}
+use Rattle.cluster_defs.proofs.Options.{same_id, id_self}
 use Rattle.cluster_laws.proofs.Closed.{closed}
-use Rattle.cluster_laws.proofs.Copies.{Copied, AllCopied, all_copied, copies_of}
-use Rattle.cluster_laws.proofs.Numbers.{AllNew, copies_new, numbered}
-use Rattle.cluster_state.specs.Seen.{Seen, begun, seen_in}
-use Rattle.cluster_state.specs.Plain.{Plain, look, plain_of, told, noted, copy_of, copies_in, copied_out}
+use Rattle.cluster_laws.proofs.Copies.{Copied, AllCopied, all_copied}
+use Rattle.cluster_state.specs.Seen.{begun, seen_in}
+use Rattle.cluster_state.specs.Plain.{look, plain_of, told, noted, copy_of, copies_in, copied_out}
 use Rattle.cluster_state.proofs.Lists.{map_listed, turned}
-use Rattle.cluster_state.proofs.Pieces.{seen_from, look_is}
-use Rattle.cluster_state.proofs.Blank.{Blank, blank}
+use Rattle.cluster_state.proofs.Pieces.{look_is}
+use Rattle.cluster_state.proofs.Blank.{blank}
 use Rattle.cluster_state.proofs.Exact.{seen_is, unsettled, unpurged}
 use Rattle.cluster_state.proofs.Told.{noted_is, or_false}
 use Rattle.cluster_state.proofs.Adding.{place_front, place_back, kept_first, has_request, has_body}

@@ -1,6 +1,6 @@
 -- What is seen of an id, put together of the pieces that a history says of it.
-use Rattle.std.proofs.Common.{◌≡◌, ℕ, List, Bool, true, false, cond, refl, sym, ap, ◌∙◌, Option, Some, None}
-use Rattle.std.specs.Prelude.{is_some, option_map, if◌then◌else◌}
+use Rattle.std.proofs.Common.{◌≡◌, ℕ, Bool, false, refl, Option, Some, None}
+use Rattle.std.specs.Prelude.{option_map, if◌then◌else◌}
 use Rattle.std.specs.Option.{option_and_then}
 use Rattle.cluster_types.specs.declared.message.Message.{Message}
 use Rattle.cluster_types.specs.declared.verdict.Cause.{Cause}
@@ -9,7 +9,7 @@ use Rattle.cluster_defs.specs.Words.{Id}
 use Rattle.cluster_defs.specs.Tasks.{Task, engine_of, runs, Settled}
 use Rattle.cluster_defs.specs.Requests.{Request, Body, is_direct}
 use Rattle.cluster_defs.specs.Facts.{Facts, is_direct_id}
-use Rattle.cluster_defs.specs.Outcomes.{number_of, made_outcome, outcome_by, outcome}
+use Rattle.cluster_defs.specs.Outcomes.{number_of, made_outcome, outcome_by}
 use Rattle.cluster_state.specs.Seen.{Seen}
 use Rattle.cluster_state.specs.Plain.{look}
 

@@ -1,10 +1,10 @@
 -- What a purge drops.
-use Rattle.std.proofs.Common.{◌≡◌, List, [], ◌∷◌, Bool, true, false, cond, not, ◌&&◌, ◌||◌, refl, sym, ap, ◌∙◌, Option, Some, None}
-use Rattle.std.specs.Prelude.{filter, if◌then◌else◌, is_some}
+use Rattle.std.proofs.Common.{◌≡◌, List, [], ◌∷◌, Bool, true, false, cond, not, ◌&&◌, ◌||◌, refl, Some, None}
+use Rattle.std.specs.Prelude.{filter, if◌then◌else◌}
 use Rattle.std.specs.List.{list_any}
 use Rattle.cluster_defs.specs.Words.{Id, is_empty, is_listed}
 use Rattle.cluster_defs.specs.Facts.{Facts, is_settled}
-use Rattle.cluster_defs.specs.Purges.{Purging, Unknown, Inflight, Drops, purging, dropped}
+use Rattle.cluster_defs.specs.Purges.{Unknown, Inflight, Drops, purging, dropped}
 use Rattle.cluster_state.specs.Seen.{Seen, seen_in}
 use Rattle.cluster_state.specs.Plain.{Plain, facts_in, may_drop}
 use Rattle.cluster_state.proofs.Known.{known_is}

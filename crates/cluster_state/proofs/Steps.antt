@@ -1,5 +1,5 @@
 -- What each entry of a legal history makes of the data.
-use Rattle.std.proofs.Common.{◌≡◌, ℕ, List, [], ◌∷◌, ◌++◌, append-nil, true, refl, sym, ap, ◌∙◌, subst, Option, Some, None}
+use Rattle.std.proofs.Common.{◌≡◌, ℕ, List, ◌∷◌, ◌++◌, append-nil, refl, sym, ap, ◌∙◌, subst, Option, Some, None}
 use Rattle.std.specs.Option.{is_some}
 use Rattle.std.proofs.lemmas.Bool.{both_ways}
 use Rattle.cluster_types.specs.declared.message.Message.{Message}
@@ -9,14 +9,14 @@ use Rattle.cluster_types.specs.declared.entry.Input.TheVariants.{Open, Up, Down,
 use Rattle.cluster_types.specs.declared.entry.Entry.{Entry}
 use Rattle.cluster_types.specs.declared.entry.Entry.TheVariants.{Input, Hand, Settle, Lose}
 use Rattle.cluster_defs.specs.Words.{Id}
-use Rattle.cluster_defs.specs.Facts.{Facts, event_on, event_in}
+use Rattle.cluster_defs.specs.Facts.{event_on, event_in}
 use Rattle.cluster_defs.specs.Laws.{EachOnce}
 use Rattle.cluster_defs.specs.Purges.{copied_by, copied_ids}
 use Rattle.cluster_defs.specs.Steps.{step, changes}
 use Rattle.cluster_defs.specs.Histories.{History, facts, Legal}
 use Rattle.cluster_laws.proofs.Apart.{known_once}
 use Rattle.cluster_laws.proofs.Closed.{closed}
-use Rattle.cluster_state.specs.Plain.{Plain, plain_of, facts_in, told, noted, after}
+use Rattle.cluster_state.specs.Plain.{Plain, plain_of, facts_in, told, noted, plain_after}
 use Rattle.cluster_state.proofs.Decisions.{hand_plain, settle_plain, lose_plain}
 use Rattle.cluster_state.proofs.Exact.{exact}
 use Rattle.cluster_state.proofs.Inputs.{open_plain, up_plain, down_plain, beat_plain, time_plain}
@@ -48,7 +48,7 @@ message_plain h conn moment word m (Ask query) legal is = ask_plain (facts h) co
 
 -- ALL ENTRIES
 
-pub after_is : (h : History) (e : Entry) → Legal (e ∷ h) → plain_of (facts (e ∷ h)) ≡ after (facts h) e (event_in (facts h) e) (plain_of (facts h))
+pub after_is : (h : History) (e : Entry) → Legal (e ∷ h) → plain_of (facts (e ∷ h)) ≡ plain_after (facts h) e (event_in (facts h) e) (plain_of (facts h))
 after_is h (Input (Open moment scheme hwm misses)) legal = open_plain h moment scheme hwm misses legal.1
 after_is h (Input (Up conn channel moment word identity)) legal = up_plain h conn channel moment word identity
 after_is h (Input (Down conn moment word)) legal = down_plain h conn moment word legal.1
@@ -60,14 +60,14 @@ after_is h (Lose n) legal = lose_plain h n legal
 after_is h (Input (In conn moment word m)) legal = by (event_on (facts h) conn m) refl
   where
     by : (o : Option Event) → event_on (facts h) conn m ≡ o →
-        plain_of (step (facts h) (Input (In conn moment word m)) (event_on (facts h) conn m)) ≡ after (facts h) (Input (In conn moment word m)) (event_on (facts h) conn m) (plain_of (facts h))
+        plain_of (step (facts h) (Input (In conn moment word m)) (event_on (facts h) conn m)) ≡ plain_after (facts h) (Input (In conn moment word m)) (event_on (facts h) conn m) (plain_of (facts h))
     by None is = absurd (both_ways (is_some (event_on (facts h) conn m)) (ap is_some is) legal.0.1)
     by (Some event) is =
         ap (λ o. plain_of (step (facts h) (Input (In conn moment word m)) o)) is ∙ message_plain h conn moment word m event legal.1 is
-        ∙ sym (ap (λ o. after (facts h) (Input (In conn moment word m)) o (plain_of (facts h))) is)
+        ∙ sym (ap (λ o. plain_after (facts h) (Input (In conn moment word m)) o (plain_of (facts h))) is)
 
 -- the data of a legal history, once a legal entry is taken, are those of the longer one
-pub taken_is : (h : History) (e : Entry) (old new : Plain) → Legal (e ∷ h) → old ≡ plain_of (facts h) → new ≡ after (facts_in old) e (event_in (facts h) e) old → new ≡ plain_of (facts (e ∷ h))
+pub taken_is : (h : History) (e : Entry) (old new : Plain) → Legal (e ∷ h) → old ≡ plain_of (facts h) → new ≡ plain_after (facts_in old) e (event_in (facts h) e) old → new ≡ plain_of (facts (e ∷ h))
 taken_is h e old new legal stands is =
     let told : facts_in old ≡ facts h = ap facts_in stands ∙ exact h legal.1 in
-    is ∙ ap (λ f. after f e (event_in (facts h) e) old) told ∙ ap (after (facts h) e (event_in (facts h) e)) stands ∙ sym (after_is h e legal)
+    is ∙ ap (λ f. plain_after f e (event_in (facts h) e) old) told ∙ ap (plain_after (facts h) e (event_in (facts h) e)) stands ∙ sym (after_is h e legal)

@@ -1,32 +1,27 @@
 -- What each message makes of the data.
-use Rattle.std.proofs.Common.{◌≡◌, ℕ, ◌+◌, List, [], ◌∷◌, ◌++◌, append-nil, map, length, Bool, true, false, cond, not, ◌&&◌, ◌||◌, refl, sym, ap, ◌∙◌, subst, bytes_eq, Option, Some, None}
-use Rattle.std.specs.Prelude.{is_some, option_map, if◌then◌else◌}
-use Rattle.std.specs.Option.{option_and_then}
-use Rattle.std.proofs.lemmas.Bool.{false_from_ne_true, both_ways, and_parts}
+use Rattle.std.proofs.Common.{◌≡◌, ℕ, List, append-nil, map, Bool, true, false, cond, ◌||◌, refl, sym, ap, ◌∙◌, subst, bytes_eq, Option, Some, None}
+use Rattle.std.specs.Prelude.{if◌then◌else◌}
+use Rattle.std.proofs.lemmas.Bool.{false_from_ne_true, both_ways}
 use Rattle.cluster_types.specs.declared.message.Message.{Message}
-use Rattle.cluster_types.specs.declared.event.Submission.{Submission}
 use Rattle.cluster_types.specs.declared.event.Query.{Query}
 use Rattle.cluster_types.specs.declared.event.Event.{Event}
-use Rattle.cluster_types.specs.declared.event.Event.TheVariants.{Submit, Direct, Reply, Join, Leave, Pong, Purge, Resubmit, Ask}
+use Rattle.cluster_types.specs.declared.event.Event.TheVariants.{Reply, Join, Leave, Pong, Ask}
 use Rattle.cluster_types.specs.declared.entry.Input.TheVariants.{In}
-use Rattle.cluster_types.specs.declared.entry.Entry.{Entry}
 use Rattle.cluster_types.specs.declared.entry.Entry.TheVariants.{Input}
-use Rattle.cluster_defs.specs.Words.{Id, or_else, is_listed}
+use Rattle.cluster_defs.specs.Words.{Id}
 use Rattle.cluster_defs.specs.Laws.{EachOnce}
-use Rattle.cluster_defs.specs.Engines.{joined, left, echoed, with_engine}
-use Rattle.cluster_defs.specs.Tasks.{Task, runs, counts, ending, took, after_reply, after_end, Settled}
-use Rattle.cluster_defs.specs.Requests.{Request, Body, parts_of}
-use Rattle.cluster_defs.specs.Facts.{Facts, event_on, is_settled, is_direct_id}
-use Rattle.cluster_defs.specs.Acceptance.{Demand, accepted, request_from, body_from}
-use Rattle.cluster_defs.specs.Purges.{purged_by, drops, copied_by, request_copied, body_copied}
+use Rattle.cluster_defs.specs.Engines.{joined, left_engine, echoed, with_engine}
+use Rattle.cluster_defs.specs.Tasks.{counts, ending, after_reply, after_end}
+use Rattle.cluster_defs.specs.Requests.{parts_of}
+use Rattle.cluster_defs.specs.Facts.{Facts, is_direct_id}
+use Rattle.cluster_defs.specs.Acceptance.{accepted}
+use Rattle.cluster_defs.specs.Purges.{purged_by, copied_by}
 use Rattle.cluster_defs.specs.Steps.{step, changes, engines_in, with_joined, reply_from}
-use Rattle.cluster_defs.specs.Histories.{History, facts, Legal}
 use Rattle.cluster_defs.specs.Outcomes.{number_of}
 use Rattle.cluster_defs.proofs.Options.{or_else-None, none_from, same_id, id_self}
-use Rattle.cluster_laws.proofs.Apart.{known_once}
-use Rattle.cluster_laws.proofs.Closed.{closed, Closed, home_idle}
-use Rattle.cluster_state.specs.Seen.{Seen, replied_with, changed}
-use Rattle.cluster_state.specs.Plain.{Plain, look, tasks_of, plain_of, told, noted, engine_ended, joined_by, echoed_by, replied_by}
+use Rattle.cluster_laws.proofs.Closed.{Closed, home_idle}
+use Rattle.cluster_state.specs.Seen.{replied_with, changed}
+use Rattle.cluster_state.specs.Plain.{Plain, look, plain_of, told, noted, engine_ended, joined_by, echoed_by, replied_by}
 use Rattle.cluster_state.proofs.Lists.{changed_one, map_all}
 use Rattle.cluster_state.proofs.Pieces.{seen_from, look_is}
 use Rattle.cluster_state.proofs.Inputs.{ends_seen}
@@ -42,7 +37,7 @@ after_quiet f conn moment word m event = record f {
   word = if changes f conn m event then word else f.word;
   engines = engines_in f conn event;
   by_use = with_joined f.engines.next (joined f.engines conn event) f.by_use;
-  task = λ id. after_end (left f.engines.live conn event) (after_reply f.engines.live conn id (is_direct_id f id) event (f.task id));
+  task = λ id. after_end (left_engine f.engines.live conn event) (after_reply f.engines.live conn id (is_direct_id f id) event (f.task id));
   reply_of = λ id. reply_from f conn m id event (f.reply_of id);
 }
 
@@ -92,7 +87,7 @@ pub leave_plain : (f : Facts) (conn moment word : ℕ) (m : Message) → Closed 
     plain_of (step f (Input (In conn moment word m)) (Some Leave)) ≡ noted (changes f conn m (Some Leave)) moment word (told f conn moment m Leave (plain_of f))
 leave_plain f conn moment word m is =
     let g = after_quiet f conn moment word m (Some Leave) in
-    let end = left f.engines.live conn (Some Leave) in
+    let end = left_engine f.engines.live conn (Some Leave) in
     let tasks = ends_seen f g end is (λ id. look_is g id) in
     ap plain_of (quiet f conn moment word m (Some Leave) refl refl refl) ∙ rw tasks refl
     ∙ noted_is (changes f conn m (Some Leave)) moment word (engine_ended end (plain_of f))

@@ -1,5 +1,5 @@
 -- The data of a cluster, as lists, and how the entries change it.
-use Rattle.std.specs.Prelude.{ℕ, ⊤, ◌≤◌, max, nat_lt, ◌+◌, ◌==◌, ◌&&◌, ◌||◌, List, [], ◌∷◌, ◌++◌, length, map, Option, Some, None, Bool, true, false, not, if◌then◌else◌, filter, find, option_map}
+use Rattle.std.specs.Prelude.{ℕ, ⊤, ◌≤◌, max, nat_lt, ◌+◌, ◌&&◌, ◌||◌, List, [], ◌∷◌, ◌++◌, length, map, Option, Some, None, Bool, true, false, not, if◌then◌else◌, option_map}
 use Rattle.std.specs.List.{list_any}
 use Rattle.std.specs.Option.{option_and_then}
 use Rattle.cluster_types.specs.declared.config.Channel.{Channel}
@@ -14,14 +14,14 @@ use Rattle.cluster_types.specs.declared.verdict.Verdict.{Verdict}
 use Rattle.cluster_types.specs.declared.verdict.Cause.{Cause}
 use Rattle.cluster_types.specs.declared.verdict.Cause.TheVariants.{Reply}
 use Rattle.cluster_defs.specs.declared.connection.Connection.{Connection}
-use Rattle.cluster_defs.specs.declared.engine.Engine.{Engine}
 use Rattle.cluster_defs.specs.Words.{Id, is_listed}
 use Rattle.cluster_defs.specs.Connections.{with_connection, without_connection}
-use Rattle.cluster_defs.specs.Engines.{Engines, engine_on, joined, left, echoed, without_left, with_engine, with_mark}
+use Rattle.cluster_defs.specs.Engines.{Engines, engine_on, joined, left_engine, echoed, without_left, with_engine, with_mark}
 use Rattle.cluster_defs.specs.Tasks.{Ending, ending, counts, Task, Settled, settled_as, new_task}
 use Rattle.cluster_defs.specs.Requests.{Request, Body, body_of, parts_of}
 use Rattle.cluster_defs.specs.Facts.{Facts, is_settled, is_direct_id}
-use Rattle.cluster_defs.specs.Acceptance.{Demand, most_ids, accepted, request_made}
+use Rattle.cluster_types.specs.Limits.{most_ids, last_moment}
+use Rattle.cluster_defs.specs.Acceptance.{Demand, accepted, request_made}
 use Rattle.cluster_defs.specs.Purges.{Copy, purged_by, copied_by, resubmitted}
 use Rattle.cluster_defs.specs.Steps.{changes, moved, next_word}
 use Rattle.cluster_defs.specs.Outcomes.{made_outcome}
@@ -241,7 +241,7 @@ told f conn moment m (Direct s) p = accepted_by (accepted f m (Some (Direct s)))
 told f conn moment m (ReplyEvent name header ok declined) p =
     replied_by (counts f.engines.live conn header (f.task name)) name header (ending (is_direct_id f name) ok declined) (parts_of m) p
 told f conn moment m (Join uuid) p = joined_by conn (joined f.engines conn (Some (Join uuid))) p
-told f conn moment m Leave p = engine_ended (left f.engines.live conn (Some Leave)) p
+told f conn moment m Leave p = engine_ended (left_engine f.engines.live conn (Some Leave)) p
 told f conn moment m (Pong beat) p = echoed_by conn (echoed f.engines.live conn f.beats (Some (Pong beat))) p
 told f conn moment m (Purge all ids) p = dropped_by (purged_by f (Some (Purge all ids))) p
 told f conn moment m (Resubmit ids) p = copied_out (resubmitted f moment) (copied_by f (Some (Resubmit ids))) p
@@ -253,24 +253,24 @@ noted false moment word p = p
 noted true moment word p = input_at moment word p
 
 -- an entry with this meaning, where these facts stand
-abbrev pub after : Facts → Entry → Option Event → Plain → Plain
-after f (Input (Open moment scheme hwm misses)) event p = opened moment scheme hwm misses p
-after f (Input (Up conn channel moment word identity)) event p = came_up conn channel identity (input_at moment word p)
-after f (Input (Down conn moment word)) event p = engine_ended (option_map (λ e. e.number) (engine_on p.engines.live conn)) (went_down conn (input_at moment word p))
-after f (Input (In conn moment word message)) None p = p
-after f (Input (In conn moment word message)) (Some event) p = noted (changes f conn message (Some event)) moment word (told f conn moment message event p)
-after f (Input (Beat moment word)) event p = beaten (passed moment (input_at moment word p))
-after f (Input (Time moment word)) event p = passed moment (input_at moment word p)
-after f (Hand id engine) event p = handed_out id engine (is_direct_id f id) p
-after f (Settle id verdict cause) event p = settled_out id verdict cause p
-after f (Lose engine) event p = engine_ended (Some engine) p
+abbrev pub plain_after : Facts → Entry → Option Event → Plain → Plain
+plain_after f (Input (Open moment scheme hwm misses)) event p = opened moment scheme hwm misses p
+plain_after f (Input (Up conn channel moment word identity)) event p = came_up conn channel identity (input_at moment word p)
+plain_after f (Input (Down conn moment word)) event p = engine_ended (option_map (λ e. e.number) (engine_on p.engines.live conn)) (went_down conn (input_at moment word p))
+plain_after f (Input (In conn moment word message)) None p = p
+plain_after f (Input (In conn moment word message)) (Some event) p = noted (changes f conn message (Some event)) moment word (told f conn moment message event p)
+plain_after f (Input (Beat moment word)) event p = beaten (passed moment (input_at moment word p))
+plain_after f (Input (Time moment word)) event p = passed moment (input_at moment word p)
+plain_after f (Hand id engine) event p = handed_out id engine (is_direct_id f id) p
+plain_after f (Settle id verdict cause) event p = settled_out id verdict cause p
+plain_after f (Lose engine) event p = engine_ended (Some engine) p
 
 -- the moment of an entry, where it has one, is before the year 10000
 abbrev pub InTime : Entry → Type 0
-InTime (Input (Open moment scheme hwm misses)) = moment ≤ 253402300799999
-InTime (Input (Up conn channel moment word identity)) = moment ≤ 253402300799999
-InTime (Input (Down conn moment word)) = moment ≤ 253402300799999
-InTime (Input (In conn moment word message)) = moment ≤ 253402300799999
-InTime (Input (Beat moment word)) = moment ≤ 253402300799999
-InTime (Input (Time moment word)) = moment ≤ 253402300799999
+InTime (Input (Open moment scheme hwm misses)) = moment ≤ last_moment
+InTime (Input (Up conn channel moment word identity)) = moment ≤ last_moment
+InTime (Input (Down conn moment word)) = moment ≤ last_moment
+InTime (Input (In conn moment word message)) = moment ≤ last_moment
+InTime (Input (Beat moment word)) = moment ≤ last_moment
+InTime (Input (Time moment word)) = moment ≤ last_moment
 InTime _ = ⊤

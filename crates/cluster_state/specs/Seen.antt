@@ -10,7 +10,6 @@ use Rattle.cluster_defs.specs.Tasks.{Task as TaskFacts, new_task, engine_of, run
 use Rattle.cluster_defs.specs.Requests.{Request as RequestFacts, Body as BodyFacts, is_direct}
 use Rattle.cluster_state.specs.declared.request.Owner.{Owner}
 use Rattle.cluster_state.specs.declared.request.Request.{Request}
-use Rattle.cluster_state.specs.declared.request.Body.{Body}
 use Rattle.cluster_state.specs.declared.task.Settled.{Settled}
 use Rattle.cluster_state.specs.declared.attempts.Attempts.{Attempts}
 use Rattle.cluster_state.specs.declared.attempts.Ending.{Ending}
@@ -25,13 +24,13 @@ abbrev pub request_as : Request → RequestFacts
 request_as r = record {
   owner = option_map owner_as r.owner;
   direct_to = r.direct_to;
-  target = r.target;
+  target = r.message.target;
   msg_type = r.msg_type;
   session = r.session;
   username = r.username;
-  header = r.header;
-  parent = r.parent;
-  metadata = r.metadata;
+  header = r.message.header;
+  parent = r.message.parent;
+  metadata = r.message.metadata;
   after = r.after;
   follow = r.follow;
   listed = r.listed;
@@ -41,9 +40,6 @@ request_as r = record {
   retries = r.retries;
   invalid = r.invalid;
 }
-
-abbrev pub body_as : Body → BodyFacts
-body_as b = record { content = b.content; buffers = b.buffers }
 
 abbrev pub attempts_as : Attempts → TaskFacts
 attempts_as a = record { last = a.last; spent = a.spent; excluded = a.excluded.items; heard = a.heard.items }

@@ -9,28 +9,26 @@ ghost use Rattle.cluster_defs.specs.Connections.{connection_on, peer_on};
 ghost use Rattle.cluster_defs.specs.Engines.{engine_named};
 ghost use Rattle.cluster_defs.specs.Requests.{targets_of, is_invalid, body_of};
 ghost use Rattle.cluster_defs.specs.Acceptance.{Demand, acceptance, acceptance_new, is_same, is_accepted, accepted_as, no_dependency, request_plain, request_submit, request_direct, request_made, reserved_front};
-ghost use Rattle.cluster_state.specs.Seen.{Seen, owner_as, request_as, body_as, begun};
+ghost use Rattle.cluster_state.specs.Seen.{Seen, owner_as, request_as, begun};
 ghost use Rattle.cluster_state.specs.Plain.{facts_in, accepted_by};
 ghost use Rattle.cluster_state.specs.Stands.{plain};
 
 use crate::attempts::one_more;
 use crate::engines::engine_named;
-use crate::request::{Body, Owner, Request};
+use crate::request::{Owner, Request};
 use crate::state::State;
 use crate::task::Task;
 use crate::tasks::Tasks;
 use cluster_defs::acceptance::Acceptance;
 use cluster_defs::connection::Connection;
 use cluster_defs::engine::Engine;
-use cluster_types::copying::TryCopy;
 use cluster_types::event::{Dep, Submission};
-use cluster_types::message::{Engines, Ids, Message};
+use cluster_types::limits::MOST_IDS;
+use cluster_types::message::{Engines, Ids};
 use cluster_types::octets::Octets;
+use cluster_types::shared_message::SharedMessage;
 use cluster_types::text::Text;
 use std::alloc::{AllocError, Global};
-
-/// How many ids a database may know.
-const MOST_IDS: usize = 2_000_000;
 
 /// The live connection of a number.
 pub fn connection_on(live: &[Connection], conn: u32) -> Option<&Connection>
@@ -46,7 +44,7 @@ fn owner_on(live: &[Connection], conn: u32) -> Result<Option<Owner>, AllocError>
     match connection_on(live, conn) {
         Some(connection) => Ok(Some(Owner {
             channel: connection.channel,
-            identity: connection.identity.copy()?,
+            identity: connection.identity.clone()?,
         })),
         None => Ok(None),
     }
@@ -88,17 +86,17 @@ fn alike(a: bool, b: bool) -> bool
 }
 
 /// Whether a request is the one that made a task: the same kind, target, type, metadata, content and buffers.
-fn is_same(direct: bool, submission: &Submission, message: &Message, task: &Task) -> bool
+fn is_same(direct: bool, submission: &Submission, message: &SharedMessage, task: &Task) -> bool
     ensures { result ≡ is_same (record { direct = direct; submission = submission.now }) message.now task.now.request task.now.body }
 {
     let request = task.request();
-    let body = task.body();
+    let made = &request.message;
     alike(direct, request.direct_to.is_some())
-        && request.target.is(&message.target)
+        && made.target() == message.target()
         && request.msg_type.is(&submission.msg_type)
-        && request.metadata.is(&message.metadata)
-        && body.content.is(&message.content)
-        && same_buffers(body.buffers.as_slice(), message.buffers.as_slice())
+        && made.metadata() == message.metadata()
+        && made.content() == message.content()
+        && same_buffers(made.buffers().as_slice(), message.buffers().as_slice())
 }
 
 /// The numbers of the engines whose uuid is listed.
@@ -148,22 +146,44 @@ fn no_dependency(alloc: Global) -> Dep
     }
 }
 
-/// The body of a request.
-fn body_of(message: &Message) -> Result<Body, AllocError>
-    ensures { IfOk result (λ b. body_as b ≡ body_of message.now) }
+/// A text, shared with another one where the two are the same, so that what the requests of a session repeat is held
+/// once.
+fn same_or(other: &Text, text: &Text) -> Result<Text, AllocError>
+    ensures { IfOk result (λ t. t ≡ text.now) }
 {
-    Ok(Body {
-        content: message.content.copy()?,
-        buffers: message.buffers.copy()?,
-    })
+    if other.is(text) {
+        return other.clone();
+    }
+    text.clone()
+}
+
+/// The type, the session and the username of a request, shared with those of another one where they are the same.
+fn words_of(other: Option<&Task>, submission: &Submission) -> Result<(Text, Text, Text), AllocError>
+    ensures { IfOk result (λ w. w ≡ (submission.now.msg_type, submission.now.session, submission.now.username)) }
+{
+    match other {
+        Some(task) => {
+            let request = task.request();
+            Ok((
+                same_or(&request.msg_type, &submission.msg_type)?,
+                same_or(&request.session, &submission.session)?,
+                same_or(&request.username, &submission.username)?,
+            ))
+        }
+        None => Ok((
+            submission.msg_type.clone()?,
+            submission.session.clone()?,
+            submission.username.clone()?,
+        )),
+    }
 }
 
 impl State {
     /// Of an id that isn't known.
-    fn acceptance_new(&self, direct: bool, message: &Message) -> Acceptance
+    fn acceptance_new(&self, direct: bool, message: &SharedMessage) -> Acceptance
         ensures { (submission : Submission) → result ≡ acceptance_new (facts_in (plain self.now)) (record { direct = direct; submission = submission }) message.now }
     {
-        if direct && engine_named(&self.engines, message.target.as_slice()).is_none() {
+        if direct && engine_named(&self.engines, message.target()).is_none() {
             Acceptance::NoSuchEngine
         } else if self.tasks.len() >= MOST_IDS {
             Acceptance::Full
@@ -173,7 +193,12 @@ impl State {
     }
 
     /// The first case that fits a request for a task, direct or not.
-    pub fn acceptance(&self, direct: bool, submission: &Submission, message: &Message) -> Acceptance
+    pub fn acceptance(
+        &self,
+        direct: bool,
+        submission: &Submission,
+        message: &SharedMessage,
+    ) -> Acceptance
         ensures { result ≡ acceptance (facts_in (plain self.now)) (record { direct = direct; submission = submission.now }) message.now }
     {
         if is_reserved(&submission.id) {
@@ -193,22 +218,21 @@ impl State {
         &self,
         conn: u32,
         moment: u64,
-        message: &Message,
+        message: &SharedMessage,
         submission: &Submission,
     ) -> Result<Request, AllocError>
-        ensures { IfOk result (λ r. request_as r ≡ request_plain (facts_in (plain self.now)) conn moment message.now submission.now) }
+        ensures value { IfOk result (λ r. request_as r ≡ request_plain (facts_in (plain self.now)) conn moment message.now submission.now) }
+        ensures message { IfOk result (λ r. r.message ≡ message.now) }
     {
         let alloc = self.allocator();
+        let (msg_type, session, username) = words_of(self.tasks.as_slice().last(), submission)?;
         Ok(Request {
             owner: owner_on(&self.connections, conn)?,
             direct_to: None,
-            target: message.target.copy()?,
-            msg_type: submission.msg_type.copy()?,
-            session: submission.session.copy()?,
-            username: submission.username.copy()?,
-            header: message.header.copy()?,
-            parent: message.parent.copy()?,
-            metadata: message.metadata.copy()?,
+            message: message.clone()?,
+            msg_type,
+            session,
+            username,
             after: no_dependency(alloc),
             follow: no_dependency(alloc),
             listed: Ids::new(alloc),
@@ -224,15 +248,16 @@ impl State {
         &self,
         conn: u32,
         moment: u64,
-        message: &Message,
+        message: &SharedMessage,
         submission: &Submission,
     ) -> Result<Request, AllocError>
-        ensures { IfOk result (λ r. request_as r ≡ request_submit (facts_in (plain self.now)) conn moment message.now submission.now) }
+        ensures value { IfOk result (λ r. request_as r ≡ request_submit (facts_in (plain self.now)) conn moment message.now submission.now) }
+        ensures message { IfOk result (λ r. r.message ≡ message.now) }
     {
         let mut request = self.request_plain(conn, moment, message, submission)?;
-        request.after = submission.after.copy()?;
-        request.follow = submission.follow.copy()?;
-        request.listed = submission.targets.copy()?;
+        request.after = submission.after.clone()?;
+        request.follow = submission.follow.clone()?;
+        request.listed = submission.targets.clone()?;
         request.targets = targets_of(
             self.allocator(),
             &self.engines,
@@ -253,13 +278,14 @@ impl State {
         &self,
         conn: u32,
         moment: u64,
-        message: &Message,
+        message: &SharedMessage,
         submission: &Submission,
     ) -> Result<Request, AllocError>
-        ensures { IfOk result (λ r. request_as r ≡ request_direct (facts_in (plain self.now)) conn moment message.now submission.now) }
+        ensures value { IfOk result (λ r. request_as r ≡ request_direct (facts_in (plain self.now)) conn moment message.now submission.now) }
+        ensures message { IfOk result (λ r. r.message ≡ message.now) }
     {
         let mut request = self.request_plain(conn, moment, message, submission)?;
-        request.direct_to = match engine_named(&self.engines, message.target.as_slice()) {
+        request.direct_to = match engine_named(&self.engines, message.target()) {
             Some(engine) => Some(engine.number),
             None => None,
         };
@@ -270,11 +296,12 @@ impl State {
         &self,
         conn: u32,
         moment: u64,
-        message: &Message,
+        message: &SharedMessage,
         direct: bool,
         submission: &Submission,
     ) -> Result<Request, AllocError>
-        ensures { IfOk result (λ r. request_as r ≡ request_made (facts_in (plain self.now)) conn moment message.now (record { direct = direct; submission = submission.now })) }
+        ensures value { IfOk result (λ r. request_as r ≡ request_made (facts_in (plain self.now)) conn moment message.now (record { direct = direct; submission = submission.now })) }
+        ensures message { IfOk result (λ r. r.message ≡ message.now) }
     {
         if direct {
             let request = self.request_direct(conn, moment, message, submission)?;
@@ -286,11 +313,11 @@ impl State {
     }
 
     /// Adds a task under the next number.
-    pub fn begin(&mut self, id: &Text, request: Request, body: Body) -> Result<(), AllocError>
-        ensures { OnOk result (plain self.new ≡ record (plain self.old) { tasks = self.old.tasks ++ begun id.now (length self.old.tasks + 1) (request_as request) (body_as body) ∷ [] }) }
+    pub fn begin(&mut self, id: &Text, request: Request) -> Result<(), AllocError>
+        ensures { OnOk result (plain self.new ≡ record (plain self.old) { tasks = self.old.tasks ++ begun id.now (length self.old.tasks + 1) (request_as request) (body_of request.message) ∷ [] }) }
     {
         let number = one_more(self.tasks.len() as u64)?;
-        let task = Task::new(self.allocator(), id, number, request, body)?;
+        let task = Task::new(self.allocator(), id, number, request)?;
         self.tasks.push(task)
     }
 
@@ -299,7 +326,7 @@ impl State {
         &mut self,
         conn: u32,
         moment: u64,
-        message: &Message,
+        message: &SharedMessage,
         direct: bool,
         submission: &Submission,
     ) -> Result<bool, AllocError>
@@ -310,8 +337,7 @@ impl State {
             return Ok(false);
         }
         let request = self.request_made(conn, moment, message, direct, submission)?;
-        let body = body_of(message)?;
-        self.begin(&submission.id, request, body)?;
+        self.begin(&submission.id, request)?;
         Ok(true)
     }
 }

@@ -7,7 +7,6 @@ ghost use Rattle.cluster_defs.specs.declared.attempt.Attempt.{Attempt as Attempt
 ghost use Rattle.cluster_state.specs.Seen.{attempts_as, ending_as};
 
 use cluster_defs::attempt::Attempt;
-use cluster_types::copying::TryCopy;
 use cluster_types::text::Text;
 use std::alloc::{AllocError, Global};
 
@@ -161,7 +160,7 @@ impl Attempts {
     fn hear(&mut self, header: &Text, engine: u32) -> Result<(), AllocError>
         ensures { OnOk result (attempts_as self.new ≡ record (attempts_as self.old) { heard = (engine, header.now) ∷ (attempts_as self.old).heard }) }
     {
-        let header = header.copy()?;
+        let header = header.clone()?;
         self.heard.insert(0, (engine, header))?;
         Ok(())
     }

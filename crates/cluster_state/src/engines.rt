@@ -7,6 +7,7 @@ ghost use Rattle.cluster_defs.specs.Engines.{engine_on, engine_named, engine_num
 ghost use Rattle.cluster_defs.specs.Steps.{moved};
 
 use cluster_defs::engine::{Engine, Joining};
+use cluster_types::limits::MOST_ENGINES;
 use cluster_types::text::Text;
 use std::alloc::AllocError;
 
@@ -71,7 +72,7 @@ fn joining_new(next: u32, holder: Option<&Engine>) -> Joining
         Some(holder) => Joining::UuidInUse {
             engine: holder.number,
         },
-        None if next == u32::MAX => Joining::UsedUp,
+        None if next == MOST_ENGINES => Joining::UsedUp,
         None => Joining::Accepted,
     }
 }

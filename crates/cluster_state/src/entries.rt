@@ -3,11 +3,12 @@
 ghost use Rattle.std.specs.Prelude.{◌≡◌, ◌≤◌, ◌==◌, IfOk, OnOk, Some, None, option_map};
 ghost use Rattle.cluster_types.specs.declared.entry.Entry.{Entry};
 ghost use Rattle.cluster_types.specs.declared.entry.Input.{Input as InputType};
+ghost use Rattle.cluster_types.specs.Limits.{last_moment};
 ghost use Rattle.cluster_defs.specs.Engines.{engine_on};
 ghost use Rattle.cluster_defs.specs.Steps.{changes};
 ghost use Rattle.cluster_defs.specs.Scheduling.{is_kept_as};
 ghost use Rattle.cluster_state.specs.Seen.{Seen, settled_as, settled_with, seen_in, changed};
-ghost use Rattle.cluster_state.specs.Plain.{facts_in, settled_at, settled_out, outcome_for, after, InTime, beaten, passed, input_at, went_down, engine_ended};
+ghost use Rattle.cluster_state.specs.Plain.{facts_in, settled_at, settled_out, outcome_for, plain_after, InTime, beaten, passed, input_at, went_down, engine_ended};
 ghost use Rattle.cluster_state.specs.Stands.{plain};
 ghost use Rattle.cluster_state.specs.Settling.{IsSettling};
 
@@ -17,7 +18,7 @@ use crate::state::State;
 use crate::task::Settled;
 use cluster_types::entry::{Entry, Input};
 use cluster_types::event::Event;
-use cluster_types::message::Message;
+use cluster_types::shared_message::SharedMessage;
 use cluster_types::text::Text;
 use cluster_types::verdict::{Cause, Verdict};
 use std::alloc::{AllocError, Global};
@@ -25,7 +26,7 @@ use std::alloc::{AllocError, Global};
 /// How a task is settled, with its outcome.
 struct Settling {
     settled: Settled,
-    outcome: Option<Message>,
+    outcome: Option<SharedMessage>,
 }
 
 impl State {
@@ -36,7 +37,7 @@ impl State {
         verdict: Verdict,
         cause: Cause,
     ) -> Result<Option<Settling>, AllocError>
-        requires { self.now.moment ≤ 253402300799999 }
+        requires { self.now.moment ≤ last_moment }
         ensures { IfOk result (λ o. IsSettling verdict cause self.entry.now.moment (seen_in self.entry.now.tasks id.now) o) }
     {
         match self.tasks.find(id) {
@@ -56,7 +57,7 @@ impl State {
 
     /// Takes a settle.
     fn settle(&mut self, id: &Text, verdict: Verdict, cause: Cause) -> Result<(), AllocError>
-        requires { self.old.moment ≤ 253402300799999 }
+        requires { self.old.moment ≤ last_moment }
         ensures { OnOk result (plain self.new ≡ settled_out id.now verdict cause (plain self.old)) }
     {
         match self.settling(id, verdict, cause)? {
@@ -90,7 +91,7 @@ impl State {
     fn take_input(&mut self, input: &Input, event: &Option<Event>) -> Result<bool, AllocError>
         requires { InTime (Entry.Input input.now) }
         ensures kept { IfOk result (λ b. b ≡ is_kept_as (facts_in (plain self.old)) (Entry.Input input.now) event.now) }
-        ensures after { OnOk result (plain self.new ≡ after (facts_in (plain self.old)) (Entry.Input input.now) event.now (plain self.old)) }
+        ensures after { OnOk result (plain self.new ≡ plain_after (facts_in (plain self.old)) (Entry.Input input.now) event.now (plain self.old)) }
     {
         match input {
             Input::Open {
@@ -134,12 +135,12 @@ impl State {
         conn: u32,
         moment: u64,
         word: u64,
-        message: &Message,
+        message: &SharedMessage,
         event: &Option<Event>,
     ) -> Result<bool, AllocError>
-        requires { moment ≤ 253402300799999 }
+        requires { moment ≤ last_moment }
         ensures kept { IfOk result (λ b. b ≡ changes (facts_in (plain self.old)) conn message.now event.now) }
-        ensures after { OnOk result (plain self.new ≡ after (facts_in (plain self.old)) (Entry.Input (InputType.In conn moment word message.now)) event.now (plain self.old)) }
+        ensures after { OnOk result (plain self.new ≡ plain_after (facts_in (plain self.old)) (Entry.Input (InputType.In conn moment word message.now)) event.now (plain self.old)) }
     {
         match event {
             Some(event) => {
@@ -153,9 +154,9 @@ impl State {
     /// Takes an entry with what its message means, and tells whether it is kept.
     pub fn take(&mut self, entry: &Entry, event: &Option<Event>) -> Result<bool, AllocError>
         requires time { InTime entry.now }
-        requires now { self.old.moment ≤ 253402300799999 }
+        requires now { self.old.moment ≤ last_moment }
         ensures kept { IfOk result (λ b. b ≡ is_kept_as (facts_in (plain self.old)) entry.now event.now) }
-        ensures after { OnOk result (plain self.new ≡ after (facts_in (plain self.old)) entry.now event.now (plain self.old)) }
+        ensures after { OnOk result (plain self.new ≡ plain_after (facts_in (plain self.old)) entry.now event.now (plain self.old)) }
     {
         match entry {
             Entry::Input(input) => {

@@ -1,8 +1,9 @@
 //! Messages, with what they mean.
 
 ghost use Rattle.std.specs.Prelude.{◌≡◌, ◌≤◌, is_some, IfOk, OnOk, Some, None};
-ghost use Rattle.cluster_defs.specs.Engines.{joined, left, echoed};
+ghost use Rattle.cluster_defs.specs.Engines.{joined, left_engine, echoed};
 ghost use Rattle.cluster_types.specs.declared.event.Event.{Event};
+ghost use Rattle.cluster_types.specs.Limits.{last_moment};
 ghost use Rattle.cluster_defs.specs.Steps.{changes};
 ghost use Rattle.cluster_state.specs.Plain.{facts_in, engine_ended, joined_by, echoed_by, told, noted};
 ghost use Rattle.cluster_state.specs.Stands.{plain};
@@ -11,7 +12,7 @@ use crate::engines::{joining, number_on, raises_some};
 use crate::state::State;
 use cluster_defs::engine::Joining;
 use cluster_types::event::Event;
-use cluster_types::message::Message;
+use cluster_types::shared_message::SharedMessage;
 use cluster_types::text::Text;
 use std::alloc::{AllocError, Global};
 
@@ -30,8 +31,8 @@ impl State {
 
     /// Takes an engine's leave, where there is one on the connection, and tells whether there is.
     pub fn take_leave(&mut self, conn: u32) -> Result<bool, AllocError>
-        ensures told { IfOk result (λ b. b ≡ is_some (left self.old.engines.items conn (Some Event.Leave))) }
-        ensures after { OnOk result (plain self.new ≡ engine_ended (left self.old.engines.items conn (Some Event.Leave)) (plain self.old)) }
+        ensures told { IfOk result (λ b. b ≡ is_some (left_engine self.old.engines.items conn (Some Event.Leave))) }
+        ensures after { OnOk result (plain self.new ≡ engine_ended (left_engine self.old.engines.items conn (Some Event.Leave)) (plain self.old)) }
     {
         match number_on(&self.engines, conn) {
             Some(engine) => {
@@ -60,10 +61,10 @@ impl State {
         &mut self,
         conn: u32,
         moment: u64,
-        message: &Message,
+        message: &SharedMessage,
         event: &Event,
     ) -> Result<bool, AllocError>
-        requires { moment ≤ 253402300799999 }
+        requires { moment ≤ last_moment }
         ensures told { IfOk result (λ b. b ≡ changes (facts_in (plain self.old)) conn message.now (Some event.now)) }
         ensures after { OnOk result (plain self.new ≡ told (facts_in (plain self.old)) conn moment message.now event.now (plain self.old)) }
     {
@@ -93,10 +94,10 @@ impl State {
         conn: u32,
         moment: u64,
         word: u64,
-        message: &Message,
+        message: &SharedMessage,
         event: &Event,
     ) -> Result<bool, AllocError>
-        requires { moment ≤ 253402300799999 }
+        requires { moment ≤ last_moment }
         ensures told { IfOk result (λ b. b ≡ changes (facts_in (plain self.old)) conn message.now (Some event.now)) }
         ensures after { OnOk result (plain self.new ≡ noted (changes (facts_in (plain self.old)) conn message.now (Some event.now)) moment word (told (facts_in (plain self.old)) conn moment message.now event.now (plain self.old))) }
     {

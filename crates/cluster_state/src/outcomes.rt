@@ -3,7 +3,8 @@
 ghost use Rattle.std.specs.Prelude.{◌≡◌, ◌≤◌, ◌≢◌, IfOk, Some, string_bytes};
 ghost use Rattle.std.specs.Option.{option_copied};
 ghost use Rattle.cluster_types.specs.Verdicts.{cause_value};
-ghost use Rattle.message_defs.specs.Texts.{outcome_id, empty_object, made_header, reply_type};
+ghost use Rattle.cluster_types.specs.Limits.{last_moment};
+ghost use Rattle.message_defs.specs.Texts.{outcome_id, made_header, reply_type};
 ghost use Rattle.edges.specs.Date.{date_of};
 ghost use Rattle.cluster_defs.specs.Outcomes.{made_outcome};
 ghost use Rattle.cluster_state.specs.Seen.{request_as, settled_as};
@@ -11,13 +12,13 @@ ghost use Rattle.cluster_state.specs.Plain.{outcome_for};
 
 use crate::request::Request;
 use crate::task::{Settled, Task};
-use cluster_types::copying::TryCopy;
-use cluster_types::message::{Buffers, Message};
+use cluster_types::message::Buffers;
 use cluster_types::octets::Octets;
+use cluster_types::shared_message::SharedMessage;
 use cluster_types::text::Text;
 use cluster_types::verdict::Cause;
 use edges::date::{Moment, date_text};
-use jupyter_header::contents::outcome_content;
+use jupyter_header::contents::{empty_object, outcome_content};
 use jupyter_header::kinds::reply_type;
 use jupyter_header::write::made_header;
 use std::alloc::{AllocError, Global};
@@ -30,7 +31,7 @@ fn outcome_id(alloc: Global, number: u64) -> Result<Text, AllocError>
     let number = number.to_string(alloc)?;
     let mut text = String::from_str(alloc, "out-")?;
     text.push_str(number.as_str())?;
-    Ok(Text::from_string(text))
+    Text::from_string(text)
 }
 
 /// The sentence on a cause.
@@ -45,13 +46,6 @@ fn cause_text(alloc: Global, cause: Cause, engine: Option<u32>) -> Result<Text, 
     }
 }
 
-#[tactic(auto, unfolding(message_defs::specs::Texts::empty_object))]
-fn empty_object(alloc: Global) -> Result<Octets, AllocError>
-    ensures { IfOk result (λ o. o ≡ empty_object) }
-{
-    Octets::new(alloc, b"{}")
-}
-
 /// The header of an outcome that the controller makes.
 fn outcome_header(
     alloc: Global,
@@ -59,7 +53,7 @@ fn outcome_header(
     msg_type: &Text,
     moment: u64,
 ) -> Result<Octets, AllocError>
-    requires { moment ≤ 253402300799999 }
+    requires { moment ≤ last_moment }
     ensures { IfOk result (λ o. o ≡ made_header (outcome_id number) (reply_type msg_type.now) (date_of moment)) }
 {
     let id = outcome_id(alloc, number)?;
@@ -74,19 +68,22 @@ fn made_outcome(
     number: u64,
     settled: Settled,
     request: &Request,
-) -> Result<Message, AllocError>
-    requires { settled.moment ≤ 253402300799999 }
+) -> Result<SharedMessage, AllocError>
+    requires { settled.moment ≤ last_moment }
     ensures { IfOk result (λ m. m ≡ made_outcome number (settled_as settled) (request_as request.now)) }
 {
     let value = cause_text(alloc, settled.cause, settled.engine)?;
-    Ok(Message {
-        target: Octets::new(alloc, b"")?,
-        header: outcome_header(alloc, number, &request.msg_type, settled.moment)?,
-        parent: request.header.copy()?,
-        metadata: empty_object(alloc)?,
-        content: outcome_content(alloc, settled.cause.name(), value.as_str())?,
-        buffers: Buffers::new(alloc),
-    })
+    let header = outcome_header(alloc, number, &request.msg_type, settled.moment)?;
+    let content = outcome_content(alloc, settled.cause.name(), value.as_str())?;
+    SharedMessage::new(
+        alloc,
+        b"",
+        header.as_slice(),
+        request.message.header(),
+        empty_object(),
+        content.as_slice(),
+        Buffers::new(alloc),
+    )
 }
 
 /// The outcome that a task gets: its last valid reply, or what the controller makes. The moment has to be one before the
@@ -95,8 +92,8 @@ pub fn outcome_for(
     alloc: Global,
     settled: Settled,
     task: &Task,
-) -> Result<Option<Message>, AllocError>
-    requires { settled.moment ≤ 253402300799999 }
+) -> Result<Option<SharedMessage>, AllocError>
+    requires { settled.moment ≤ last_moment }
     ensures { IfOk result (λ o. o ≡ outcome_for (settled_as settled) settled.cause task.now) }
 {
     if settled.cause == Cause::Reply {
@@ -107,11 +104,11 @@ pub fn outcome_for(
     Ok(Some(made))
 }
 
-fn copied(message: Option<&Message>) -> Result<Option<Message>, AllocError>
+fn copied(message: Option<&SharedMessage>) -> Result<Option<SharedMessage>, AllocError>
     ensures { IfOk result (λ m. m ≡ option_copied message.entry) }
 {
     match message {
-        Some(message) => Ok(Some(message.copy()?)),
+        Some(message) => Ok(Some(message.clone()?)),
         None => Ok(None),
     }
 }

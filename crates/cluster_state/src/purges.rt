@@ -11,7 +11,6 @@ ghost use Rattle.cluster_state.specs.Stands.{plain};
 
 use crate::state::State;
 use crate::tasks::Tasks;
-use cluster_types::copying::TryCopy;
 use cluster_types::message::Ids;
 use cluster_types::text::Text;
 use std::alloc::{AllocError, Global};
@@ -24,6 +23,13 @@ fn purge_each(tasks: &mut Tasks, ids: &[Text])
     for id in ids {
         tasks.purge(id);
     }
+}
+
+/// Puts an id at the end of a list.
+fn push_copy(ids: &mut Ids, id: &Text) -> Result<(), AllocError>
+    ensures { OnOk result (ids.new ≡ ids.old ++ id.now ∷ []) }
+{
+    ids.push(id.clone()?)
 }
 
 impl State {
@@ -62,7 +68,7 @@ impl State {
         let mut ids = Ids::new(self.allocator());
         for task in self.tasks.as_slice() {
             if self.may_go(task.id()) {
-                ids.push(task.id().copy()?)?;
+                push_copy(&mut ids, task.id())?;
             }
         }
         Ok(ids)

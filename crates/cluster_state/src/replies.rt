@@ -14,11 +14,9 @@ use crate::engines::conn_of;
 use crate::state::State;
 use cluster_defs::attempt::Attempt;
 use cluster_defs::engine::Engine;
-use cluster_types::copying::TryCopy;
-use cluster_types::message::Message;
-use cluster_types::octets::Octets;
+use cluster_types::shared_message::SharedMessage;
 use cluster_types::text::Text;
-use std::alloc::{AllocError, Global};
+use std::alloc::AllocError;
 
 /// The connection of the engine of a current attempt.
 fn home(live: &[Engine], attempt: Attempt) -> Option<u32>
@@ -63,20 +61,6 @@ fn ending(direct: bool, ok: bool, declined: bool) -> Ending
     }
 }
 
-/// The parts of a message as they came, without identity frames.
-fn parts_of(alloc: Global, message: &Message) -> Result<Message, AllocError>
-    ensures { IfOk result (λ m. m ≡ parts_of message.now) }
-{
-    Ok(Message {
-        target: Octets::new(alloc, b"")?,
-        header: message.header.copy()?,
-        parent: message.parent.copy()?,
-        metadata: message.metadata.copy()?,
-        content: message.content.copy()?,
-        buffers: message.buffers.copy()?,
-    })
-}
-
 impl State {
     /// Whether a reply on a connection is valid for the task that it names.
     fn counts(&self, conn: u32, name: &Text, header: &Text) -> bool
@@ -106,7 +90,7 @@ impl State {
         header: &Text,
         ok: bool,
         declined: bool,
-        message: &Message,
+        message: &SharedMessage,
     ) -> Result<bool, AllocError>
         ensures told { IfOk result (λ b. b ≡ counts self.old.engines.items conn header.now ((facts_in (plain self.old)).task name.now)) }
         ensures after { OnOk result (plain self.new ≡ replied_by (counts self.old.engines.items conn header.now ((facts_in (plain self.old)).task name.now)) name.now header.now (ending (is_direct_id (facts_in (plain self.old)) name.now) ok declined) (parts_of message.now) (plain self.old)) }
@@ -115,7 +99,7 @@ impl State {
             return Ok(false);
         }
         let how = ending(self.is_direct(name), ok, declined);
-        let reply = parts_of(self.allocator(), message)?;
+        let reply = message.without_target(self.allocator())?;
         self.tasks.take_reply(name, header, how, reply)?;
         Ok(true)
     }

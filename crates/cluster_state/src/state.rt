@@ -1,6 +1,7 @@
 //! What is known of a cluster.
 
 ghost use Rattle.std.specs.Prelude.{◌≡◌, ◌≤◌, ◌+◌, ◌%◌, true, Some, None, IfOk, OnOk, option_map};
+ghost use Rattle.cluster_types.specs.Limits.{most_engines};
 ghost use Rattle.cluster_defs.specs.Facts.{nothing_yet};
 ghost use Rattle.cluster_defs.specs.Engines.{engine_on, with_mark, with_engine};
 ghost use Rattle.cluster_defs.specs.Steps.{next_word};
@@ -17,7 +18,6 @@ use crate::tasks::Tasks;
 use cluster_defs::connection::Connection;
 use cluster_defs::engine::Engine;
 use cluster_types::config::{Channel, Scheme};
-use cluster_types::copying::TryCopy;
 use cluster_types::octets::Octets;
 use cluster_types::text::Text;
 use cluster_types::verdict::{Cause, Verdict};
@@ -139,7 +139,7 @@ impl State {
     ) -> Result<(), AllocError>
         ensures { OnOk result (plain self.new ≡ came_up conn channel identity.now (plain self.old)) }
     {
-        let identity = identity.copy()?;
+        let identity = identity.clone()?;
         self.connections.push(Connection {
             number: conn,
             channel,
@@ -190,11 +190,11 @@ impl State {
 
     /// Makes an engine.
     pub fn join(&mut self, conn: u32, uuid: &Text) -> Result<(), AllocError>
-        requires { self.old.next_engine + 1 ≤ 4294967295 }
+        requires { self.old.next_engine + 1 ≤ most_engines }
         ensures { OnOk result (plain self.new ≡ joined_by conn (Some uuid.now) (plain self.old)) }
     {
         let number = self.next_engine;
-        let uuid = uuid.copy()?;
+        let uuid = uuid.clone()?;
         self.engines.push(Engine {
             number,
             conn,

@@ -3,14 +3,14 @@
 ghost use Rattle.std.specs.Prelude.{◌≡◌, Some, None, IfOk, OnOk};
 ghost use Rattle.std.specs.Option.{option_copied};
 ghost use Rattle.cluster_types.specs.declared.record.Record.{Record as RecordType};
-ghost use Rattle.cluster_state.specs.Seen.{request_as, body_as, attempts_as, ending_as, settled_as, begun, attempted, handed_to, ended_on, lost_all, replied_with, settled_with, purged_out};
+ghost use Rattle.cluster_defs.specs.Requests.{body_of};
+ghost use Rattle.cluster_state.specs.Seen.{request_as, attempts_as, ending_as, settled_as, begun, attempted, handed_to, ended_on, lost_all, replied_with, settled_with, purged_out};
 ghost use Rattle.cluster_state.specs.Places.{IsSame};
 
 use crate::attempts::{Attempts, Ending, engine_of, runs};
-use crate::request::{Body, Request};
-use cluster_types::copying::TryCopy;
-use cluster_types::message::Message;
+use crate::request::Request;
 use cluster_types::record::Record;
+use cluster_types::shared_message::SharedMessage;
 use cluster_types::text::Text;
 use cluster_types::verdict::{Cause, Verdict};
 use std::alloc::{AllocError, Global};
@@ -32,37 +32,31 @@ pub struct Settled {
 pub struct Task {
     row: Record,
     request: Request,
-    body: Body,
     attempts: Attempts,
-    reply: Option<Message>,
+    reply: Option<SharedMessage>,
     settled: Option<Settled>,
 }
 
 impl Model for Task {
     ghost use Rattle.std.specs.Prelude.{Some, option_map};
-    ghost use Rattle.cluster_state.specs.Seen.{Seen, request_as, body_as, attempts_as, settled_as};
+    ghost use Rattle.cluster_defs.specs.Requests.{body_of};
+    ghost use Rattle.cluster_state.specs.Seen.{Seen, request_as, attempts_as, settled_as};
 
     ghost Value = { Seen };
 
-    ghost view = { λ t. record { row = t.row; request = Some (request_as t.request); body = Some (body_as t.body); attempts = attempts_as t.attempts; reply = t.reply; settled = option_map settled_as t.settled } };
+    ghost view = { λ t. record { row = t.row; request = Some (request_as t.request); body = Some (body_of t.request.message); attempts = attempts_as t.attempts; reply = t.reply; settled = option_map settled_as t.settled } };
 }
 
 impl Task {
     ghost use Rattle.std.specs.Prelude.{option_map};
 
     /// A task that was just accepted.
-    pub fn new(
-        alloc: Global,
-        id: &Text,
-        number: u64,
-        request: Request,
-        body: Body,
-    ) -> Result<Task, AllocError>
-        ensures { IfOk result (λ t. t ≡ begun id.now number (request_as request) (body_as body)) }
+    pub fn new(alloc: Global, id: &Text, number: u64, request: Request) -> Result<Task, AllocError>
+        ensures { IfOk result (λ t. t ≡ begun id.now number (request_as request) (body_of request.message)) }
     {
         Ok(Task {
             row: Record {
-                id: id.copy()?,
+                id: id.clone()?,
                 number,
                 direct: request.direct_to.is_some(),
                 engine: None,
@@ -72,7 +66,6 @@ impl Task {
                 outcome: None,
             },
             request,
-            body,
             attempts: Attempts::new(alloc),
             reply: None,
             settled: None,
@@ -93,15 +86,10 @@ impl Task {
     }
 
     pub fn request(&self) -> &Request
-        ensures { self.now.request ≡ Some (request_as result.now) }
+        ensures value { self.now.request ≡ Some (request_as result.now) }
+        ensures body { self.now.body ≡ Some (body_of result.now.message) }
     {
         &self.request
-    }
-
-    pub fn body(&self) -> &Body
-        ensures { self.now.body ≡ Some (body_as result.now) }
-    {
-        &self.body
     }
 
     pub fn attempts(&self) -> &Attempts
@@ -111,7 +99,7 @@ impl Task {
     }
 
     /// The last valid reply.
-    pub fn reply(&self) -> Option<&Message>
+    pub fn reply(&self) -> Option<&SharedMessage>
         ensures { option_copied result ≡ self.now.reply }
     {
         self.reply.as_ref()
@@ -164,7 +152,7 @@ impl Task {
         &mut self,
         header: &Text,
         how: Ending,
-        reply: Message,
+        reply: SharedMessage,
     ) -> Result<(), AllocError>
         ensures ok { OnOk result (self.new ≡ replied_with header.now (ending_as how) reply self.old) }
         ensures same { IsSame self.old self.new }
@@ -176,7 +164,7 @@ impl Task {
     }
 
     /// Settles it.
-    pub fn settle(&mut self, settled: Settled, outcome: Option<Message>)
+    pub fn settle(&mut self, settled: Settled, outcome: Option<SharedMessage>)
         ensures { self.new ≡ settled_with (settled_as settled) outcome self.old }
     {
         self.settled = Some(settled);

@@ -10,7 +10,7 @@ ghost use Rattle.cluster_state.specs.Places.{Alike, Beside, at_place, at_places}
 
 use crate::attempts::Ending;
 use crate::task::{Settled, Task};
-use cluster_types::message::Message;
+use cluster_types::shared_message::SharedMessage;
 use cluster_types::text::Text;
 use std::alloc::{AllocError, Global};
 use std::collections::HashMap;
@@ -65,7 +65,7 @@ fn hand_at(tasks: &mut [Task], place: usize, engine: u32)
     }
 }
 
-fn settle_at(tasks: &mut [Task], place: usize, settled: Settled, outcome: Option<Message>)
+fn settle_at(tasks: &mut [Task], place: usize, settled: Settled, outcome: Option<SharedMessage>)
     ensures { tasks.new ≡ at_place (settled_with (settled_as settled) outcome) place tasks.old }
 {
     if place < tasks.len() {
@@ -88,7 +88,7 @@ fn take_reply_at(
     place: usize,
     header: &Text,
     how: Ending,
-    reply: Message,
+    reply: SharedMessage,
 ) -> Result<(), AllocError>
     ensures ok { OnOk result (tasks.new ≡ at_place (replied_with header.now (ending_as how) reply) place tasks.old) }
     ensures same { Alike tasks.old tasks.new }
@@ -295,7 +295,7 @@ impl Tasks {
         id: &Text,
         header: &Text,
         how: Ending,
-        reply: Message,
+        reply: SharedMessage,
     ) -> Result<(), AllocError>
         ensures { OnOk result (self.new ≡ changed id.now (replied_with header.now (ending_as how) reply) self.old) }
     {
@@ -306,7 +306,7 @@ impl Tasks {
     }
 
     /// Settles a task.
-    pub fn settle(&mut self, id: &Text, settled: Settled, outcome: Option<Message>)
+    pub fn settle(&mut self, id: &Text, settled: Settled, outcome: Option<SharedMessage>)
         ensures { self.new ≡ changed id.now (settled_with (settled_as settled) outcome) self.old }
     {
         if let Some(place) = place_of(&self.places, id) {

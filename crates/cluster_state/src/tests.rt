@@ -11,34 +11,26 @@ use crate::engines::{
     use_engine,
 };
 use crate::outcomes::outcome_for;
-use crate::request::{Body, Request};
 use crate::state::State;
-use crate::task::{Settled, Task};
+use crate::task::Settled;
 use cluster_defs::acceptance::Acceptance;
 use cluster_defs::engine::{Engine, Joining};
 use cluster_types::config::{Channel, Scheme};
 use cluster_types::entry::{Entry, Input};
 use cluster_types::event::{Dep, Event, Submission};
-use cluster_types::message::{Ids, Message};
+use cluster_types::limits::LAST_MOMENT;
+use cluster_types::message::Ids;
 use cluster_types::octets::Octets;
 use cluster_types::sequence::Sequence;
+use cluster_types::shared_message::SharedMessage;
 use cluster_types::text::Text;
 use cluster_types::verdict::{Cause, Verdict};
 use std::alloc::{AllocError, Global};
 use std::test::Fail;
 
-/// The last moment before the year 10000, in milliseconds.
-const LAST_MOMENT: u64 = 253_402_300_799_999;
-
-fn message(alloc: Global, header: &[u8]) -> Result<Message, AllocError> {
-    Ok(Message {
-        target: Octets::new(alloc, b"")?,
-        header: Octets::new(alloc, header)?,
-        parent: Octets::new(alloc, b"{}")?,
-        metadata: Octets::new(alloc, b"{}")?,
-        content: Octets::new(alloc, b"{}")?,
-        buffers: Sequence::new(alloc),
-    })
+fn message(alloc: Global, header: &[u8]) -> Result<SharedMessage, AllocError> {
+    let buffers = Sequence::new(alloc);
+    SharedMessage::new(alloc, b"", header, b"{}", b"{}", b"{}", buffers)
 }
 
 /// A dependency on the listed tasks.
@@ -80,18 +72,12 @@ fn take(state: &mut State, entry: &Entry) -> Result<bool, AllocError>
     state.take(entry, &None)
 }
 
-/// An opened cluster with connection 1 of an engine and connection 2 of a client.
-fn connected(alloc: Global) -> Result<State, AllocError> {
+/// An opened cluster with connection 1 of an engine and connection 2 of a client, once engine 0 has joined.
+fn joined(alloc: Global) -> Result<State, AllocError> {
     let mut state = State::new(alloc);
     state.take_open(0, Scheme::LeastLoad, 1, 10)?;
     state.connect(1, Channel::Engine, &Octets::new(alloc, b"e")?)?;
     state.connect(2, Channel::Task, &Octets::new(alloc, b"c")?)?;
-    Ok(state)
-}
-
-/// The same, once engine 0 has joined.
-fn joined(alloc: Global) -> Result<State, AllocError> {
-    let mut state = connected(alloc)?;
     let _ = state.take_join(1, &Text::new(alloc, "e0")?)?;
     Ok(state)
 }
@@ -111,198 +97,119 @@ fn handed(alloc: Global) -> Result<State, AllocError> {
     Ok(state)
 }
 
-/// The same, once the engine replied, and whether the reply counted.
-fn replied(alloc: Global, declined: bool) -> Result<(State, bool), AllocError> {
-    let mut state = handed(alloc)?;
-    let reply = message(alloc, b"r")?;
+/// Whether a good reply to `a` with this header counts.
+fn reply(alloc: Global, state: &mut State, header: &str) -> Result<bool, AllocError> {
+    let message = message(alloc, header.as_bytes())?;
     let task = Text::new(alloc, "a")?;
-    let counts = state.take_reply(1, &task, &Text::new(alloc, "r")?, true, declined, &reply)?;
-    Ok((state, counts))
-}
-
-/// The same, once `a` was settled by its reply.
-fn settled(alloc: Global) -> Result<State, AllocError> {
-    let (mut state, _) = replied(alloc, false)?;
-    let id = Text::new(alloc, "a")?;
-    let settle = Entry::Settle {
-        id,
-        verdict: Verdict::Completed,
-        cause: Cause::Reply,
-    };
-    let _ = take(&mut state, &settle)?;
-    Ok(state)
+    let header = Text::new(alloc, header)?;
+    state.take_reply(1, &task, &header, true, false, &message)
 }
 
 #[test]
-fn connections_are_told_by_their_numbers(rt: HostRuntime) -> Result<(), Fail> {
-    let mut state = connected(rt.alloc())?;
-    assert!(rt; connection_on(&state.connections, 2).is_some());
-    state.disconnect(2);
-    assert!(rt; connection_on(&state.connections, 2).is_none());
-    assert!(rt; connection_on(&state.connections, 1).is_some());
-    Ok(())
-}
-
-#[test]
-fn an_engine_joins_once(rt: HostRuntime) -> Result<(), Fail> {
+fn connections_and_engines(rt: HostRuntime) -> Result<(), Fail> {
     let alloc = rt.alloc();
-    let state = joined(alloc)?;
+    let mut state = joined(alloc)?;
     let e0 = Text::new(alloc, "e0")?;
     let e1 = Text::new(alloc, "e1")?;
     let next = state.next_engine;
     assert!(rt; next == 1 && number_on(&state.engines, 1) == Some(0));
-    assert!(rt; joining(&state.engines, next, 1, &e0) == Joining::Repeat { engine: 0 });
-    assert!(rt; joining(&state.engines, next, 1, &e1) == Joining::AlreadyJoined { engine: 0 });
-    assert!(rt; joining(&state.engines, next, 3, &e0) == Joining::UuidInUse { engine: 0 });
-    assert!(rt; joining(&state.engines, next, 3, &e1) == Joining::Accepted);
+    assert!(rt;
+        joining(&state.engines, next, 1, &e0) == Joining::Repeat { engine: 0 }
+            && joining(&state.engines, next, 1, &e1) == Joining::AlreadyJoined { engine: 0 }
+            && joining(&state.engines, next, 3, &e0) == Joining::UuidInUse { engine: 0 }
+            && joining(&state.engines, next, 3, &e1) == Joining::Accepted
+    );
+    let listed = on(alloc, &["e1", "e0"])?.ids;
+    let targets = targets_of(alloc, &state.engines, listed.as_slice())?;
+    assert!(rt; targets.as_slice() == [0].as_slice());
+    state.beat()?;
+    assert!(rt; raises_some(&state.engines, 1, 1) && state.take_pong(1, 1));
+    assert!(rt; !state.take_pong(1, 1) && !state.take_pong(1, 2));
+    mark_on(&mut state.engines, 1, 7);
+    assert!(rt; !raises_some(&state.engines, 1, 7));
+    assert!(rt; state.take_leave(1)? && !state.take_leave(1)?);
+    state.disconnect(2);
+    assert!(rt;
+        connection_on(&state.connections, 2).is_none()
+            && connection_on(&state.connections, 1).is_some()
+    );
     Ok(())
 }
 
 #[test]
 fn an_engine_is_found(rt: HostRuntime) -> Result<(), Fail> {
     let mut state = joined(rt.alloc())?;
-    assert!(rt; engine_on(&state.engines, 1).is_some());
-    assert!(rt; engine_named(&state.engines, b"e0").is_some());
-    assert!(rt; engine_named(&state.engines, b"e1").is_none());
-    assert!(rt; conn_of(&state.engines, 0) == Some(1));
+    assert!(rt;
+        engine_on(&state.engines, 1).is_some()
+            && engine_named(&state.engines, b"e0").is_some()
+            && engine_named(&state.engines, b"e1").is_none()
+            && conn_of(&state.engines, 0) == Some(1)
+    );
     end_engine(&mut state.engines, 0);
     assert!(rt; engine_on(&state.engines, 1).is_none());
-    Ok(())
-}
-
-#[test]
-fn an_echo_raises_a_mark_once(rt: HostRuntime) -> Result<(), Fail> {
-    let mut state = joined(rt.alloc())?;
-    state.beat()?;
-    assert!(rt; raises_some(&state.engines, 1, 1));
-    assert!(rt; state.take_pong(1, 1));
-    assert!(rt; !state.take_pong(1, 1));
-    assert!(rt; !state.take_pong(1, 2));
-    mark_on(&mut state.engines, 1, 7);
-    assert!(rt; !raises_some(&state.engines, 1, 7));
-    Ok(())
-}
-
-#[test]
-fn an_engine_leaves_once(rt: HostRuntime) -> Result<(), Fail> {
-    let mut state = joined(rt.alloc())?;
-    assert!(rt; state.take_leave(1)?);
-    assert!(rt; !state.take_leave(1)?);
-    Ok(())
-}
-
-#[test]
-fn the_engine_used_last_stands_last(rt: HostRuntime) -> Result<(), Fail> {
     let mut by_use = Vec::new(rt.alloc());
-    use_engine(&mut by_use, 0)?;
-    use_engine(&mut by_use, 1)?;
-    use_engine(&mut by_use, 0)?;
+    for engine in [0, 1, 0] {
+        use_engine(&mut by_use, engine)?;
+    }
     assert!(rt; by_use.as_slice() == [1, 0].as_slice());
     Ok(())
 }
 
 #[test]
-fn a_request_is_accepted_once(rt: HostRuntime) -> Result<(), Fail> {
+fn requests_over_one_task(rt: HostRuntime) -> Result<(), Fail> {
     let alloc = rt.alloc();
     let state = accepted(alloc)?;
     let same = state.acceptance(false, &submission(alloc, "a")?, &message(alloc, b"i")?);
-    assert!(rt; same == Acceptance::Again { repeat: true });
     let other = state.acceptance(true, &submission(alloc, "a")?, &message(alloc, b"h")?);
-    assert!(rt; other == Acceptance::Again { repeat: false });
     let reserved = state.acceptance(
         false,
         &submission(alloc, "resubmit:1")?,
         &message(alloc, b"h")?,
     );
-    assert!(rt; reserved == Acceptance::Reserved);
-    Ok(())
-}
-
-#[test]
-fn a_task_may_wait_for_known_ones(rt: HostRuntime) -> Result<(), Fail> {
-    let alloc = rt.alloc();
-    let state = accepted(alloc)?;
+    assert!(rt;
+        same == Acceptance::Again { repeat: true }
+            && other == Acceptance::Again { repeat: false }
+            && reserved == Acceptance::Reserved
+    );
+    let a = on(alloc, &["a"])?;
     let b = Text::new(alloc, "b")?;
     let none = on(alloc, &[])?;
-    assert!(rt; is_known(&state.tasks, &Text::new(alloc, "a")?));
-    assert!(rt; !is_known(&state.tasks, &b));
-    assert!(rt; !is_invalid(&state.tasks, &b, &on(alloc, &["a"])?, &none));
-    assert!(rt; is_invalid(&state.tasks, &b, &none, &on(alloc, &["b"])?));
-    assert!(rt; is_invalid(&state.tasks, &b, &on(alloc, &["a", "c"])?, &none));
+    assert!(rt; is_known(&state.tasks, &Text::new(alloc, "a")?) && !is_known(&state.tasks, &b));
+    assert!(rt;
+        !is_invalid(&state.tasks, &b, &a, &none)
+            && is_invalid(&state.tasks, &b, &none, &on(alloc, &["b"])?)
+            && is_invalid(&state.tasks, &b, &on(alloc, &["a", "c"])?, &none)
+    );
     Ok(())
 }
 
 #[test]
-fn targets_are_live_engines(rt: HostRuntime) -> Result<(), Fail> {
+fn attempts(rt: HostRuntime) -> Result<(), Fail> {
     let alloc = rt.alloc();
-    let state = joined(alloc)?;
-    let listed = on(alloc, &["e1", "e0"])?.ids;
-    let targets = targets_of(alloc, &state.engines, listed.as_slice())?;
-    assert!(rt; targets.as_slice() == [0].as_slice());
-    Ok(())
-}
-
-#[test]
-fn an_attempt_runs_and_ends(rt: HostRuntime) -> Result<(), Fail> {
-    let mut attempts = Attempts::new(rt.alloc());
-    assert!(rt; is_never(attempts.last));
+    let mut attempts = Attempts::new(alloc);
+    let header = Text::new(alloc, "r")?;
+    assert!(rt; is_never(attempts.last) && one_more(41)? == 42);
     attempts.hand(3);
-    assert!(rt; runs(attempts.last) && runs_at(3, attempts.last) && !runs_at(4, attempts.last));
     attempts.end(4)?;
-    assert!(rt; runs(attempts.last) && attempts.spent == 0);
+    assert!(rt;
+        runs(attempts.last)
+            && runs_at(3, attempts.last)
+            && !runs_at(4, attempts.last)
+            && attempts.spent == 0
+    );
     attempts.end(3)?;
     assert!(rt; !runs(attempts.last) && attempts.spent == 1 && engine_of(attempts.last) == Some(3));
-    Ok(())
-}
-
-#[test]
-fn a_declined_attempt_is_not_spent(rt: HostRuntime) -> Result<(), Fail> {
-    let alloc = rt.alloc();
-    let mut attempts = Attempts::new(alloc);
-    let header = Text::new(alloc, "r")?;
-    attempts.hand(3);
-    attempts.take_reply(&header, Ending::Declines)?;
-    assert!(rt; attempts.spent == 0 && attempts.excluded.as_slice() == [3].as_slice());
-    attempts.hand(4);
-    attempts.lose()?;
-    assert!(rt; attempts.spent == 1);
-    Ok(())
-}
-
-#[test]
-fn a_header_is_heard_once(rt: HostRuntime) -> Result<(), Fail> {
-    let alloc = rt.alloc();
-    let mut attempts = Attempts::new(alloc);
-    let header = Text::new(alloc, "r")?;
     attempts.hand(3);
     assert!(rt; !attempts.has_heard(&header));
-    attempts.take_reply(&header, Ending::Badly)?;
+    attempts.take_reply(&header, Ending::Declines)?;
+    assert!(rt; attempts.spent == 1 && attempts.excluded.as_slice() == [3].as_slice());
     attempts.hand(3);
-    assert!(rt; attempts.has_heard(&header) && attempts.spent == 1);
-    Ok(())
-}
-
-#[test]
-fn counts_rise_by_one(rt: HostRuntime) -> Result<(), Fail> {
-    assert!(rt; one_more(41)? == 42);
-    Ok(())
-}
-
-#[test]
-fn a_reply_counts_once(rt: HostRuntime) -> Result<(), Fail> {
-    let alloc = rt.alloc();
-    let (mut state, counts) = replied(alloc, false)?;
-    assert!(rt; counts);
-    let a = Text::new(alloc, "a")?;
-    let again = state.take_reply(
-        1,
-        &a,
-        &Text::new(alloc, "s")?,
-        true,
-        false,
-        &message(alloc, b"s")?,
-    )?;
-    assert!(rt; !again);
+    assert!(rt; attempts.has_heard(&header));
+    attempts.take_reply(&header, Ending::Badly)?;
+    assert!(rt; attempts.spent == 2);
+    attempts.hand(4);
+    attempts.lose()?;
+    assert!(rt; attempts.spent == 3);
     Ok(())
 }
 
@@ -310,6 +217,8 @@ fn a_reply_counts_once(rt: HostRuntime) -> Result<(), Fail> {
 fn a_lost_engine_ends_its_attempt(rt: HostRuntime) -> Result<(), Fail> {
     let alloc = rt.alloc();
     let mut state = handed(alloc)?;
+    let listed = on(alloc, &["a"])?.ids;
+    assert!(rt; !state.take_purge(false, &listed)?);
     state.end_engine_on(1)?;
     let found = state.tasks.find(&Text::new(alloc, "a")?);
     assert!(rt; found.is_some_and(|task| task.attempts().spent == 1 && !task.row().running));
@@ -317,42 +226,31 @@ fn a_lost_engine_ends_its_attempt(rt: HostRuntime) -> Result<(), Fail> {
 }
 
 #[test]
-fn a_settled_task_has_its_reply(rt: HostRuntime) -> Result<(), Fail> {
+fn a_task_is_settled_once(rt: HostRuntime) -> Result<(), Fail> {
     let alloc = rt.alloc();
-    let state = settled(alloc)?;
+    let mut state = handed(alloc)?;
+    let a = Text::new(alloc, "a")?;
+    assert!(rt; reply(alloc, &mut state, "r")? && !reply(alloc, &mut state, "s")?);
+    let settle = Entry::Settle {
+        id: a.clone()?,
+        verdict: Verdict::Completed,
+        cause: Cause::Reply,
+    };
+    let _ = take(&mut state, &settle)?;
     assert!(rt; state.tasks.len() == 1 && state.tasks.unsettled().is_empty());
-    let found = state.tasks.find(&Text::new(alloc, "a")?);
+    let found = state.tasks.find(&a);
     assert!(rt; found.is_some_and(|task| task.settled().is_some() && task.reply().is_some()));
-    Ok(())
-}
-
-#[test]
-fn a_purge_takes_settled_tasks_alone(rt: HostRuntime) -> Result<(), Fail> {
-    let alloc = rt.alloc();
     let listed = on(alloc, &["a"])?.ids;
-    let mut running = handed(alloc)?;
-    assert!(rt; !running.take_purge(false, &listed)?);
-    let mut done = settled(alloc)?;
-    assert!(rt; done.take_purge(false, &listed)?);
-    assert!(rt; !done.take_purge(false, &listed)?);
-    Ok(())
-}
-
-#[test]
-fn a_settled_task_is_submitted_again(rt: HostRuntime) -> Result<(), Fail> {
-    let alloc = rt.alloc();
-    let listed = on(alloc, &["a"])?.ids;
-    let mut state = settled(alloc)?;
     assert!(rt; state.take_resubmit(9, &listed)?);
     let copy = state.tasks.find(&Text::new(alloc, "resubmit:2")?);
     assert!(rt; copy.is_some_and(|task| task.request().accepted_at == 9));
+    assert!(rt; state.take_purge(false, &listed)? && !state.take_purge(false, &listed)?);
     Ok(())
 }
 
 #[test]
-fn entries_are_kept_or_not(rt: HostRuntime) -> Result<(), Fail> {
-    let alloc = rt.alloc();
-    let mut state = State::new(alloc);
+fn an_open_is_kept(rt: HostRuntime) -> Result<(), Fail> {
+    let mut state = State::new(rt.alloc());
     let open = Entry::Input(Input::Open {
         moment: 7,
         scheme: Scheme::Lru,

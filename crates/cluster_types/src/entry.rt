@@ -1,20 +1,18 @@
 //! Entries of a history.
 
 use crate::config::{Channel, Scheme};
-use crate::copying::TryCopy;
-use crate::message::Message;
 use crate::octets::Octets;
 use crate::sequence::Sequence;
+use crate::shared_message::SharedMessage;
 use crate::text::Text;
 use crate::verdict::{Cause, Verdict};
-use std::alloc::AllocError;
 
 /// A list of entries, in the order in which they came.
 pub type Entries = Sequence<Entry>;
 
 /// What comes from outside. Moments are milliseconds since 1970-01-01T00:00:00Z, from 0 to 253,402,300,799,999.
 /// A word is what random choices draw from.
-#[derive(Debug, Drop)]
+#[derive(Clone, Debug, Drop)]
 pub enum Input {
     /// The controller opens its database.
     Open {
@@ -42,7 +40,7 @@ pub enum Input {
         conn: u32,
         moment: u64,
         word: u64,
-        message: Message,
+        message: SharedMessage,
     },
     /// A round of heartbeats is sent.
     Beat {
@@ -57,7 +55,7 @@ pub enum Input {
 }
 
 /// An entry of a history: an input or a decision.
-#[derive(Debug, Drop)]
+#[derive(Clone, Debug, Drop)]
 pub enum Entry {
     Input(Input),
     /// A task is handed out to an engine.
@@ -75,77 +73,4 @@ pub enum Entry {
     Lose {
         engine: u32,
     },
-}
-
-impl TryCopy for Input {
-    fn copy(&self) -> Result<Input, AllocError> {
-        Ok(match self {
-            Input::Open {
-                moment,
-                scheme,
-                hwm,
-                misses,
-            } => Input::Open {
-                moment: *moment,
-                scheme: *scheme,
-                hwm: *hwm,
-                misses: *misses,
-            },
-            Input::Up {
-                conn,
-                channel,
-                moment,
-                word,
-                identity,
-            } => Input::Up {
-                conn: *conn,
-                channel: *channel,
-                moment: *moment,
-                word: *word,
-                identity: identity.copy()?,
-            },
-            Input::Down { conn, moment, word } => Input::Down {
-                conn: *conn,
-                moment: *moment,
-                word: *word,
-            },
-            Input::In {
-                conn,
-                moment,
-                word,
-                message,
-            } => Input::In {
-                conn: *conn,
-                moment: *moment,
-                word: *word,
-                message: message.copy()?,
-            },
-            Input::Beat { moment, word } => Input::Beat {
-                moment: *moment,
-                word: *word,
-            },
-            Input::Time { moment, word } => Input::Time {
-                moment: *moment,
-                word: *word,
-            },
-        })
-    }
-}
-
-impl TryCopy for Entry {
-    fn copy(&self) -> Result<Entry, AllocError> {
-        Ok(match self {
-            Entry::Input(input) => Entry::Input(input.copy()?),
-            Entry::Hand { id, engine } => Entry::Hand {
-                id: id.copy()?,
-                engine: *engine,
-            },
-            Entry::Settle { id, verdict, cause } => Entry::Settle {
-                id: id.copy()?,
-                verdict: *verdict,
-                cause: *cause,
-            },
-            Entry::Lose { engine } => Entry::Lose { engine: *engine },
-        })
-    }
 }

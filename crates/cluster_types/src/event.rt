@@ -1,12 +1,10 @@
 //! What messages mean.
 
-use crate::copying::TryCopy;
 use crate::message::{Engines, Ids};
 use crate::text::Text;
-use std::alloc::AllocError;
 
 /// A dependency on other tasks. An empty list of ids is no dependency.
-#[derive(Debug, Drop)]
+#[derive(Clone, Debug, Drop)]
 pub struct Dep {
     /// The ids as listed, at most 4,096.
     pub ids: Ids,
@@ -19,7 +17,7 @@ pub struct Dep {
 }
 
 /// A request for a task, as its header and metadata say it.
-#[derive(Debug, Drop)]
+#[derive(Clone, Debug, Drop)]
 pub struct Submission {
     pub id: Text,
     pub msg_type: Text,
@@ -38,7 +36,7 @@ pub struct Submission {
 }
 
 /// A question about the cluster.
-#[derive(Debug, Drop)]
+#[derive(Clone, Debug, Drop)]
 pub enum Query {
     Connection,
     /// The queues of the listed engines; an empty list asks for all.
@@ -53,7 +51,7 @@ pub enum Query {
 }
 
 /// What a message asks for.
-#[derive(Debug, Drop)]
+#[derive(Clone, Debug, Drop)]
 pub enum Event {
     Submit(Submission),
     Direct(Submission),
@@ -92,82 +90,4 @@ pub enum Reason {
     NoTarget,
     /// A reply whose parts don't read.
     BadReply,
-}
-
-impl TryCopy for Dep {
-    fn copy(&self) -> Result<Dep, AllocError> {
-        Ok(Dep {
-            ids: self.ids.copy()?,
-            all: self.all,
-            success: self.success,
-            failure: self.failure,
-        })
-    }
-}
-
-impl TryCopy for Submission {
-    fn copy(&self) -> Result<Submission, AllocError> {
-        Ok(Submission {
-            id: self.id.copy()?,
-            msg_type: self.msg_type.copy()?,
-            session: self.session.copy()?,
-            username: self.username.copy()?,
-            after: self.after.copy()?,
-            follow: self.follow.copy()?,
-            targets: self.targets.copy()?,
-            timeout: self.timeout,
-            retries: self.retries,
-        })
-    }
-}
-
-impl TryCopy for Query {
-    fn copy(&self) -> Result<Query, AllocError> {
-        Ok(match self {
-            Query::Connection => Query::Connection,
-            Query::Queue { targets, verbose } => Query::Queue {
-                targets: targets.copy()?,
-                verbose: *verbose,
-            },
-            Query::Result { ids, status_only } => Query::Result {
-                ids: ids.copy()?,
-                status_only: *status_only,
-            },
-            Query::History => Query::History,
-            Query::Shutdown => Query::Shutdown,
-            Query::Unknown => Query::Unknown,
-            Query::Bad { field } => Query::Bad {
-                field: field.copy()?,
-            },
-        })
-    }
-}
-
-impl TryCopy for Event {
-    fn copy(&self) -> Result<Event, AllocError> {
-        Ok(match self {
-            Event::Submit(submission) => Event::Submit(submission.copy()?),
-            Event::Direct(submission) => Event::Direct(submission.copy()?),
-            Event::Reply {
-                task,
-                header_id,
-                ok,
-                declined,
-            } => Event::Reply {
-                task: task.copy()?,
-                header_id: header_id.copy()?,
-                ok: *ok,
-                declined: *declined,
-            },
-            Event::Join { uuid } => Event::Join { uuid: uuid.copy()? },
-            Event::Leave => Event::Leave,
-            Event::Pong { beat } => Event::Pong { beat: *beat },
-            Event::Purge { all, ids } => Event::Purge {
-                all: *all,
-                ids: ids.copy()?,
-            },
-            Event::Resubmit { ids } => Event::Resubmit { ids: ids.copy()? },
-            Event::Ask(query) => Event::Ask(query.copy()?),
-        })
-    }
 }

@@ -8,11 +8,14 @@ pub mod config;
 pub mod copying;
 pub mod entry;
 pub mod event;
+pub mod limits;
 pub mod message;
 pub mod octets;
 pub mod out;
 pub mod record;
-pub mod reserved;
 pub mod sequence;
+pub mod shared_message;
+#[cfg(test)]
+mod tests;
 pub mod text;
 pub mod verdict;

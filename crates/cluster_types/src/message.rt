@@ -1,10 +1,8 @@
 //! Messages of the Jupyter messaging protocol.
 
-use crate::copying::TryCopy;
 use crate::octets::Octets;
 use crate::sequence::Sequence;
 use crate::text::Text;
-use std::alloc::AllocError;
 
 /// A list of texts that name tasks.
 pub type Ids = Sequence<Text>;
@@ -18,8 +16,9 @@ pub type Engines = Sequence<u32>;
 /// The words of a command line.
 pub type WordList = Sequence<Text>;
 
-/// A signed message, without its identity frames, delimiter and signature (Jupyter messaging 5.3, "The wire protocol").
-#[derive(Debug, Drop)]
+/// What a signed message says, without its delimiter and signature (Jupyter messaging 5.3, "The wire protocol"): contracts
+/// see a `SharedMessage` so.
+#[derive(Clone, Debug, Drop)]
 pub struct Message {
     /// The first identity frame that has 1 to 255 octets, else empty.
     pub target: Octets,
@@ -33,17 +32,4 @@ pub struct Message {
     pub content: Octets,
     /// The raw buffers behind the content.
     pub buffers: Buffers,
-}
-
-impl TryCopy for Message {
-    fn copy(&self) -> Result<Message, AllocError> {
-        Ok(Message {
-            target: self.target.copy()?,
-            header: self.header.copy()?,
-            parent: self.parent.copy()?,
-            metadata: self.metadata.copy()?,
-            content: self.content.copy()?,
-            buffers: self.buffers.copy()?,
-        })
-    }
 }

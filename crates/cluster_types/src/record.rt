@@ -5,14 +5,12 @@ ghost use Rattle.std.specs.Option.{option_copied};
 ghost use Rattle.cluster_types.specs.declared.record.Record.{Record};
 ghost use Rattle.cluster_types.specs.Records.{AreRecords};
 
-use crate::copying::TryCopy;
-use crate::message::Message;
+use crate::shared_message::SharedMessage;
 use crate::text::Text;
 use crate::verdict::{Cause, Verdict};
-use std::alloc::AllocError;
 
 /// What is known of a task.
-#[derive(Debug, Drop)]
+#[derive(Clone, Debug, Drop)]
 pub struct Record {
     pub id: Text,
     /// The tasks are numbered from 1 in the order of their acceptance.
@@ -26,26 +24,7 @@ pub struct Record {
     pub settled: Option<(Verdict, Cause)>,
     pub purged: bool,
     /// The outcome message of a task that is settled and not purged.
-    pub outcome: Option<Message>,
-}
-
-impl TryCopy for Record {
-    fn copy(&self) -> Result<Record, AllocError> {
-        let outcome = match &self.outcome {
-            Some(message) => Some(message.copy()?),
-            None => None,
-        };
-        Ok(Record {
-            id: self.id.copy()?,
-            number: self.number,
-            direct: self.direct,
-            engine: self.engine,
-            running: self.running,
-            settled: self.settled,
-            purged: self.purged,
-            outcome,
-        })
-    }
+    pub outcome: Option<SharedMessage>,
 }
 
 /// The records of all known tasks, in order of number. None of its calls takes memory.

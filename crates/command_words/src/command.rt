@@ -7,11 +7,11 @@ ghost use Rattle.command_words.specs.Reading.{reading, replay_of, replay_options
 use crate::item::{Item, items_of};
 use crate::values::{needed_key, optional_number, optional_scheme};
 use cluster_types::config::Scheme;
-use cluster_types::copying::TryCopy;
 use cluster_types::message::WordList;
 use cluster_types::octets::Octets;
 use cluster_types::text::Text;
 use std::alloc::{AllocError, Global};
+use thiserror::Error;
 
 /// How a tape is to be served.
 #[derive(Debug, Drop)]
@@ -34,10 +34,12 @@ pub enum Command {
 }
 
 /// Why there is no command.
-#[derive(Clone, Copy, Debug, PartialEq, Eq)]
+#[derive(Clone, Copy, Debug, PartialEq, Eq, Error)]
 pub enum CommandError {
     /// The words have no reading.
+    #[error("the command line has no reading")]
     Usage,
+    #[error("out of memory")]
     OutOfMemory,
 }
 
@@ -59,7 +61,7 @@ fn places(alloc: Global, items: &[Item]) -> Result<WordList, AllocError>
     let mut list = WordList::new(alloc);
     for item in items {
         if let Item::Place(word) = item {
-            list.push(word.copy()?)?;
+            list.push(word.clone()?)?;
         }
     }
     Ok(list)
@@ -82,18 +84,22 @@ fn values(alloc: Global, name: &[u8], items: &[Item]) -> Result<WordList, AllocE
     let mut list = WordList::new(alloc);
     for item in items {
         if let Some(value) = value_under(name, item) {
-            list.push(value.copy()?)?;
+            list.push(value.clone()?)?;
         }
     }
     Ok(list)
 }
 
+/// The name of the option of the key.
 const KEY: &[u8] = b"--key";
 
+/// The name of the option of the scheme.
 const SCHEME: &[u8] = b"--scheme";
 
+/// The name of the option of the greatest load.
 const HWM: &[u8] = b"--hwm";
 
+/// The name of the option of the missed beats.
 const MISSES: &[u8] = b"--misses";
 
 /// Whether an item is no option of another name than those of `replay`.
@@ -155,14 +161,12 @@ fn replay_of(alloc: Global, items: &[Item]) -> Result<Option<Command>, AllocErro
     }
     let places = places(alloc, items)?;
     match places.as_slice() {
-        [] => {
-            let command = replay_options(alloc, items)?;
-            Ok(command)
-        }
+        [] => replay_options(alloc, items),
         _ => Ok(None),
     }
 }
 
+/// Whether a word is the command `replay`.
 #[tactic(auto, unfolding(crate::specs::Reading::replay_word))]
 fn is_replay(word: &Text) -> bool
     ensures { result ≡ bytes_eq word.now replay_word }
@@ -176,10 +180,7 @@ fn reading(alloc: Global, words: &[Text]) -> Result<Option<Command>, AllocError>
 {
     match words {
         [command, behind @ ..] if is_replay(command) => match items_of(alloc, behind)? {
-            Some(items) => {
-                let command = replay_of(alloc, items.as_slice())?;
-                Ok(command)
-            }
+            Some(items) => replay_of(alloc, items.as_slice()),
             None => Ok(None),
         },
         _ => Ok(None),

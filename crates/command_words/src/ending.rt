@@ -60,6 +60,7 @@ impl Line {
     }
 }
 
+/// A text as a line.
 fn plain(text: &str) -> Line
     requires { length text.now ≤ 128 }
     ensures { result ≡ text.now }

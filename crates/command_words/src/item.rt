@@ -4,7 +4,6 @@ ghost use Rattle.std.specs.Prelude.{◌≡◌, ◌==◌, not, true, false, nat_e
 ghost use Rattle.std.specs.List.{starts_with, list_any, before_first, after_first};
 ghost use Rattle.command_words.specs.Items.{dash, is_dashed, is_equals, has_equals, is_name, joined, alone, items_of};
 
-use cluster_types::copying::TryCopy;
 use cluster_types::sequence::Sequence;
 use cluster_types::text::Text;
 use std::alloc::{AllocError, Global};
@@ -21,6 +20,7 @@ pub enum Item {
 /// Items in order.
 pub type Items = Sequence<Item>;
 
+/// Whether a word begins with a dash.
 #[tactic(auto, unfolding(crate::specs::Items::dash))]
 fn is_dashed(word: &Text) -> bool
     ensures { result ≡ is_dashed word.now }
@@ -28,6 +28,7 @@ fn is_dashed(word: &Text) -> bool
     word.as_slice().starts_with(b"-")
 }
 
+/// Whether an equals sign stands in a word.
 fn has_equals(word: &Text) -> bool
     ensures { result ≡ has_equals word.now }
 {
@@ -61,10 +62,9 @@ fn alone(alloc: Global, word: &Text) -> Result<Item, AllocError>
     ensures { IfOk result (λ i. i ≡ alone word.now) }
 {
     if is_dashed(word) {
-        let item = joined(alloc, word)?;
-        return Ok(item);
+        return joined(alloc, word);
     }
-    Ok(Item::Place(word.copy()?))
+    Ok(Item::Place(word.clone()?))
 }
 
 /// The option of a name and the word behind it.
@@ -72,8 +72,8 @@ fn parted(name: &Text, value: &Text) -> Result<Item, AllocError>
     ensures { IfOk result (λ i. i ≡ Item.Choice name.now value.now) }
 {
     Ok(Item::Choice {
-        name: name.copy()?,
-        value: value.copy()?,
+        name: name.clone()?,
+        value: value.clone()?,
     })
 }
 

@@ -34,6 +34,7 @@ pub fn needed_key(values: &[Text]) -> Option<&[u8]>
     }
 }
 
+/// The scheme that a value names.
 #[tactic(auto, unfolding(crate::specs::Values::lru_word, crate::specs::Values::leastload_word, crate::specs::Values::plainrandom_word, crate::specs::Values::twobin_word))]
 fn scheme_from(value: &[u8]) -> Option<Scheme>
     ensures { result ≡ scheme_from value.now }
@@ -62,6 +63,7 @@ pub fn optional_scheme(values: &[Text]) -> Option<Scheme>
     }
 }
 
+/// Whether each octet is a decimal digit.
 fn are_digits(text: &[u8]) -> bool
     ensures { result ≡ list_all is_ascii_digit text.now }
 {

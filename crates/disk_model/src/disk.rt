@@ -1,10 +1,14 @@
 //! The disk as a trait.
 
 ghost use Rattle.std.specs.Prelude.{◌≡◌, ◌≤◌, ◌<◌, ◌+◌, ◌^◌, List, ℕ, length, take, drop, IfOk, OnOk, IsErr};
-ghost use Rattle.disk_model.specs.Crashes.{Written, Torn, Shortened, Follows, NoMore, Only, Elapses, Rose};
+ghost use Rattle.cluster_types.specs.Causes.{Rose};
+ghost use Rattle.disk_model.specs.Crashes.{Written, Torn, Shortened, Follows, NoMore, Only, Elapses};
+
+use thiserror::Error;
 
 /// A call of the disk failed. What it was to do may be done, in part or not at all.
-#[derive(Clone, Copy, Debug, PartialEq, Eq)]
+#[derive(Clone, Copy, Debug, PartialEq, Eq, Error)]
+#[error("a call of the disk failed")]
 pub struct Failed;
 
 /// A disk of octets.

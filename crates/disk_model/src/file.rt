@@ -1,7 +1,7 @@
 //! A disk over a file.
 
 ghost use Rattle.std.specs.Prelude.{◌≡◌, ◌≤◌, ◌+◌, ◌-◌, ◌^◌, ℕ, min, [], OnOk, OnErr, IsErr};
-ghost use Rattle.disk_model.specs.Crashes.{Rose};
+ghost use Rattle.cluster_types.specs.Causes.{Rose};
 
 use crate::disk::{Disk, Failed};
 use std::fs::{File, OpenFile};
@@ -69,31 +69,26 @@ impl Disk for FileDisk {
 
     fn size(&mut self) -> Result<u64, Failed> {
         let size = self.file.metadata().map(|data| data.len());
-        let size = self.answer(size)?;
-        Ok(size)
+        self.answer(size)
     }
 
     fn read(&mut self, at: u64, into: &mut [u8]) -> Result<(), Failed> {
         let answer = self.file.read_exact_at(into, at);
-        self.answer(answer)?;
-        Ok(())
+        self.answer(answer)
     }
 
     fn write_at(&mut self, at: u64, from: &[u8]) -> Result<(), Failed> {
         let answer = self.file.write_all_at(from, at);
-        self.answer(answer)?;
-        Ok(())
+        self.answer(answer)
     }
 
     fn cut(&mut self, size: u64) -> Result<(), Failed> {
         let answer = self.file.set_len(size);
-        self.answer(answer)?;
-        Ok(())
+        self.answer(answer)
     }
 
     fn sync(&mut self) -> Result<(), Failed> {
         let answer = self.file.sync_all();
-        self.answer(answer)?;
-        Ok(())
+        self.answer(answer)
     }
 }

@@ -41,11 +41,7 @@ impl FuseDisk {
     pub fn into_disk(self) -> MemDisk
         ensures { result ≡ self.disk }
     {
-        let FuseDisk {
-            disk,
-            left: _,
-            burnt: _,
-        } = self;
+        let FuseDisk { disk, .. } = self;
         disk
     }
 
@@ -88,14 +84,12 @@ impl Disk for FuseDisk {
 
     fn size(&mut self) -> Result<u64, Failed> {
         self.counts()?;
-        let size = self.disk.size()?;
-        Ok(size)
+        self.disk.size()
     }
 
     fn read(&mut self, at: u64, into: &mut [u8]) -> Result<(), Failed> {
         self.counts()?;
-        self.disk.read(at, into)?;
-        Ok(())
+        self.disk.read(at, into)
     }
 
     fn write_at(&mut self, at: u64, from: &[u8]) -> Result<(), Failed> {
@@ -106,13 +100,11 @@ impl Disk for FuseDisk {
 
     fn cut(&mut self, size: u64) -> Result<(), Failed> {
         self.counts()?;
-        self.disk.cut(size)?;
-        Ok(())
+        self.disk.cut(size)
     }
 
     fn sync(&mut self) -> Result<(), Failed> {
         self.counts()?;
-        self.disk.sync()?;
-        Ok(())
+        self.disk.sync()
     }
 }

@@ -65,6 +65,7 @@ impl MemDisk {
         self.bytes.as_slice()
     }
 
+    /// Writes and keeps the call, or changes nothing.
     fn try_write(&mut self, at: u64, from: &[u8]) -> Result<(), AllocError>
         requires { at ≤ length (content_of self.old.first self.old.calls) }
         ensures ok { OnOk result (self.new ≡ record self.old { calls = Call.Write at from.now ∷ self.old.calls }) }
@@ -78,6 +79,7 @@ impl MemDisk {
         Ok(())
     }
 
+    /// Cuts the disk and keeps the call, or changes nothing.
     fn try_cut(&mut self, size: u64) -> Result<(), AllocError>
         requires { size ≤ length (content_of self.old.first self.old.calls) }
         ensures ok { OnOk result (self.new ≡ record self.old { calls = Call.Cut size ∷ self.old.calls }) }
@@ -88,6 +90,7 @@ impl MemDisk {
         Ok(())
     }
 
+    /// Keeps the call of a sync, or changes nothing.
     fn try_sync(&mut self) -> Result<(), AllocError>
         ensures ok { OnOk result (self.new ≡ record self.old { calls = Call.Sync ∷ self.old.calls }) }
         ensures err { OnErr result (self.new ≡ self.old) }

@@ -25,16 +25,15 @@ fn five_calls(alloc: Global, number: u64) -> Result<([bool; 5], MemDisk), AllocE
 
 #[test]
 fn a_fuse_fails_once(rt: HostRuntime) -> Result<(), Fail> {
-    let (failed, disk) = five_calls(rt.alloc(), 1)?;
-    assert_eq!(rt; failed, [true, false, false, false, false]);
-    assert!(rt; disk.content() == b"".as_slice());
-    let (failed, disk) = five_calls(rt.alloc(), 5)?;
-    assert_eq!(rt; failed, [false, false, false, false, true]);
-    assert!(rt; disk.content() == b"xycd".as_slice());
-    let (failed, _) = five_calls(rt.alloc(), 2)?;
-    assert_eq!(rt; failed, [false, true, false, false, false]);
-    let (failed, _) = five_calls(rt.alloc(), 6)?;
-    assert_eq!(rt; failed, [false, false, false, false, false]);
+    for (number, calls, content) in [
+        (1, [true, false, false, false, false], b"".as_slice()),
+        (2, [false, true, false, false, false], b"".as_slice()),
+        (5, [false, false, false, false, true], b"xycd".as_slice()),
+        (6, [false, false, false, false, false], b"".as_slice()),
+    ] {
+        let (failed, disk) = five_calls(rt.alloc(), number)?;
+        assert!(rt; failed == calls && disk.content() == content, "at {number}");
+    }
     Ok(())
 }
 

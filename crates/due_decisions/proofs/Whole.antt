@@ -20,7 +20,7 @@ use Rattle.cluster_state.specs.Seen.{Seen}
 use Rattle.cluster_state.specs.Plain.{look, tasks_of, plain_of}
 use Rattle.cluster_state.proofs.Exact.{exact}
 use Rattle.due_decisions.specs.declared.rooms.Room.{Room}
-use Rattle.due_decisions.specs.Table.{settled_in, alone, final_at, settle_of, settle_in, failing_in, fail_of, fail_in, direct_of, direct_in, loads, load_in, has_room, rooms_in, fits, rooms_for, picked, hand_of, hand_in, due_in}
+use Rattle.due_decisions.specs.Table.{settled_in, alone, final_at, settle_of, settle_in, failing_in, fail_of, fail_in, direct_of, direct_in, loads, load_in, leaves_room, rooms_in, fits, rooms_for, picked, hand_of, hand_in, due_in}
 use Rattle.due_decisions.proofs.Lists.{filter_alike, map_alike, map_map, filter_map, filter_filter}
 
 -- LISTS OF WHAT IS SEEN
@@ -105,8 +105,8 @@ rooms_same : (f : Facts) → Told f → rooms_in (tasks_of f) f.engines.live f.h
 unfolding room_of
 rooms_same f is =
     let ns = filter (λ n. lists_number n f.engines.live) f.by_use in
-    ap (filter (λ (r : Room). has_room f.hwm r.load)) (map_alike (λ n. record { engine = n; load = load_in (tasks_of f) n }) (room_of f) (λ n. ap (λ l. let r : Room = record { engine = n; load = l } in r) (load_same f is n)) ns)
-    ∙ filter_map (λ (r : Room). has_room f.hwm r.load) (room_of f) ns
+    ap (filter (λ (r : Room). leaves_room f.hwm r.load)) (map_alike (λ n. record { engine = n; load = load_in (tasks_of f) n }) (room_of f) (λ n. ap (λ l. let r : Room = record { engine = n; load = l } in r) (load_same f is n)) ns)
+    ∙ filter_map (λ (r : Room). leaves_room f.hwm r.load) (room_of f) ns
     ∙ ap (map (room_of f)) (filter_filter (λ n. room_left f n) (λ n. lists_number n f.engines.live) f.by_use)
 
 fits_with : Facts → Id → ℕ → (Id → Option Settled) → Bool

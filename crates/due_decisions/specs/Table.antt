@@ -77,13 +77,14 @@ loads n t = not (is_some t.settled) && (runs_at n t.attempts.last && not (is_dir
 abbrev pub load_in : List Seen → ℕ → ℕ
 load_in ts n = count_by (loads n) ts
 
-abbrev pub has_room : ℕ → ℕ → Bool
-has_room hwm load = hwm == 0 || nat_lt load hwm
+-- whether a load is below the bound `hwm`; 0 is no bound
+abbrev pub leaves_room : ℕ → ℕ → Bool
+leaves_room hwm load = hwm == 0 || nat_lt load hwm
 
 -- the live engines with room, in ascending order of last use
 abbrev pub rooms_in : List Seen → List Engine → ℕ → List ℕ → List Room
 rooms_in ts live hwm by_use =
-    filter (λ r. has_room hwm r.load) (map (λ n. record { engine = n; load = load_in ts n }) (filter (λ n. lists_number n live) by_use))
+    filter (λ r. leaves_room hwm r.load) (map (λ n. record { engine = n; load = load_in ts n }) (filter (λ n. lists_number n live) by_use))
 
 -- one Submit more on the engines where it runs
 abbrev pub noted : Seen → Room → Room

@@ -55,12 +55,14 @@ fn is_other_kind(dep: &Dep, settled: Option<Settled>) -> bool
     settled.is_some() && !is_asked(dep, settled)
 }
 
+/// Whether an id finished in a kind that is asked for.
 fn is_asked_of(dep: &Dep, tasks: &Tasks, id: &Text) -> bool
     ensures { result ≡ asked dep.now (settled_in tasks.now id.now) }
 {
     is_asked(dep, settled_in(tasks, id))
 }
 
+/// Whether each listed id did so.
 fn all_asked(dep: &Dep, tasks: &Tasks) -> bool
     ensures { result ≡ list_all (λ i. asked dep.now (settled_in tasks.now i)) dep.now.ids }
 {
@@ -70,6 +72,7 @@ fn all_asked(dep: &Dep, tasks: &Tasks) -> bool
         .all(|id| is_asked_of(dep, tasks, id))
 }
 
+/// Whether a listed id did so.
 fn any_asked(dep: &Dep, tasks: &Tasks) -> bool
     ensures { result ≡ list_any (λ i. asked dep.now (settled_in tasks.now i)) dep.now.ids }
 {
@@ -102,12 +105,14 @@ fn settled_on(tasks: &Tasks, engine: u32, id: &Text) -> Option<Settled>
     }
 }
 
+/// Whether an id finished on an engine, in a kind that is asked for.
 fn is_asked_on(dep: &Dep, tasks: &Tasks, engine: u32, id: &Text) -> bool
     ensures { result ≡ asked dep.now (on_engine engine (settled_in tasks.now id.now)) }
 {
     is_asked(dep, settled_on(tasks, engine, id))
 }
 
+/// Whether each listed id did so.
 fn all_asked_on(dep: &Dep, tasks: &Tasks, engine: u32) -> bool
     ensures { result ≡ list_all (λ i. asked dep.now (on_engine engine (settled_in tasks.now i))) dep.now.ids }
 {
@@ -117,6 +122,7 @@ fn all_asked_on(dep: &Dep, tasks: &Tasks, engine: u32) -> bool
         .all(|id| is_asked_on(dep, tasks, engine, id))
 }
 
+/// Whether a listed id did so.
 fn any_asked_on(dep: &Dep, tasks: &Tasks, engine: u32) -> bool
     ensures { result ≡ list_any (λ i. asked dep.now (on_engine engine (settled_in tasks.now i))) dep.now.ids }
 {
@@ -139,12 +145,14 @@ pub fn is_met_on(dep: &Dep, tasks: &Tasks, engine: u32) -> bool
     }
 }
 
+/// Whether an id finished in a kind that isn't asked for.
 fn is_other_kind_of(dep: &Dep, tasks: &Tasks, id: &Text) -> bool
     ensures { result ≡ other_kind dep.now (settled_in tasks.now id.now) }
 {
     is_other_kind(dep, settled_in(tasks, id))
 }
 
+/// Whether each listed id did so.
 fn all_other_kind(dep: &Dep, tasks: &Tasks) -> bool
     ensures { result ≡ list_all (λ i. other_kind dep.now (settled_in tasks.now i)) dep.now.ids }
 {
@@ -154,6 +162,7 @@ fn all_other_kind(dep: &Dep, tasks: &Tasks) -> bool
         .all(|id| is_other_kind_of(dep, tasks, id))
 }
 
+/// Whether a listed id did so.
 fn any_other_kind(dep: &Dep, tasks: &Tasks) -> bool
     ensures { result ≡ list_any (λ i. other_kind dep.now (settled_in tasks.now i)) dep.now.ids }
 {
@@ -176,6 +185,7 @@ pub fn is_unreachable(dep: &Dep, tasks: &Tasks) -> bool
     }
 }
 
+/// Whether the two are one engine.
 fn is_same_engine(one: Option<u32>, other: Option<u32>) -> bool
     ensures { result ≡ same_engine one other }
 {
@@ -195,12 +205,14 @@ fn are_apart(one: Option<Settled>, other: Option<Settled>) -> bool
     }
 }
 
+/// Whether an id finished, and not on the engine of one that did.
 fn is_apart_from(tasks: &Tasks, one: Option<Settled>, id: &Text) -> bool
     ensures { result ≡ apart (option_map settled_as one) (settled_in tasks.now id.now) }
 {
     are_apart(one, settled_in(tasks, id))
 }
 
+/// Whether an id finished.
 fn is_finished(tasks: &Tasks, id: &Text) -> bool
     ensures { result ≡ is_some (settled_in tasks.now id.now) }
 {
@@ -214,6 +226,7 @@ fn first_finished<'a>(tasks: &Tasks, ids: &'a Ids) -> Option<&'a Text>
     ids.as_slice().iter().find(|id| is_finished(tasks, id))
 }
 
+/// Whether one of some ids finished, and not on the engine of one that did.
 fn any_apart(tasks: &Tasks, one: Option<Settled>, ids: &Ids) -> bool
     ensures { result ≡ list_any (λ i. apart (option_map settled_as one) (settled_in tasks.now i)) ids.now }
 {

@@ -15,6 +15,7 @@ use cluster_types::entry::Entry;
 use load_schemes::chooser::Chooser;
 use std::alloc::{AllocError, Global};
 
+/// The hand-out of a Submit, where one is due.
 fn hand_step(alloc: Global, state: &State, chooser: &Chooser) -> Result<Option<Entry>, AllocError>
     ensures { IfOk result (λ d. d ≡ hand_then (plain state.now)) }
 {
@@ -36,51 +37,43 @@ fn hand_step(alloc: Global, state: &State, chooser: &Chooser) -> Result<Option<E
     Ok(hand)
 }
 
+/// The hand-out of a direct request, or else what is due after it.
 fn direct_step(alloc: Global, state: &State, chooser: &Chooser) -> Result<Option<Entry>, AllocError>
     ensures { IfOk result (λ d. d ≡ direct_then (plain state.now)) }
 {
     match direct_due(&state.tasks)? {
         Some(hand) => Ok(Some(hand)),
-        None => {
-            let hand = hand_step(alloc, state, chooser)?;
-            Ok(hand)
-        }
+        None => hand_step(alloc, state, chooser),
     }
 }
 
+/// The settle of a task that fails without an attempt, or else what is due after it.
 fn fail_step(alloc: Global, state: &State, chooser: &Chooser) -> Result<Option<Entry>, AllocError>
     ensures { IfOk result (λ d. d ≡ fail_then (plain state.now)) }
 {
     match fail_due(&state.tasks, &state.engines, state.clock)? {
         Some(settle) => Ok(Some(settle)),
-        None => {
-            let hand = direct_step(alloc, state, chooser)?;
-            Ok(hand)
-        }
+        None => direct_step(alloc, state, chooser),
     }
 }
 
+/// The settle of a task whose attempts are over, or else what is due after it.
 fn settle_step(alloc: Global, state: &State, chooser: &Chooser) -> Result<Option<Entry>, AllocError>
     ensures { IfOk result (λ d. d ≡ settle_then (plain state.now)) }
 {
     match settle_due(&state.tasks)? {
         Some(settle) => Ok(Some(settle)),
-        None => {
-            let later = fail_step(alloc, state, chooser)?;
-            Ok(later)
-        }
+        None => fail_step(alloc, state, chooser),
     }
 }
 
+/// The loss of an engine, or else what is due after it.
 fn lose_step(alloc: Global, state: &State, chooser: &Chooser) -> Result<Option<Entry>, AllocError>
     ensures { IfOk result (λ d. d ≡ due_in (plain state.now)) }
 {
     match lose_due(&state.engines, state.misses, state.beats) {
         Some(loss) => Ok(Some(loss)),
-        None => {
-            let later = settle_step(alloc, state, chooser)?;
-            Ok(later)
-        }
+        None => settle_step(alloc, state, chooser),
     }
 }
 

@@ -24,6 +24,7 @@ pub fn rests(task: &Task) -> bool
     task.settled().is_none() && !runs(task.attempts().last)
 }
 
+/// Whether an engine is live.
 pub fn is_live(engines: &[Engine], engine: u32) -> bool
     ensures { result ≡ lists_number engine engines.now }
 {
@@ -37,18 +38,21 @@ pub fn is_excluded(attempts: &Attempts, engine: u32) -> bool
     attempts.excluded.iter().any(|n| *n == engine)
 }
 
+/// Whether a request lists targets.
 fn is_bound(request: &Request) -> bool
     ensures { result ≡ is_bound (request_as request.now) }
 {
     !is_empty(&request.listed)
 }
 
+/// Whether an engine is a listed target.
 fn is_listed_target(request: &Request, engine: u32) -> bool
     ensures { result ≡ list_any (λ m. m == engine) request.now.targets }
 {
     request.targets.as_slice().iter().any(|n| *n == engine)
 }
 
+/// Whether a request may run on an engine by its targets.
 pub fn is_target(request: &Request, engine: u32) -> bool
     ensures { result ≡ is_target engine (request_as request.now) }
 {
@@ -62,6 +66,7 @@ fn is_usable(engines: &[Engine], attempts: &Attempts, request: &Request, engine:
     is_live(engines, engine) && !is_excluded(attempts, engine) && is_target(request, engine)
 }
 
+/// Whether there is an engine, and a task may run on it.
 fn is_usable_on(
     engines: &[Engine],
     attempts: &Attempts,
@@ -83,12 +88,14 @@ fn is_lost(engines: &[Engine], attempts: &Attempts, engine: u32) -> bool
     !(is_live(engines, engine) && !is_excluded(attempts, engine))
 }
 
+/// Whether each target ended, or declined the task.
 fn all_lost(engines: &[Engine], attempts: &Attempts, targets: &[u32]) -> bool
     ensures { result ≡ list_all (λ n. not (lists_number n engines.now && not (excludes (among [] [] 0 (attempts_as attempts.now)) [] n))) targets.now }
 {
     targets.iter().all(|n| is_lost(engines, attempts, *n))
 }
 
+/// Whether targets are listed, and none is left.
 fn has_no_target(engines: &[Engine], attempts: &Attempts, request: &Request) -> bool
     ensures { result ≡ no_target (among [] engines.now 0 (attempts_as attempts.now)) [] (request_as request.now) }
 {
@@ -113,6 +120,7 @@ fn spoils(
     }
 }
 
+/// Whether an id finished so that the task can't run for it.
 fn spoils_for(
     tasks: &Tasks,
     engines: &[Engine],
@@ -125,6 +133,7 @@ fn spoils_for(
     spoils(engines, attempts, request, settled_in(tasks, id))
 }
 
+/// Whether an id that is followed did so.
 fn any_spoils(tasks: &Tasks, engines: &[Engine], attempts: &Attempts, request: &Request) -> bool
     ensures { result ≡ list_any (λ i. spoils (among [] engines.now 0 (attempts_as attempts.now)) [] (request_as request.now) (settled_in tasks.now i)) request.now.follow.ids }
 {
@@ -136,6 +145,7 @@ fn any_spoils(tasks: &Tasks, engines: &[Engine], attempts: &Attempts, request: &
         .any(|id| spoils_for(tasks, engines, attempts, request, id))
 }
 
+/// Whether each id that is followed did so.
 fn all_spoil(tasks: &Tasks, engines: &[Engine], attempts: &Attempts, request: &Request) -> bool
     ensures { result ≡ list_all (λ i. spoils (among [] engines.now 0 (attempts_as attempts.now)) [] (request_as request.now) (settled_in tasks.now i)) request.now.follow.ids }
 {
@@ -147,6 +157,7 @@ fn all_spoil(tasks: &Tasks, engines: &[Engine], attempts: &Attempts, request: &R
         .all(|id| spoils_for(tasks, engines, attempts, request, id))
 }
 
+/// Whether the followed ids finished so that the task can't run.
 fn is_follow_spoilt(
     tasks: &Tasks,
     engines: &[Engine],
@@ -162,6 +173,7 @@ fn is_follow_spoilt(
     }
 }
 
+/// Whether ids are followed, and the task can't run for them.
 fn is_follow_dead(tasks: &Tasks, engines: &[Engine], attempts: &Attempts, request: &Request) -> bool
     ensures { result ≡ follow_dead (among tasks.now engines.now 0 (attempts_as attempts.now)) [] (request_as request.now) }
 {

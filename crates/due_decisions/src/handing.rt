@@ -15,7 +15,6 @@ use cluster_state::attempts::is_never;
 use cluster_state::task::Task;
 use cluster_state::tasks::Tasks;
 use cluster_types::config::Scheme;
-use cluster_types::copying::TryCopy;
 use cluster_types::entry::Entry;
 use load_schemes::chooser::Chooser;
 use std::alloc::{AllocError, Global};
@@ -31,6 +30,7 @@ fn ready_for(task: &Task) -> Option<u32>
     }
 }
 
+/// Whether the task at a place is an unsettled direct request without an attempt.
 fn is_direct_at(tasks: &[Task], place: usize) -> bool
     ensures { result ≡ holds_at (λ t. is_some (ready_for (alone t) t.row.id)) tasks.now place }
 {
@@ -40,6 +40,7 @@ fn is_direct_at(tasks: &[Task], place: usize) -> bool
     }
 }
 
+/// The place of the lowest such task.
 fn direct_place(tasks: &Tasks) -> Option<usize>
     ensures { result ≡ find (holds_at (λ t. is_some (ready_for (alone t) t.row.id)) tasks.now) (open_places tasks.now) }
 {
@@ -50,18 +51,20 @@ fn direct_place(tasks: &Tasks) -> Option<usize>
         .find(|p| is_direct_at(tasks.as_slice(), *p))
 }
 
+/// The lowest such task.
 fn direct_task(tasks: &Tasks) -> Option<&Task>
     ensures { option_copied result ≡ find (λ t. is_some (ready_for (alone t) t.row.id)) tasks.now }
 {
     task_at(tasks, direct_place(tasks))
 }
 
+/// The hand-out of a direct request without an attempt.
 fn direct_of(task: &Task) -> Result<Option<Entry>, AllocError>
     ensures { IfOk result (λ d. d ≡ direct_of task.now) }
 {
     match ready_for(task) {
         Some(engine) => Ok(Some(Entry::Hand {
-            id: task.id().copy()?,
+            id: task.id().clone()?,
             engine,
         })),
         None => Ok(None),
@@ -97,18 +100,21 @@ fn takes(tasks: &Tasks, task: &Task, engine: u32) -> bool
         && !is_excluded(task.attempts(), engine)
 }
 
+/// Whether a task may run on one of some engines, as far as the two go together.
 fn any_takes(tasks: &Tasks, rooms: &[Room], task: &Task) -> bool
     ensures { result ≡ list_any (λ r. takes tasks.now task.now r.engine) rooms.now }
 {
     rooms.iter().any(|r| takes(tasks, task, r.engine))
 }
 
+/// Whether a task waits, and may run on one of some engines.
 fn may_run(tasks: &Tasks, rooms: &[Room], task: &Task) -> bool
     ensures { result ≡ list_any (λ r. fits tasks.now task.now r.engine) rooms.now }
 {
     is_ready(tasks, task) && any_takes(tasks, rooms, task)
 }
 
+/// Whether the task at a place does.
 fn may_run_at(tasks: &Tasks, rooms: &[Room], place: usize) -> bool
     ensures { result ≡ holds_at (λ t. list_any (λ r. fits tasks.now t r.engine) rooms.now) tasks.now place }
 {
@@ -118,6 +124,7 @@ fn may_run_at(tasks: &Tasks, rooms: &[Room], place: usize) -> bool
     }
 }
 
+/// The place of the lowest such task.
 fn waiting_place(tasks: &Tasks, rooms: &[Room]) -> Option<usize>
     ensures { result ≡ find (holds_at (λ t. list_any (λ r. fits tasks.now t r.engine) rooms.now) tasks.now) (open_places tasks.now) }
 {
@@ -128,6 +135,7 @@ fn waiting_place(tasks: &Tasks, rooms: &[Room]) -> Option<usize>
         .find(|p| may_run_at(tasks, rooms, *p))
 }
 
+/// The lowest such task.
 fn waiting_task<'a>(tasks: &'a Tasks, rooms: &[Room]) -> Option<&'a Task>
     ensures { option_copied result ≡ find (λ t. list_any (λ r. fits tasks.now t r.engine) rooms.now) tasks.now }
 {
@@ -138,6 +146,7 @@ fn waiting_task<'a>(tasks: &'a Tasks, rooms: &[Room]) -> Option<&'a Task>
     }
 }
 
+/// Whether a task waits, and may run on an engine.
 fn is_fitting(tasks: &Tasks, task: &Task, engine: u32) -> bool
     ensures { result ≡ fits tasks.now task.now engine }
 {
@@ -160,12 +169,14 @@ fn rooms_for(
         .collect(alloc)
 }
 
+/// The loads of engines.
 fn loads_of(alloc: Global, rooms: &[Room]) -> Result<Vec<u32>, AllocError>
     ensures { IfOk result (λ v. v.items ≡ map (λ r. r.load) rooms.now) }
 {
     rooms.iter().map(|r| r.load).collect(alloc)
 }
 
+/// The engine at a place.
 fn engine_at(rooms: &[Room], place: usize) -> Option<u32>
     ensures { result ≡ option_map (λ r. r.engine) (slice_get rooms.now place) }
 {
@@ -193,6 +204,7 @@ fn picked(
     Ok(engine_at(rooms, place))
 }
 
+/// The hand-out of a task to the engine that is picked of those where it may run.
 fn hand_of(
     alloc: Global,
     tasks: &Tasks,
@@ -207,7 +219,7 @@ fn hand_of(
     let fitting = rooms_for(alloc, tasks, rooms, task)?;
     match picked(alloc, chooser, scheme, word, &fitting)? {
         Some(engine) => Ok(Some(Entry::Hand {
-            id: task.id().copy()?,
+            id: task.id().clone()?,
             engine,
         })),
         None => Ok(None),

@@ -16,12 +16,14 @@ fn missed(beats: u64, engine: &Engine) -> u64
     beats.saturating_sub(engine.mark)
 }
 
+/// Whether an engine missed more beats than it may.
 fn is_missing(misses: u32, beats: u64, engine: &Engine) -> bool
     ensures { result ≡ nat_lt misses (missed beats engine.now) }
 {
     u64::from(misses) < missed(beats, engine)
 }
 
+/// The lowest such engine.
 fn missing_engine(engines: &[Engine], misses: u32, beats: u64) -> Option<&Engine>
     ensures { option_copied result ≡ find (λ e. nat_lt misses (missed beats e)) engines.now }
 {

@@ -4,7 +4,7 @@ ghost use Rattle.std.specs.Prelude.{◌≡◌, ◌&&◌, not, filter, map, IfOk,
 ghost use Rattle.cluster_defs.specs.Engines.{lists_number};
 ghost use Rattle.cluster_defs.specs.Facts.{is_direct_id};
 ghost use Rattle.cluster_state.specs.Seen.{open_places};
-ghost use Rattle.due_decisions.specs.Table.{alone, loads, noted, noted_at, tally, has_room, rooms_in};
+ghost use Rattle.due_decisions.specs.Table.{alone, loads, noted, noted_at, tally, leaves_room, rooms_in};
 
 use crate::failing::is_live;
 use cluster_defs::engine::Engine;
@@ -47,6 +47,7 @@ fn note_one(room: &mut Room, task: &Task) -> Result<(), AllocError>
     Ok(())
 }
 
+/// Counts a task on each engine where it runs.
 fn note_each(rooms: &mut [Room], task: &Task) -> Result<(), AllocError>
     ensures { OnOk result (rooms.new ≡ map (noted task.now) rooms.old) }
 {
@@ -66,6 +67,7 @@ fn note_task(rooms: &mut [Room], task: &Task) -> Result<(), AllocError>
     Ok(())
 }
 
+/// Counts the task at a place.
 fn note_at(rooms: &mut [Room], tasks: &[Task], place: usize) -> Result<(), AllocError>
     ensures { OnOk result (rooms.new ≡ map (noted_at tasks.now place) rooms.old) }
 {
@@ -99,17 +101,18 @@ fn live_rooms(alloc: Global, engines: &[Engine], by_use: &[u32]) -> Result<Vec<R
         .collect(alloc)
 }
 
-fn has_room(hwm: u32, load: u32) -> bool
-    ensures { result ≡ has_room hwm load }
+/// Whether an engine of this load has room.
+fn leaves_room(hwm: u32, load: u32) -> bool
+    ensures { result ≡ leaves_room hwm load }
 {
     hwm == 0 || load < hwm
 }
 
 /// Leaves out the engines without room.
 fn keep_open(rooms: &mut Vec<Room>, hwm: u32)
-    ensures { rooms.new.items ≡ filter (λ r. has_room hwm r.load) rooms.old.items }
+    ensures { rooms.new.items ≡ filter (λ r. leaves_room hwm r.load) rooms.old.items }
 {
-    rooms.retain(|r| has_room(hwm, r.load));
+    rooms.retain(|r| leaves_room(hwm, r.load));
 }
 
 /// The live engines with room, in ascending order of last use.

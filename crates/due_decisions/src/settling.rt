@@ -12,7 +12,6 @@ use cluster_defs::attempt::Attempt;
 use cluster_defs::engine::Engine;
 use cluster_state::task::Task;
 use cluster_state::tasks::Tasks;
-use cluster_types::copying::TryCopy;
 use cluster_types::entry::Entry;
 use cluster_types::verdict::{Cause, Verdict};
 use std::alloc::AllocError;
@@ -22,9 +21,9 @@ fn verdict_at(over: bool, attempt: Attempt) -> Option<(Verdict, Cause)>
     ensures { result ≡ verdict_at over attempt }
 {
     match attempt {
-        Attempt::EndedOk { engine: _ } => Some((Verdict::Completed, Cause::Reply)),
-        Attempt::EndedBadly { engine: _ } if over => Some((Verdict::Failed, Cause::Reply)),
-        Attempt::Lost { engine: _ } if over => Some((Verdict::Failed, Cause::EngineError)),
+        Attempt::EndedOk { .. } => Some((Verdict::Completed, Cause::Reply)),
+        Attempt::EndedBadly { .. } if over => Some((Verdict::Failed, Cause::Reply)),
+        Attempt::Lost { .. } if over => Some((Verdict::Failed, Cause::EngineError)),
         _ => None,
     }
 }
@@ -37,12 +36,14 @@ fn verdict(task: &Task) -> Option<(Verdict, Cause)>
     verdict_at(over, task.attempts().last)
 }
 
+/// Whether a task's attempts are over, and it isn't settled.
 fn is_final(task: &Task) -> bool
     ensures { result ≡ final_at task.now }
 {
     verdict(task).is_some() && task.settled().is_none()
 }
 
+/// Whether that holds of the task at a place.
 fn is_final_at(tasks: &[Task], place: usize) -> bool
     ensures { result ≡ holds_at final_at tasks.now place }
 {
@@ -52,6 +53,7 @@ fn is_final_at(tasks: &[Task], place: usize) -> bool
     }
 }
 
+/// The place of the lowest such task.
 fn final_place(tasks: &Tasks) -> Option<usize>
     ensures { result ≡ find (holds_at final_at tasks.now) (open_places tasks.now) }
 {
@@ -62,18 +64,20 @@ fn final_place(tasks: &Tasks) -> Option<usize>
         .find(|p| is_final_at(tasks.as_slice(), *p))
 }
 
+/// The lowest such task.
 fn final_task(tasks: &Tasks) -> Option<&Task>
     ensures { option_copied result ≡ find final_at tasks.now }
 {
     task_at(tasks, final_place(tasks))
 }
 
+/// The settle of a task whose attempts are over.
 fn settle_of(task: &Task) -> Result<Option<Entry>, AllocError>
     ensures { IfOk result (λ d. d ≡ settle_of task.now) }
 {
     match verdict(task) {
         Some((verdict, cause)) => Ok(Some(Entry::Settle {
-            id: task.id().copy()?,
+            id: task.id().clone()?,
             verdict,
             cause,
         })),
@@ -91,6 +95,7 @@ pub fn settle_due(tasks: &Tasks) -> Result<Option<Entry>, AllocError>
     }
 }
 
+/// Whether the task at a place fails without an attempt.
 fn is_failing_at(tasks: &Tasks, engines: &[Engine], now: u64, place: usize) -> bool
     ensures { result ≡ holds_at (λ t. is_some (failing_in tasks.now engines.now now t)) tasks.now place }
 {
@@ -100,6 +105,7 @@ fn is_failing_at(tasks: &Tasks, engines: &[Engine], now: u64, place: usize) -> b
     }
 }
 
+/// The place of the lowest such task.
 fn failing_place(tasks: &Tasks, engines: &[Engine], now: u64) -> Option<usize>
     ensures { result ≡ find (holds_at (λ t. is_some (failing_in tasks.now engines.now now t)) tasks.now) (open_places tasks.now) }
 {
@@ -110,12 +116,14 @@ fn failing_place(tasks: &Tasks, engines: &[Engine], now: u64) -> Option<usize>
         .find(|p| is_failing_at(tasks, engines, now, *p))
 }
 
+/// The lowest such task.
 fn failing_task<'a>(tasks: &'a Tasks, engines: &[Engine], now: u64) -> Option<&'a Task>
     ensures { option_copied result ≡ find (λ t. is_some (failing_in tasks.now engines.now now t)) tasks.now }
 {
     task_at(tasks, failing_place(tasks, engines, now))
 }
 
+/// The settle of a task that fails without an attempt.
 fn fail_of(
     tasks: &Tasks,
     engines: &[Engine],
@@ -126,7 +134,7 @@ fn fail_of(
 {
     match failing(tasks, engines, now, task) {
         Some(cause) => Ok(Some(Entry::Settle {
-            id: task.id().copy()?,
+            id: task.id().clone()?,
             verdict: Verdict::Failed,
             cause,
         })),

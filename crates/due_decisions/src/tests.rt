@@ -5,15 +5,15 @@ ghost use Rattle.cluster_defs.specs.Scheduling.{pick};
 
 use crate::due::due;
 use cluster_defs::engine::Engine;
-use cluster_state::request::{Body, Request};
+use cluster_state::request::Request;
 use cluster_state::state::State;
 use cluster_state::task::{Settled, Task};
 use cluster_state::tasks::Tasks;
 use cluster_types::config::Scheme;
 use cluster_types::entry::Entry;
 use cluster_types::event::Dep;
-use cluster_types::octets::Octets;
 use cluster_types::sequence::Sequence;
+use cluster_types::shared_message::SharedMessage;
 use cluster_types::text::Text;
 use cluster_types::verdict::{Cause, Verdict};
 use load_schemes::chooser::{Choose, Chooser};
@@ -50,13 +50,10 @@ fn request(alloc: Global, after: Dep, follow: Dep) -> Result<Request, AllocError
     Ok(Request {
         owner: None,
         direct_to: None,
-        target: Octets::new(alloc, b"")?,
+        message: SharedMessage::new(alloc, b"", b"{}", b"{}", b"{}", b"{}", Sequence::new(alloc))?,
         msg_type: Text::new(alloc, "execute_request")?,
         session: Text::new(alloc, "")?,
         username: Text::new(alloc, "")?,
-        header: Octets::new(alloc, b"{}")?,
-        parent: Octets::new(alloc, b"{}")?,
-        metadata: Octets::new(alloc, b"{}")?,
         after,
         follow,
         listed: Sequence::new(alloc),
@@ -105,20 +102,11 @@ fn direct(alloc: Global) -> Result<Request, AllocError> {
     Ok(request)
 }
 
-fn no_body(alloc: Global) -> Result<Body, AllocError> {
-    Ok(Body {
-        content: Octets::new(alloc, b"{}")?,
-        buffers: Sequence::new(alloc),
-    })
-}
-
 /// A task that was just accepted.
 fn task_of(alloc: Global, id: &Text, request: Request) -> Result<Task, AllocError>
     ensures { IfOk result (λ t. t.settled ≡ None) }
 {
-    let body = no_body(alloc)?;
-    let task = Task::new(alloc, id, 1, request, body)?;
-    Ok(task)
+    Task::new(alloc, id, 1, request)
 }
 
 fn push(tasks: &mut Tasks, task: Result<Task, AllocError>) -> Result<(), AllocError>

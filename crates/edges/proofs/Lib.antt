@@ -1,3 +1,4 @@
+pub mod FramePlaces
 pub mod Pieces
 pub mod DateLemmas
 pub mod DateRows

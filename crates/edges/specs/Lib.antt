@@ -1,7 +1,6 @@
-pub mod Causes
-pub mod Streams
-pub mod Memory
-pub mod Cursor
-pub mod Date
 pub mod CalendarDate
+pub mod Date
 pub mod Devices
+pub mod Frames
+pub mod Memory
+pub mod Streams

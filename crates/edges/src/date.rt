@@ -1,6 +1,7 @@
 //! Moments, and their text.
 
 ghost use Rattle.std.specs.Prelude.{◌≡◌, ◌≤◌, ◌<◌, ◌++◌, List, ℕ, IfOk, OnOk, string_bytes};
+ghost use Rattle.cluster_types.specs.Limits.{last_moment};
 ghost use Rattle.edges.specs.Date.{civil_date, date_of, day_text, digits, time_text};
 ghost use Rattle.edges.specs.CalendarDate.{IsDateOf};
 
@@ -14,14 +15,11 @@ pub struct Moment {
     pub millis: u64,
 }
 
-/// The last millisecond of the year 9999, the last one with a text.
-pub const LAST_MILLIS: u64 = 253_402_300_799_999;
-
 const MILLIS_OF_DAY: u64 = 86_400_000;
 
 /// The text of a moment, as `2023-11-14T22:13:20.000Z`, for a moment before the year 10000.
 pub fn date_text(alloc: Global, moment: Moment) -> Result<String, AllocError>
-    requires { moment.millis ≤ LAST_MILLIS }
+    requires { moment.millis ≤ last_moment }
     ensures { IfOk result (λ text. string_bytes text ≡ date_of moment.millis) }
 {
     let mut text = String::new(alloc);

@@ -2,7 +2,6 @@
 //! frames, numbers in octets, and the text of a moment.
 #![tactic(auto)]
 
-pub mod cursor;
 pub mod date;
 pub mod frames;
 pub mod memory;

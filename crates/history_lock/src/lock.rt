@@ -10,9 +10,12 @@ use atomic_table::{Refused, Table};
 use std::alloc::{AllocError, Global};
 use std::snapshot::Snapshot;
 use std::sync::Wait;
+use thiserror::Error;
 
+/// A seat at the table of a lock.
 type Seat<T> = atomic_table::Seat<Option<T>, View>;
 
+/// The table of a lock: one slot for the value, and one word for the turn.
 type Inner<T> = Table<Option<T>, View, Snapshot<T>, Turns<T>, Global>;
 
 /// A lock whose value is out with one pass at a time.
@@ -36,7 +39,8 @@ pub struct Pass<T> {
 }
 
 /// As many passes as were asked for may not come from this one.
-#[derive(Clone, Copy, Debug, PartialEq, Eq)]
+#[derive(Clone, Copy, Debug, PartialEq, Eq, Error)]
+#[error("so many passes may not come from this pass")]
 pub struct NoPass;
 
 impl<T: Keeps + Drop> HistoryLock<T> {
@@ -65,7 +69,7 @@ impl<T: Keeps + Drop> HistoryLock<T> {
                     room: passes - 1,
                 },
             )),
-            Err(Refused { slots: _ }) => Err(AllocError),
+            Err(Refused { .. }) => Err(AllocError),
         }
     }
 
@@ -152,7 +156,7 @@ impl<T: Keeps + Drop> HistoryLock<T> {
         ensures later { Extends (known pass.old).seen (known pass.new).seen }
         ensures others { Extends (known other).seen (known pass.new).seen }
     {
-        let Pass { seat, room: _ } = other;
+        let Pass { seat, .. } = other;
         self.table
             .shared
             .join_seat::<TellOther>(&mut pass.seat, seat);
@@ -168,7 +172,7 @@ impl<T: Keeps + Drop> HistoryLock<T> {
         ensures whole { (known pass).share ≡ whole → IsSome result }
     {
         let HistoryLock { table } = self;
-        let Pass { seat, room: _ } = pass;
+        let Pass { seat, .. } = pass;
         let mut closed = table.close_with(seat);
         let turn = closed.word(0);
         let value = closed.take(0);

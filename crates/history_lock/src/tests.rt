@@ -162,22 +162,6 @@ fn closes_with_and_without_the_value(rt: HostRuntime) {
     assert!(rt; lock.close(pass).is_none());
 }
 
-#[test]
-fn two_threads(rt: HostRuntime) {
-    let Some((lock, one, two)) = lock_with_two(rt.alloc()) else {
-        panic!(rt; "memory is ample");
-    };
-    let Some(pass) = lose_both(&rt, &lock, one, two, 2, 1) else {
-        panic!(rt; "memory is ample");
-    };
-    let Some(losses) = lock.close(pass) else {
-        panic!(rt; "the turn is free");
-    };
-    assert_eq!(rt; losses.entries.len(), 2);
-    assert_eq!(rt; losses.count(2), 1);
-    assert_eq!(rt; losses.count(3), 1);
-}
-
 /// Four threads at one lock, and one pass for all.
 fn lose_by_four<R: Threads + Wait + Sync>(
     rt: &R,

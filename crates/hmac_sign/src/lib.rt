@@ -10,18 +10,25 @@ ghost use Rattle.sha2.specs.Sha256.{sha256};
 use sha2::{Digest, Sha256};
 use std::alloc::{AllocError, Global};
 use std::marker::Model;
+use thiserror::Error;
 
+/// What the key's octets are changed by before the inner hash.
 const INNER_PAD: u8 = 0x36;
 
+/// What the key's octets are changed by before the outer hash.
 const OUTER_PAD: u8 = 0x5c;
 
+/// The most octets of a key.
 const LONGEST_KEY: usize = 4096;
 
 /// Why a key was refused.
-#[derive(Clone, Copy, Debug, PartialEq, Eq)]
+#[derive(Clone, Copy, Debug, PartialEq, Eq, Error)]
 pub enum KeyError {
+    #[error("the key is empty")]
     EmptyKey,
+    #[error("the key has more than 4096 octets")]
     KeyTooLong,
+    #[error("out of memory")]
     OutOfMemory,
 }
 

@@ -9,8 +9,8 @@ pub record Written : Type 0 where
   pub buffers : List (List ℕ)
 
 -- how many tasks, their members parted by commas, and the buffers of their outcomes
-abbrev pub written : List Settled → Written
-written rs = record { count = length rs; text = parted (map settled_member rs); buffers = flat_map (λ r. r.outcome.buffers) rs }
+abbrev pub written_results : List Settled → Written
+written_results rs = record { count = length rs; text = parted (map settled_member rs); buffers = flat_map (λ r. r.outcome.buffers) rs }
 
 -- the beginning of a member: the id, the engine, the verdict and the cause
 unfoldable pub head_text : List ℕ → Option ℕ → List ℕ → List ℕ → List ℕ

@@ -1,7 +1,9 @@
 -- What the outcomes of a result reply weigh at least, told by lengths alone.
 use Rattle.std.specs.Prelude.{ℕ, ◌+◌, nat_lt, List, [], ◌∷◌, length, map, sum, Bool, ◌||◌}
 use Rattle.cluster_types.specs.declared.message.Message.{Message}
+use Rattle.cluster_types.specs.Limits.{body_limit, most_buffers}
 use Rattle.message_defs.specs.Texts.{Settled}
+use Rattle.cluster_defs.specs.Queries.{answer_limit}
 use Rattle.hub_queries.specs.declared.weights.Measure.{Measure}
 use Rattle.hub_queries.specs.declared.weights.Measure.TheVariants.{Text, BufferCount, BufferOctets}
 
@@ -17,4 +19,4 @@ weight by (r ∷ rs) = measure by r.outcome + weight by rs
 
 -- past a limit by the outcomes alone
 abbrev pub is_heavy : List Settled → Bool
-is_heavy rs = nat_lt 16777216 (weight Text rs) || nat_lt 33000000 (weight BufferOctets rs) || nat_lt 58 (weight BufferCount rs)
+is_heavy rs = nat_lt body_limit (weight Text rs) || nat_lt answer_limit (weight BufferOctets rs) || nat_lt most_buffers (weight BufferCount rs)

@@ -43,26 +43,24 @@ pub fn ok_answer(alloc: Global) -> Result<Answer, AllocError>
 fn unknown_request(alloc: Global, msg_type: &Text) -> Result<Answer, AllocError>
     ensures { IfOk result (λ a. a ≡ refusal (codes "UnknownRequest") msg_type.now []) }
 {
-    let refused = refusal(
+    refusal(
         alloc,
         "UnknownRequest",
         msg_type.as_str(),
         &Sequence::new(alloc),
-    )?;
-    Ok(refused)
+    )
 }
 
 /// The refusal of a request that doesn't read, with the field at fault.
 fn bad_request(alloc: Global, channel: Channel, field: &Text) -> Result<Answer, AllocError>
     ensures { IfOk result (λ a. a ≡ refusal (bad_name channel) field.now []) }
 {
-    let refused = refusal(
+    refusal(
         alloc,
         bad_name(channel),
         field.as_str(),
         &Sequence::new(alloc),
-    )?;
-    Ok(refused)
+    )
 }
 
 /// The answer that was made, within the limits of its channel.
@@ -73,9 +71,7 @@ fn within(
 ) -> Result<Answer, AllocError>
     ensures { (whole : Answer) → IfOk made (λ a. a ≡ whole) → IfOk result (λ a. a ≡ limited channel whole) }
 {
-    let whole = made?;
-    let answer = limited(alloc, channel, whole)?;
-    Ok(answer)
+    limited(alloc, channel, made?)
 }
 
 /// The answer to a question that came on a channel in a message of a type, off the records of all tasks and the live

@@ -4,11 +4,11 @@
 pub mod answer;
 pub mod engines;
 pub mod limits;
-pub mod queues;
-pub mod results;
-pub mod rows;
-pub mod scan;
-pub mod tally;
+mod queues;
+mod results;
+mod rows;
+mod scan;
+mod tally;
 #[cfg(test)]
 mod tests;
-pub mod weights;
+mod weights;

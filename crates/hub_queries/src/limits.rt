@@ -5,20 +5,15 @@ ghost use Rattle.cluster_defs.specs.Queries.{plain, refusal, is_hub, is_too_long
 
 use cluster_defs::answer::Answer;
 use cluster_types::config::Channel;
+use cluster_types::limits::{BODY_OCTETS, MOST_BUFFERS};
 use cluster_types::message::{Buffers, Ids};
 use cluster_types::octets::Octets;
 use cluster_types::sequence::Sequence;
 use jupyter_header::contents::error_content;
 use std::alloc::{AllocError, Global};
 
-/// The most octets of a content.
-pub(crate) const MOST_CONTENT: usize = 16_777_216;
-
 /// The most octets of a content and its buffers.
 pub(crate) const MOST_OCTETS: usize = 33_000_000;
-
-/// The most buffers.
-pub(crate) const MOST_BUFFERS: usize = 58;
 
 /// An answer without buffers.
 pub fn plain(alloc: Global, content: Octets) -> Answer
@@ -55,7 +50,7 @@ pub fn is_too_long(answer: &Answer) -> bool
 {
     let content = answer.content.as_slice().len();
     let together = content.saturating_add(octets_of(&answer.buffers));
-    content > MOST_CONTENT || together > MOST_OCTETS || answer.buffers.len() > MOST_BUFFERS
+    content as u64 > BODY_OCTETS || together > MOST_OCTETS || answer.buffers.len() > MOST_BUFFERS
 }
 
 /// Whether a channel is the hub's.
@@ -69,8 +64,7 @@ pub(crate) fn is_hub(channel: Channel) -> bool
 pub(crate) fn too_long(alloc: Global) -> Result<Answer, AllocError>
     ensures { IfOk result (λ a. a ≡ refusal (codes "ReplyTooLong") [] []) }
 {
-    let refused = refusal(alloc, "ReplyTooLong", "", &Sequence::new(alloc))?;
-    Ok(refused)
+    refusal(alloc, "ReplyTooLong", "", &Sequence::new(alloc))
 }
 
 /// The answer, which on the hub's channel gives way to a refusal where it passes a limit.
@@ -78,8 +72,7 @@ pub fn limited(alloc: Global, channel: Channel, answer: Answer) -> Result<Answer
     ensures { IfOk result (λ a. a ≡ limited channel answer) }
 {
     if is_hub(channel) && is_too_long(&answer) {
-        let refused = too_long(alloc)?;
-        return Ok(refused);
+        return too_long(alloc);
     }
     Ok(answer)
 }

@@ -16,13 +16,14 @@ use crate::engines::{LiveEngines, asked, first_missing, numbers_of};
 use crate::limits::{plain, refusal};
 use crate::rows::{Row, rows_of};
 use crate::scan::{Kind, tally_of};
-use crate::tally::{Tally, push_comma};
+use crate::tally::Tally;
 use cluster_defs::answer::Answer;
 use cluster_types::message::Engines;
 use cluster_types::octets::Octets;
 use cluster_types::record::Records;
 use cluster_types::sequence::Sequence;
 use cluster_types::text::Text;
+use jupyter_header::contents::push_comma;
 use jupyter_header::write::quoted;
 use std::alloc::{AllocError, Global};
 
@@ -31,8 +32,7 @@ fn number_name(alloc: Global, number: u32) -> Result<String, AllocError>
     ensures { IfOk result (λ s. string_bytes s ≡ quoted (decimal number)) }
 {
     let digits = number.to_string(alloc)?;
-    let name = quoted(alloc, digits.as_str())?;
-    Ok(name)
+    quoted(alloc, digits.as_str())
 }
 
 /// Appends a live engine, with the comma before it.
@@ -49,8 +49,7 @@ fn push_engine(
     push_comma(text, place)?;
     text.push_str(name.as_str())?;
     text.push_str(":")?;
-    text.push_str(uuid.as_str())?;
-    Ok(())
+    text.push_str(uuid.as_str())
 }
 
 /// Appends the live engines, parted by commas.
@@ -71,7 +70,7 @@ pub fn connection_answer(alloc: Global, live: &LiveEngines) -> Result<Answer, Al
     let mut text = String::from_str(alloc, "{\"status\":\"ok\",\"engines\":{")?;
     push_engines(&mut text, alloc, live)?;
     text.push_str("}}")?;
-    Ok(plain(alloc, Octets::from_vec(text.into_bytes())))
+    Ok(plain(alloc, Octets::from_string(text)?))
 }
 
 /// The content that lists the ids that aren't purged.
@@ -91,7 +90,7 @@ pub fn history_answer<R: Records>(alloc: Global, table: &R) -> Result<Answer, Al
     ensures { IfOk result (λ a. a ≡ plain (history_content (ids_where (λ r. not r.purged) (R.records table.now)))) }
 {
     let text = history_text(alloc, table)?;
-    Ok(plain(alloc, Octets::from_vec(text.into_bytes())))
+    Ok(plain(alloc, Octets::from_string(text)?))
 }
 
 /// The queue of an engine.
@@ -137,13 +136,12 @@ fn no_such_engine(alloc: Global, number: u32) -> Result<Answer, AllocError>
     ensures { IfOk result (λ a. a ≡ refusal (codes "NoSuchEngine") (decimal number) []) }
 {
     let digits = number.to_string(alloc)?;
-    let refused = refusal(
+    refusal(
         alloc,
         "NoSuchEngine",
         digits.as_str(),
         &Sequence::new(alloc),
-    )?;
-    Ok(refused)
+    )
 }
 
 /// The answer on the queues of the listed engines; an empty list asks for all. With `verbose` it has the ids in the
@@ -167,5 +165,5 @@ pub fn queues_answer<R: Records>(
     let unassigned = tally_of(alloc, table, Kind::Waiting, verbose)?;
     let rows = rows_of(alloc, table, asked.as_slice(), verbose)?;
     let text = queue_text(alloc, &unassigned, rows.as_slice())?;
-    Ok(plain(alloc, Octets::from_vec(text.into_bytes())))
+    Ok(plain(alloc, Octets::from_string(text)?))
 }

@@ -7,20 +7,20 @@ ghost use Rattle.cluster_types.specs.declared.record.Record.{Record};
 ghost use Rattle.message_defs.specs.Texts.{settled_member, engine_or_null, result_content, texts_list, Settled};
 ghost use Rattle.cluster_defs.specs.Words.{Id, once};
 ghost use Rattle.cluster_defs.specs.Queries.{is_hub, limited};
-ghost use Rattle.cluster_defs.specs.RecordAnswers.{record_in, left_in, all_left, result_in, results_in, settled_in};
+ghost use Rattle.cluster_defs.specs.RecordAnswers.{record_in, left_in, all_left, result_in, results_in, is_settled_record};
 ghost use Rattle.jupyter_header.specs.Comma.{comma};
-ghost use Rattle.hub_queries.specs.Results.{written, head_text};
+ghost use Rattle.hub_queries.specs.Results.{written_results, head_text};
 ghost use Rattle.hub_queries.specs.Weights.{is_heavy};
 
 use crate::limits::{is_hub, limited, refusal, too_long};
 use crate::weights::is_heavy;
 use cluster_defs::answer::Answer;
 use cluster_types::config::Channel;
-use cluster_types::copying::TryCopy;
-use cluster_types::message::{Buffers, Ids, Message};
+use cluster_types::message::{Buffers, Ids};
 use cluster_types::octets::Octets;
 use cluster_types::record::{Record, Records};
 use cluster_types::sequence::Sequence;
+use cluster_types::shared_message::SharedMessage;
 use cluster_types::text::Text;
 use cluster_types::verdict::{Cause, Verdict};
 use jupyter_header::contents::texts_list;
@@ -81,17 +81,17 @@ fn head_text(
 }
 
 /// The member of a task, off its beginning and its outcome. The outcome's parts stand in it as they are.
-fn whole_member(alloc: Global, head: String, outcome: &Message) -> Result<Vec<u8>, AllocError>
+fn whole_member(alloc: Global, head: String, outcome: &SharedMessage) -> Result<Vec<u8>, AllocError>
     ensures { IfOk result (λ v. v.items ≡ string_bytes head ++ codes ",\"header\":" ++ outcome.now.header ++ codes ",\"metadata\":" ++ outcome.now.metadata ++ codes ",\"content\":" ++ outcome.now.content ++ codes ",\"buffers\":" ++ decimal (length outcome.now.buffers) ++ codes "}") }
 {
-    let count = outcome.buffers.len().to_string(alloc)?;
+    let count = outcome.buffers().len().to_string(alloc)?;
     let mut text = head.into_bytes();
     text.extend_from_slice(b",\"header\":")?;
-    text.extend_from_slice(outcome.header.as_slice())?;
+    text.extend_from_slice(outcome.header())?;
     text.extend_from_slice(b",\"metadata\":")?;
-    text.extend_from_slice(outcome.metadata.as_slice())?;
+    text.extend_from_slice(outcome.metadata())?;
     text.extend_from_slice(b",\"content\":")?;
-    text.extend_from_slice(outcome.content.as_slice())?;
+    text.extend_from_slice(outcome.content())?;
     text.extend_from_slice(b",\"buffers\":")?;
     text.extend_from_slice(count.as_bytes())?;
     text.extend_from_slice(b"}")?;
@@ -105,13 +105,12 @@ fn member(
     task: &Record,
     verdict: Verdict,
     cause: Cause,
-    outcome: &Message,
+    outcome: &SharedMessage,
 ) -> Result<Vec<u8>, AllocError>
     ensures { IfOk result (λ v. v.items ≡ settled_member (record { id = task.now.id; engine = task.now.engine; verdict = verdict_name verdict; cause = cause_name cause; outcome = outcome.now })) }
 {
     let head = head_text(alloc, &task.id, task.engine, verdict, cause)?;
-    let text = whole_member(alloc, head, outcome)?;
-    Ok(text)
+    whole_member(alloc, head, outcome)
 }
 
 /// Appends copies of buffers.
@@ -119,7 +118,7 @@ fn append(into: &mut Buffers, from: &Buffers) -> Result<(), AllocError>
     ensures { OnOk result (into.new ≡ into.old ++ from.now) }
 {
     for buffer in from.as_slice() {
-        into.push(buffer.copy()?)?;
+        into.push(buffer.clone()?)?;
     }
     Ok(())
 }
@@ -131,13 +130,13 @@ fn push_member(text: &mut Vec<u8>, place: usize, member: &[u8]) -> Result<(), Al
     if place > 0 {
         text.push(b',')?;
     }
-    text.extend_from_slice(member)?;
-    Ok(())
+    text.extend_from_slice(member)
 }
 
 impl Written {
+    /// Nothing written.
     fn new(alloc: Global) -> Written
-        ensures { result ≡ written [] }
+        ensures { result ≡ written_results [] }
     {
         Written {
             count: 0,
@@ -153,20 +152,20 @@ impl Written {
         task: &Record,
         verdict: Verdict,
         cause: Cause,
-        outcome: &Message,
+        outcome: &SharedMessage,
     ) -> Result<(), AllocError>
-        ensures { (rs : List Settled) → length rs + 1 < 2 ^ 64 → self.old ≡ written rs → OnOk result (self.new ≡ written (rs ++ record { id = task.now.id; engine = task.now.engine; verdict = verdict_name verdict; cause = cause_name cause; outcome = outcome.now } ∷ [])) }
+        ensures { (rs : List Settled) → length rs + 1 < 2 ^ 64 → self.old ≡ written_results rs → OnOk result (self.new ≡ written_results (rs ++ record { id = task.now.id; engine = task.now.engine; verdict = verdict_name verdict; cause = cause_name cause; outcome = outcome.now } ∷ [])) }
     {
         let member = member(alloc, task, verdict, cause, outcome)?;
         push_member(&mut self.text, self.count, member.as_slice())?;
-        append(&mut self.buffers, &outcome.buffers)?;
+        append(&mut self.buffers, outcome.buffers())?;
         self.count = self.count.saturating_add(1);
         Ok(())
     }
 
     /// Adds a task, where it is settled and has its outcome.
     fn add_found(&mut self, alloc: Global, found: Option<&Record>) -> Result<(), AllocError>
-        ensures { (rs : List Settled) → length rs + 1 < 2 ^ 64 → self.old ≡ written rs → OnOk result (self.new ≡ written (rs ++ option_to_list (option_and_then left_in (option_copied found.entry)))) }
+        ensures { (rs : List Settled) → length rs + 1 < 2 ^ 64 → self.old ≡ written_results rs → OnOk result (self.new ≡ written_results (rs ++ option_to_list (option_and_then left_in (option_copied found.entry)))) }
     {
         let Some(task) = found else {
             return Ok(());
@@ -177,14 +176,13 @@ impl Written {
         let Some(outcome) = &task.outcome else {
             return Ok(());
         };
-        self.add(alloc, task, verdict, cause, outcome)?;
-        Ok(())
+        self.add(alloc, task, verdict, cause, outcome)
     }
 }
 
 /// What these tasks left.
 fn written_of<R: Records>(alloc: Global, table: &R, ids: &Ids) -> Result<Written, AllocError>
-    ensures { IfOk result (λ w. w ≡ written (all_left (R.records table.now) false ids.now)) }
+    ensures { IfOk result (λ w. w ≡ written_results (all_left (R.records table.now) false ids.now)) }
 {
     let mut written = Written::new(alloc);
     for id in ids.as_slice() {
@@ -200,13 +198,12 @@ fn asked_of<R: Records>(
     status_only: bool,
     ids: &Ids,
 ) -> Result<Written, AllocError>
-    ensures { IfOk result (λ w. w ≡ written (all_left (R.records table.now) status_only ids.now)) }
+    ensures { IfOk result (λ w. w ≡ written_results (all_left (R.records table.now) status_only ids.now)) }
 {
     if status_only {
         return Ok(Written::new(alloc));
     }
-    let written = written_of(alloc, table, ids)?;
-    Ok(written)
+    written_of(alloc, table, ids)
 }
 
 /// The beginning of the content: the lists of the unsettled and the settled ids.
@@ -231,19 +228,19 @@ fn joined(
     completed: &Ids,
     results: Written,
 ) -> Result<Answer, AllocError>
-    ensures { (rs : List Settled) → results ≡ written rs → IfOk result (λ a. a ≡ record { content = result_content pending.now completed.now rs; buffers = flat_map (λ r. r.outcome.buffers) rs }) }
+    ensures { (rs : List Settled) → results ≡ written_results rs → IfOk result (λ a. a ≡ record { content = result_content pending.now completed.now rs; buffers = flat_map (λ r. r.outcome.buffers) rs }) }
 {
     let Written {
-        count: _,
         text: members,
         buffers,
+        ..
     } = results;
     let mut text = lists_text(alloc, pending, completed)?.into_bytes();
     text.push(b'{')?;
     text.extend_from_slice(members.as_slice())?;
     text.extend_from_slice(b"}}")?;
     Ok(Answer {
-        content: Octets::from_vec(text),
+        content: Octets::from_vec(text)?,
         buffers,
     })
 }
@@ -280,8 +277,7 @@ fn joined_answer<R: Records>(
     }
     let results = asked_of(alloc, table, status_only, completed)?;
     let whole = joined(alloc, pending, completed, results)?;
-    let answer = limited(alloc, channel, whole)?;
-    Ok(answer)
+    limited(alloc, channel, whole)
 }
 
 /// The answer on ids that are known and not purged.
@@ -292,12 +288,11 @@ fn results_answer<R: Records>(
     ids: &Ids,
     status_only: bool,
 ) -> Result<Answer, AllocError>
-    ensures { IfOk result (λ a. a ≡ limited channel (results_in (R.records table.now) ids.now (all_left (R.records table.now) status_only (filter (λ id. settled_in (record_in (R.records table.now) id)) ids.now)))) }
+    ensures { IfOk result (λ a. a ≡ limited channel (results_in (R.records table.now) ids.now (all_left (R.records table.now) status_only (filter (λ id. is_settled_record (record_in (R.records table.now) id)) ids.now)))) }
 {
     let pending = ids_that(alloc, table, Standing::Inflight, ids)?;
     let completed = ids_that(alloc, table, Standing::Settled, ids)?;
-    let answer = joined_answer(alloc, channel, table, status_only, &pending, &completed)?;
-    Ok(answer)
+    joined_answer(alloc, channel, table, status_only, &pending, &completed)
 }
 
 /// The answer on ids without repeats.
@@ -313,11 +308,9 @@ fn distinct_answer<R: Records>(
     let gone = ids_that(alloc, table, Standing::Gone, ids)?;
     if !gone.is_empty() {
         let whole = refusal(alloc, "UnknownIds", "", &gone)?;
-        let refused = limited(alloc, channel, whole)?;
-        return Ok(refused);
+        return limited(alloc, channel, whole);
     }
-    let answer = results_answer(alloc, channel, table, ids, status_only)?;
-    Ok(answer)
+    results_answer(alloc, channel, table, ids, status_only)
 }
 
 /// The answer, within the limits of its channel, that tells which of the ids are settled and, unless the status alone
@@ -333,6 +326,5 @@ pub fn result_answer<R: Records>(
     ensures { IfOk result (λ a. a ≡ limited channel (result_in (R.records table.now) (once ids.now) status_only)) }
 {
     let distinct = once(alloc, ids)?;
-    let answer = distinct_answer(alloc, channel, table, &distinct, status_only)?;
-    Ok(answer)
+    distinct_answer(alloc, channel, table, &distinct, status_only)
 }

@@ -43,8 +43,7 @@ fn add_kind(
         return Ok(());
     };
     let wanted = is_kind(kind, task);
-    tally.add_if(alloc, wanted, &task.id)?;
-    Ok(())
+    tally.add_if(alloc, wanted, &task.id)
 }
 
 /// The ids of all records of a kind, by number.

@@ -8,6 +8,7 @@ ghost use Rattle.jupyter_header.specs.Comma.{comma};
 ghost use Rattle.hub_queries.specs.Tallies.{tallied};
 
 use cluster_types::text::Text;
+use jupyter_header::contents::push_comma;
 use jupyter_header::write::quoted;
 use std::alloc::{AllocError, Global};
 use std::marker::Model;
@@ -29,25 +30,13 @@ impl Model for Tally {
     ghost view = { λ t. record { verbose = t.verbose; count = t.count; listed = string_bytes t.listed } };
 }
 
-/// Appends the comma that stands before the item at a place.
-pub fn push_comma(text: &mut String, place: usize) -> Result<(), AllocError>
-    ensures { OnOk result (string_bytes text.new ≡ string_bytes text.old ++ comma place) }
-{
-    if place == 0 {
-        return Ok(());
-    }
-    text.push_str(",")?;
-    Ok(())
-}
-
 /// Appends the id at a place of a list.
 fn push_id(text: &mut String, alloc: Global, place: usize, id: &Text) -> Result<(), AllocError>
     ensures { OnOk result (string_bytes text.new ≡ string_bytes text.old ++ (comma place ++ quoted id.now)) }
 {
     push_comma(text, place)?;
     let quoted = quoted(alloc, id.as_str())?;
-    text.push_str(quoted.as_str())?;
-    Ok(())
+    text.push_str(quoted.as_str())
 }
 
 impl Tally {

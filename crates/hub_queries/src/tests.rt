@@ -9,23 +9,15 @@ use crate::limits::limited;
 use cluster_defs::answer::Answer;
 use cluster_types::config::Channel;
 use cluster_types::event::Query;
-use cluster_types::message::{Engines, Ids, Message};
 use cluster_types::octets::Octets;
 use cluster_types::record::Record;
 use cluster_types::sequence::Sequence;
+use cluster_types::shared_message::SharedMessage;
 use cluster_types::text::Text;
 use cluster_types::verdict::{Cause, Verdict};
 use std::alloc::{AllocError, Global};
 use std::test::Fail;
 use task_lookup::list::RecordList;
-
-fn ids(alloc: Global, names: &[&str]) -> Result<Ids, AllocError> {
-    let mut list = Sequence::new(alloc);
-    for name in names {
-        list.push(Text::new(alloc, name)?)?;
-    }
-    Ok(list)
-}
 
 fn buffer(alloc: Global) -> Result<Sequence<Octets>, AllocError> {
     let mut list = Sequence::new(alloc);
@@ -33,15 +25,16 @@ fn buffer(alloc: Global) -> Result<Sequence<Octets>, AllocError> {
     Ok(list)
 }
 
-fn outcome(alloc: Global) -> Result<Message, AllocError> {
-    Ok(Message {
-        target: Octets::new(alloc, b"")?,
-        header: Octets::new(alloc, b"{}")?,
-        parent: Octets::new(alloc, b"{}")?,
-        metadata: Octets::new(alloc, b"{}")?,
-        content: Octets::new(alloc, b"{\"status\":\"ok\"}")?,
-        buffers: buffer(alloc)?,
-    })
+fn outcome(alloc: Global) -> Result<SharedMessage, AllocError> {
+    SharedMessage::new(
+        alloc,
+        b"",
+        b"{}",
+        b"{}",
+        b"{}",
+        b"{\"status\":\"ok\"}",
+        buffer(alloc)?,
+    )
 }
 
 fn settled(alloc: Global, name: &str, number: u64) -> Result<Record, AllocError> {
@@ -92,12 +85,6 @@ fn live(alloc: Global) -> Result<LiveEngines, AllocError>
     Ok(list)
 }
 
-fn engines(alloc: Global, number: u32) -> Result<Engines, AllocError> {
-    let mut list = Sequence::new(alloc);
-    list.push(number)?;
-    Ok(list)
-}
-
 /// What the hub answers.
 fn asked(alloc: Global, query: &Query) -> Result<Answer, AllocError> {
     let table = table(alloc)?;
@@ -112,111 +99,27 @@ fn says(answer: &Answer, text: &str) -> bool {
     answer.content.as_slice() == text.as_bytes()
 }
 
-#[test]
-fn connection(rt: HostRuntime) -> Result<(), Fail> {
-    let told = asked(rt.alloc(), &Query::Connection)?;
-    assert!(rt; says(&told, "{\"status\":\"ok\",\"engines\":{\"1\":\"e1\"}}"));
-    Ok(())
+/// Whether the hub answers a query with this content.
+fn is_told(alloc: Global, query: Query, text: &str) -> Result<bool, AllocError> {
+    Ok(says(&asked(alloc, &query)?, text))
 }
 
-#[test]
-fn history(rt: HostRuntime) -> Result<(), Fail> {
-    let told = asked(rt.alloc(), &Query::History)?;
-    assert!(rt; says(&told, "{\"status\":\"ok\",\"history\":[\"a\",\"b\",\"c\"]}"));
-    Ok(())
+/// A query for the queues of one engine, or of all.
+fn queue(alloc: Global, engine: Option<u32>, verbose: bool) -> Result<Query, AllocError> {
+    let mut targets = Sequence::new(alloc);
+    if let Some(number) = engine {
+        targets.push(number)?;
+    }
+    Ok(Query::Queue { targets, verbose })
 }
 
-#[test]
-fn engine_that_is_not_live(rt: HostRuntime) -> Result<(), Fail> {
-    let alloc = rt.alloc();
-    let query = Query::Queue {
-        targets: engines(alloc, 7)?,
-        verbose: false,
-    };
-    let told = asked(alloc, &query)?;
-    let text =
-        "{\"status\":\"error\",\"ename\":\"NoSuchEngine\",\"evalue\":\"7\",\"traceback\":[],\"ids\":[]}";
-    assert!(rt; says(&told, text));
-    Ok(())
-}
-
-#[test]
-fn numbers_of_tasks(rt: HostRuntime) -> Result<(), Fail> {
-    let alloc = rt.alloc();
-    let query = Query::Queue {
-        targets: Sequence::new(alloc),
-        verbose: false,
-    };
-    let told = asked(alloc, &query)?;
-    let text =
-        "{\"status\":\"ok\",\"unassigned\":1,\"1\":{\"queue\":0,\"completed\":0,\"tasks\":1}}";
-    assert!(rt; says(&told, text));
-    Ok(())
-}
-
-#[test]
-fn lists_of_tasks(rt: HostRuntime) -> Result<(), Fail> {
-    let alloc = rt.alloc();
-    let query = Query::Queue {
-        targets: engines(alloc, 1)?,
-        verbose: true,
-    };
-    let told = asked(alloc, &query)?;
-    let text =
-        "{\"status\":\"ok\",\"unassigned\":[\"c\"],\"1\":{\"queue\":[],\"completed\":[],\"tasks\":[\"b\"]}}";
-    assert!(rt; says(&told, text));
-    Ok(())
-}
-
-#[test]
-fn pending_result(rt: HostRuntime) -> Result<(), Fail> {
-    let alloc = rt.alloc();
-    let query = Query::Result {
-        ids: ids(alloc, &["b"])?,
-        status_only: false,
-    };
-    let told = asked(alloc, &query)?;
-    let text = "{\"status\":\"ok\",\"pending\":[\"b\"],\"completed\":[],\"results\":{}}";
-    assert!(rt; says(&told, text));
-    Ok(())
-}
-
-#[test]
-fn completed_result(rt: HostRuntime) -> Result<(), Fail> {
-    let alloc = rt.alloc();
-    let query = Query::Result {
-        ids: ids(alloc, &["a", "a"])?,
-        status_only: false,
-    };
-    let told = asked(alloc, &query)?;
-    let text =
-        "{\"status\":\"ok\",\"pending\":[],\"completed\":[\"a\"],\"results\":{\"a\":{\"engine\":0,\"verdict\":\"completed\",\"cause\":\"Reply\",\"header\":{},\"metadata\":{},\"content\":{\"status\":\"ok\"},\"buffers\":1}}}";
-    assert!(rt; says(&told, text));
-    assert_eq!(rt; told.buffers.len(), 1);
-    Ok(())
-}
-
-#[test]
-fn unknown_ids(rt: HostRuntime) -> Result<(), Fail> {
-    let alloc = rt.alloc();
-    let query = Query::Result {
-        ids: ids(alloc, &["z", "a"])?,
-        status_only: true,
-    };
-    let told = asked(alloc, &query)?;
-    let text =
-        "{\"status\":\"error\",\"ename\":\"UnknownIds\",\"evalue\":\"\",\"traceback\":[],\"ids\":[\"z\"]}";
-    assert!(rt; says(&told, text));
-    Ok(())
-}
-
-#[test]
-fn unknown_request(rt: HostRuntime) -> Result<(), Fail> {
-    let told = asked(rt.alloc(), &Query::Unknown)?;
-    let text =
-        "{\"status\":\"error\",\"ename\":\"UnknownRequest\",\"evalue\":\"x_request\",\"traceback\":[],\"ids\":[]}";
-    assert!(rt; says(&told, text));
-    Ok(())
+/// A query for results.
+fn result(alloc: Global, names: &[&str], status_only: bool) -> Result<Query, AllocError> {
+    let mut ids = Sequence::new(alloc);
+    for name in names {
+        ids.push(Text::new(alloc, name)?)?;
+    }
+    Ok(Query::Result { ids, status_only })
 }
 
 /// An answer with so many empty buffers.
@@ -232,13 +135,71 @@ fn with_buffers(alloc: Global, count: usize) -> Result<Answer, AllocError> {
 }
 
 #[test]
+fn engines_and_tasks(rt: HostRuntime) -> Result<(), Fail> {
+    let alloc = rt.alloc();
+    let text = "{\"status\":\"ok\",\"engines\":{\"1\":\"e1\"}}";
+    assert!(rt; is_told(alloc, Query::Connection, text)?);
+    let text = "{\"status\":\"ok\",\"history\":[\"a\",\"b\",\"c\"]}";
+    assert!(rt; is_told(alloc, Query::History, text)?);
+    let text =
+        "{\"status\":\"error\",\"ename\":\"UnknownRequest\",\"evalue\":\"x_request\",\"traceback\":[],\"ids\":[]}";
+    assert!(rt; is_told(alloc, Query::Unknown, text)?);
+    Ok(())
+}
+
+#[test]
+fn queues(rt: HostRuntime) -> Result<(), Fail> {
+    let alloc = rt.alloc();
+    for (engine, verbose, text) in [
+        (
+            Some(7),
+            false,
+            "{\"status\":\"error\",\"ename\":\"NoSuchEngine\",\"evalue\":\"7\",\"traceback\":[],\"ids\":[]}",
+        ),
+        (
+            None,
+            false,
+            "{\"status\":\"ok\",\"unassigned\":1,\"1\":{\"queue\":0,\"completed\":0,\"tasks\":1}}",
+        ),
+        (
+            Some(1),
+            true,
+            "{\"status\":\"ok\",\"unassigned\":[\"c\"],\"1\":{\"queue\":[],\"completed\":[],\"tasks\":[\"b\"]}}",
+        ),
+    ] {
+        let query = queue(alloc, engine, verbose)?;
+        assert!(rt; is_told(alloc, query, text)?, "at {text}");
+    }
+    Ok(())
+}
+
+#[test]
+fn results(rt: HostRuntime) -> Result<(), Fail> {
+    let alloc = rt.alloc();
+    let text = "{\"status\":\"ok\",\"pending\":[\"b\"],\"completed\":[],\"results\":{}}";
+    assert!(rt; is_told(alloc, result(alloc, &["b"], false)?, text)?);
+    let text =
+        "{\"status\":\"error\",\"ename\":\"UnknownIds\",\"evalue\":\"\",\"traceback\":[],\"ids\":[\"z\"]}";
+    assert!(rt; is_told(alloc, result(alloc, &["z", "a"], true)?, text)?);
+    let told = asked(alloc, &result(alloc, &["a", "a"], false)?)?;
+    let text =
+        "{\"status\":\"ok\",\"pending\":[],\"completed\":[\"a\"],\"results\":{\"a\":{\"engine\":0,\"verdict\":\"completed\",\"cause\":\"Reply\",\"header\":{},\"metadata\":{},\"content\":{\"status\":\"ok\"},\"buffers\":1}}}";
+    assert!(rt; says(&told, text) && told.buffers.len() == 1);
+    Ok(())
+}
+
+#[test]
 fn buffers_at_the_limit(rt: HostRuntime) -> Result<(), Fail> {
     let alloc = rt.alloc();
-    let within = limited(alloc, Channel::Hub, with_buffers(alloc, 58)?)?;
-    assert!(rt; says(&within, "{}"));
-    let past = limited(alloc, Channel::Hub, with_buffers(alloc, 59)?)?;
-    let text =
-        "{\"status\":\"error\",\"ename\":\"ReplyTooLong\",\"evalue\":\"\",\"traceback\":[],\"ids\":[]}";
-    assert!(rt; says(&past, text));
+    for (count, text) in [
+        (58, "{}"),
+        (
+            59,
+            "{\"status\":\"error\",\"ename\":\"ReplyTooLong\",\"evalue\":\"\",\"traceback\":[],\"ids\":[]}",
+        ),
+    ] {
+        let told = limited(alloc, Channel::Hub, with_buffers(alloc, count)?)?;
+        assert!(rt; says(&told, text));
+    }
     Ok(())
 }

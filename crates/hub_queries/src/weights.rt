@@ -5,9 +5,11 @@ ghost use Rattle.std.specs.Option.{option_copied, option_and_then, option_to_lis
 ghost use Rattle.cluster_defs.specs.RecordAnswers.{left_in, all_left};
 ghost use Rattle.hub_queries.specs.Weights.{measure, weight, is_heavy};
 
-use crate::limits::{MOST_BUFFERS, MOST_CONTENT, MOST_OCTETS, octets_of};
-use cluster_types::message::{Ids, Message};
+use crate::limits::{MOST_OCTETS, octets_of};
+use cluster_types::limits::{BODY_OCTETS, MOST_BUFFERS};
+use cluster_types::message::Ids;
 use cluster_types::record::{Record, Records};
+use cluster_types::shared_message::SharedMessage;
 
 /// What is measured of an outcome.
 #[derive(Clone, Copy, Debug, PartialEq, Eq)]
@@ -21,23 +23,23 @@ pub enum Measure {
 }
 
 /// The octets that an outcome has in a content.
-fn text_of(outcome: &Message) -> usize
+fn text_of(outcome: &SharedMessage) -> usize
     ensures { result ≡ min (measure Measure.Text outcome.now) (2 ^ 64 - 1) }
 {
-    let header = outcome.header.as_slice().len();
-    let metadata = outcome.metadata.as_slice().len();
-    let content = outcome.content.as_slice().len();
+    let header = outcome.header().len();
+    let metadata = outcome.metadata().len();
+    let content = outcome.content().len();
     header.saturating_add(metadata).saturating_add(content)
 }
 
 /// The measure of an outcome.
-fn measured(by: Measure, outcome: &Message) -> usize
+fn measured(by: Measure, outcome: &SharedMessage) -> usize
     ensures { result ≡ min (measure by outcome.now) (2 ^ 64 - 1) }
 {
     match by {
         Measure::Text => text_of(outcome),
-        Measure::BufferCount => outcome.buffers.len(),
-        Measure::BufferOctets => octets_of(&outcome.buffers),
+        Measure::BufferCount => outcome.buffers().len(),
+        Measure::BufferOctets => octets_of(outcome.buffers()),
     }
 }
 
@@ -75,5 +77,5 @@ pub fn is_heavy<R: Records>(table: &R, ids: &Ids) -> bool
     let text = weight_of(table, Measure::Text, ids);
     let octets = weight_of(table, Measure::BufferOctets, ids);
     let count = weight_of(table, Measure::BufferCount, ids);
-    text > MOST_CONTENT || octets > MOST_OCTETS || count > MOST_BUFFERS
+    text as u64 > BODY_OCTETS || octets > MOST_OCTETS || count > MOST_BUFFERS
 }

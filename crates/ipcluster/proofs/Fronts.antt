@@ -1,13 +1,19 @@
 -- Fronts of what is to be written.
-use Rattle.std.proofs.Common.{◌≡◌, ℕ, ◌+◌, ◌<◌, get_or, Result, Ok, Err, List, [], ◌∷◌, ◌++◌, length, take, drop, Option, Some, None, refl, sym, ap, subst, ◌∙◌, append_assoc}
-use Rattle.std.proofs.lemmas.List.{append-nil, take-append-drop, at_drop_more}
+use Rattle.std.proofs.Common.{◌≡◌, ℕ, Result, Ok, Err, List, [], ◌∷◌, ◌++◌, take, drop, Option, Some, None, refl, sym, ap, subst, ◌∙◌, append_assoc}
+use Rattle.std.proofs.lemmas.List.{append-nil, take-append-drop}
 use Rattle.std.proofs.lemmas.List.Concat.{flat_map-append}
 use Rattle.std.specs.Result.{OnErr}
 use Rattle.edges.specs.Streams.{Added}
 use Rattle.tape.specs.declared.record.TapeRecord.{TapeRecord}
-use Rattle.tape.specs.Spelling.{spelled, written}
+use Rattle.tape.specs.Spelling.{spelled, all_spelled}
 use Rattle.tape_drive.specs.Drive.{Stand, served, outs, outputs, stand_at}
-use Rattle.ipcluster.specs.Written.{WroteFront, Sent}
+use Rattle.ipcluster.specs.Written.{WroteFront}
+
+-- of a whole, a part was written, and the rest is still to come
+pub record Sent (whole : List ℕ) (before now : Option (List ℕ)) (rest : List ℕ) : Type 0 where
+  pub front : List ℕ
+  pub parts : whole ≡ front ++ rest
+  pub added : Added front before now
 
 pub added_none : (w : Option (List ℕ)) → Added [] w w
 added_none None = refl
@@ -53,10 +59,6 @@ sent_all {whole = whole} {u = u} {v = v} s none =
     let e : whole ≡ s.front = s.parts ∙ ap (λ (xs : List ℕ). s.front ++ xs) none ∙ append-nil s.front in
     subst (λ (xs : List ℕ). Added xs u v) (sym e) s.added
 
--- what one entry writes, and the entries after it
-pub written_cons : (key : List ℕ) (h : Stand) (e : TapeRecord) (es : List TapeRecord) → written (outputs key h (e ∷ es)) ≡ written (outs key h e) ++ written (outputs key (served key h e) es)
-written_cons key h e es = flat_map-append spelled (outs key h e) (outputs key (served key h e) es)
-
 pub outputs_append : (key : List ℕ) (h : Stand) (xs ys : List TapeRecord) → outputs key h (xs ++ ys) ≡ outputs key h xs ++ outputs key (stand_at key h xs) ys
 outputs_append key h [] ys = refl
 outputs_append key h (x ∷ xs) ys = ap (λ (es : List TapeRecord). outs key h x ++ es) (outputs_append key (served key h x) xs ys) ∙ sym (append_assoc (outs key h x) (outputs key (served key h x) xs) (outputs key (stand_at key (served key h x) xs) ys))
@@ -65,24 +67,8 @@ pub stand_append : (key : List ℕ) (h : Stand) (xs ys : List TapeRecord) → st
 stand_append key h [] ys = refl
 stand_append key h (x ∷ xs) ys = stand_append key (served key h x) xs ys
 
-pub written_append : (key : List ℕ) (h : Stand) (xs ys : List TapeRecord) → written (outputs key h (xs ++ ys)) ≡ written (outputs key h xs) ++ written (outputs key (stand_at key h xs) ys)
-written_append key h xs ys = ap written (outputs_append key h xs ys) ∙ flat_map-append spelled (outputs key h xs) (outputs key (stand_at key h xs) ys)
-
--- a loop over entries goes on by one
-pub step_written : (key : List ℕ) (h new : Stand) (list : List TapeRecord) (i : ℕ) (e : TapeRecord) → i < length list → e ≡ get_or list i e → new ≡ served key h e
-    → written (outputs key h (drop i list)) ≡ written (outs key h e) ++ written (outputs key new (drop (i + 1) list))
-step_written key h new list i e lt is now =
-    at_drop_more (λ (es : List TapeRecord). written (outputs key h es)) list i e lt
-    ∙ ap (λ (x : TapeRecord). written (outputs key h (x ∷ drop (i + 1) list))) (sym is)
-    ∙ written_cons key h e (drop (i + 1) list)
-    ∙ ap (λ (k : Stand). written (outs key h e) ++ written (outputs key k (drop (i + 1) list))) (sym now)
-
-pub step_stand : (key : List ℕ) (h new : Stand) (list : List TapeRecord) (i : ℕ) (e : TapeRecord) → i < length list → e ≡ get_or list i e → new ≡ served key h e
-    → stand_at key new (drop (i + 1) list) ≡ stand_at key h (drop i list)
-step_stand key h new list i e lt is now =
-    ap (λ (k : Stand). stand_at key k (drop (i + 1) list)) now
-    ∙ sym (ap (λ (x : TapeRecord). stand_at key h (x ∷ drop (i + 1) list)) (sym is))
-    ∙ sym (at_drop_more (stand_at key h) list i e lt)
+pub written_append : (key : List ℕ) (h : Stand) (xs ys : List TapeRecord) → all_spelled (outputs key h (xs ++ ys)) ≡ all_spelled (outputs key h xs) ++ all_spelled (outputs key (stand_at key h xs) ys)
+written_append key h xs ys = ap all_spelled (outputs_append key h xs ys) ∙ flat_map-append spelled (outputs key h xs) (outputs key (stand_at key h xs) ys)
 
 pub at_err : {T E Q : Type 0} (r : Result T E) → Q → OnErr r Q
 at_err (Ok x) q = tt

@@ -3,21 +3,21 @@ use Rattle.std.proofs.Common.{◌≡◌, ℕ, true, List, [], ◌∷◌, ◌++�
 use Rattle.std.specs.Prelude.{option_map}
 use Rattle.edges.specs.Streams.{Added, Took, IsAtEnd}
 use Rattle.tape.specs.declared.record.TapeRecord.{TapeRecord}
-use Rattle.tape.specs.Tape.{Tape, blank, after, records, fault}
-use Rattle.tape.specs.Spelling.{written}
+use Rattle.tape.specs.Tape.{Tape, blank, tape_after, records, fault}
+use Rattle.tape.specs.Spelling.{all_spelled}
 use Rattle.tape.proofs.Chunk.{after_append, records_append, stays}
 use Rattle.tape_drive.specs.Drive.{Stand, served, served_from, outs, outs_from_stand, outputs, stand_at, first_of, drive_stand, drive_output, drive_fault}
 use Rattle.command_words.specs.declared.ending.Ending.TheVariants.{Done, BadTape}
-use Rattle.ipcluster.specs.Written.{WroteFront, Sent, Ended}
-use Rattle.ipcluster.proofs.Fronts.{sent_none, sent_more, sent_front, sent_stop, sent_all, written_append, stand_append}
+use Rattle.ipcluster.specs.Written.{WroteFront, Ended}
+use Rattle.ipcluster.proofs.Fronts.{Sent, sent_none, sent_more, sent_front, sent_stop, sent_all, written_append, stand_append}
 
 -- so far: what is left of the input gives, from here on, what is still to come
 pub record Going (key : List ℕ) (begin : Stand) (octets : List ℕ) (before now : Option (List ℕ)) (left : Option (List ℕ)) (tape : Tape) (stand : Stand) : Type 0 where
   pub more : List ℕ
   pub left_is : left ≡ Some more
-  pub tape_is : after tape more ≡ after blank octets
+  pub tape_is : tape_after tape more ≡ tape_after blank octets
   pub stand_is : stand_at key stand (records tape more) ≡ drive_stand key begin octets
-  pub sent : Sent (drive_output key begin octets) before now (written (outputs key stand (records tape more)))
+  pub sent : Sent (drive_output key begin octets) before now (all_spelled (outputs key stand (records tape more)))
 
 pub going_starts : (key : List ℕ) (begin : Stand) (octets : List ℕ) (w : Option (List ℕ)) (left : Option (List ℕ)) → left ≡ Some octets → Going key begin octets w w left blank begin
 going_starts key begin octets w left e = record { more = octets; left_is = e; tape_is = refl; stand_is = refl; sent = sent_none (drive_output key begin octets) w }
@@ -30,41 +30,41 @@ taken_off : (piece more : List ℕ) (left : Option (List ℕ)) → Some more ≡
 taken_off piece more None e = absurd cc
 taken_off piece more (Some rest) e = (rest, refl, some_is more (piece ++ rest) e)
 
-module_piece : (key : List ℕ) (stand : Stand) (tape : Tape) (piece rest : List ℕ) → written (outputs key stand (records tape (piece ++ rest))) ≡ written (outputs key stand (records tape piece)) ++ written (outputs key (stand_at key stand (records tape piece)) (records (after tape piece) rest))
+module_piece : (key : List ℕ) (stand : Stand) (tape : Tape) (piece rest : List ℕ) → all_spelled (outputs key stand (records tape (piece ++ rest))) ≡ all_spelled (outputs key stand (records tape piece)) ++ all_spelled (outputs key (stand_at key stand (records tape piece)) (records (tape_after tape piece) rest))
 module_piece key stand tape piece rest =
-    ap (λ (es : List TapeRecord). written (outputs key stand es)) (records_append tape piece rest) ∙ written_append key stand (records tape piece) (records (after tape piece) rest)
+    ap (λ (es : List TapeRecord). all_spelled (outputs key stand es)) (records_append tape piece rest) ∙ written_append key stand (records tape piece) (records (tape_after tape piece) rest)
 
 pub going_on : {key : List ℕ} {begin : Stand} {octets : List ℕ} {before now left : Option (List ℕ)} {tape : Tape} {stand : Stand} → Going key begin octets before now left tape stand
-    → (piece : List ℕ) (left' now' : Option (List ℕ)) (tape' : Tape) (stand' : Stand) → Took piece left left' → tape' ≡ after tape piece → stand' ≡ stand_at key stand (records tape piece)
-    → Added (written (outputs key stand (records tape piece))) now now' → Going key begin octets before now' left' tape' stand'
+    → (piece : List ℕ) (left' now' : Option (List ℕ)) (tape' : Tape) (stand' : Stand) → Took piece left left' → tape' ≡ tape_after tape piece → stand' ≡ stand_at key stand (records tape piece)
+    → Added (all_spelled (outputs key stand (records tape piece))) now now' → Going key begin octets before now' left' tape' stand'
 going_on {key = key} {begin = begin} {octets = octets} {before = before} {left = left} {tape = tape} {stand = stand} g piece left' now' tape' stand' took tape-is stand-is added =
     let t = taken_off piece g.more left' (sym g.left_is ∙ took) in
     let rest = t.0 in
-    let sent' : Sent (drive_output key begin octets) before now' (written (outputs key (stand_at key stand (records tape piece)) (records (after tape piece) rest)))
-    = sent_more g.sent (written (outputs key stand (records tape piece))) (written (outputs key (stand_at key stand (records tape piece)) (records (after tape piece) rest))) now' (ap (λ (xs : List ℕ). written (outputs key stand (records tape xs))) t.2 ∙ module_piece key stand tape piece rest) added in
+    let sent' : Sent (drive_output key begin octets) before now' (all_spelled (outputs key (stand_at key stand (records tape piece)) (records (tape_after tape piece) rest)))
+    = sent_more g.sent (all_spelled (outputs key stand (records tape piece))) (all_spelled (outputs key (stand_at key stand (records tape piece)) (records (tape_after tape piece) rest))) now' (ap (λ (xs : List ℕ). all_spelled (outputs key stand (records tape xs))) t.2 ∙ module_piece key stand tape piece rest) added in
     record {
       more = rest;
       left_is = t.1;
-      tape_is = ap (λ (u : Tape). after u rest) tape-is ∙ sym (after_append tape piece rest) ∙ ap (after tape) (sym t.2) ∙ g.tape_is;
-      stand_is = ap (λ (u : Tape). stand_at key stand' (records u rest)) tape-is ∙ ap (λ (k : Stand). stand_at key k (records (after tape piece) rest)) stand-is
-          ∙ sym (stand_append key stand (records tape piece) (records (after tape piece) rest)) ∙ ap (stand_at key stand) (sym (records_append tape piece rest)) ∙ ap (λ (xs : List ℕ). stand_at key stand (records tape xs)) (sym t.2) ∙ g.stand_is;
-      sent = subst (λ (u : Tape). Sent (drive_output key begin octets) before now' (written (outputs key stand' (records u rest)))) (sym tape-is)
-          (subst (λ (k : Stand). Sent (drive_output key begin octets) before now' (written (outputs key k (records (after tape piece) rest)))) (sym stand-is) sent');
+      tape_is = ap (λ (u : Tape). tape_after u rest) tape-is ∙ sym (after_append tape piece rest) ∙ ap (tape_after tape) (sym t.2) ∙ g.tape_is;
+      stand_is = ap (λ (u : Tape). stand_at key stand' (records u rest)) tape-is ∙ ap (λ (k : Stand). stand_at key k (records (tape_after tape piece) rest)) stand-is
+          ∙ sym (stand_append key stand (records tape piece) (records (tape_after tape piece) rest)) ∙ ap (stand_at key stand) (sym (records_append tape piece rest)) ∙ ap (λ (xs : List ℕ). stand_at key stand (records tape xs)) (sym t.2) ∙ g.stand_is;
+      sent = subst (λ (u : Tape). Sent (drive_output key begin octets) before now' (all_spelled (outputs key stand' (records u rest)))) (sym tape-is)
+          (subst (λ (k : Stand). Sent (drive_output key begin octets) before now' (all_spelled (outputs key k (records (tape_after tape piece) rest)))) (sym stand-is) sent');
     }
 
 pub going_front : {key : List ℕ} {begin : Stand} {octets : List ℕ} {before now left : Option (List ℕ)} {tape : Tape} {stand : Stand} → Going key begin octets before now left tape stand
-    → (piece : List ℕ) (left' now' : Option (List ℕ)) → Took piece left left' → WroteFront (written (outputs key stand (records tape piece))) now now' → WroteFront (drive_output key begin octets) before now'
+    → (piece : List ℕ) (left' now' : Option (List ℕ)) → Took piece left left' → WroteFront (all_spelled (outputs key stand (records tape piece))) now now' → WroteFront (drive_output key begin octets) before now'
 going_front {key = key} {tape = tape} {stand = stand} g piece left' now' took front =
     let t = taken_off piece g.more left' (sym g.left_is ∙ took) in
-    sent_front g.sent (written (outputs key stand (records tape piece))) (written (outputs key (stand_at key stand (records tape piece)) (records (after tape piece) t.0))) now'
-    (ap (λ (xs : List ℕ). written (outputs key stand (records tape xs))) t.2 ∙ module_piece key stand tape piece t.0) front
+    sent_front g.sent (all_spelled (outputs key stand (records tape piece))) (all_spelled (outputs key (stand_at key stand (records tape piece)) (records (tape_after tape piece) t.0))) now'
+    (ap (λ (xs : List ℕ). all_spelled (outputs key stand (records tape xs))) t.2 ∙ module_piece key stand tape piece t.0) front
 
 pub going_stops : {key : List ℕ} {begin : Stand} {octets : List ℕ} {before now left : Option (List ℕ)} {tape : Tape} {stand : Stand} → Going key begin octets before now left tape stand → WroteFront (drive_output key begin octets) before now
 going_stops g = sent_stop g.sent
 
 -- nothing more changes the tape: the input is at its end, or a record does not stand
 pub record Over (key : List ℕ) (begin : Stand) (octets : List ℕ) (before now : Option (List ℕ)) (tape : Tape) (stand : Stand) : Type 0 where
-  pub place : fault (after blank octets) ≡ fault tape
+  pub place : fault (tape_after blank octets) ≡ fault tape
   pub stand_is : stand ≡ drive_stand key begin octets
   pub added : Added (drive_output key begin octets) before now
 
@@ -72,9 +72,9 @@ pub going_ends : {key : List ℕ} {begin : Stand} {octets : List ℕ} {before no
 going_ends {key = key} {tape = tape} {stand = stand} g end =
     let none : g.more ≡ [] = end g.more g.left_is in
     record {
-      place = ap fault (sym g.tape_is ∙ ap (after tape) none);
+      place = ap fault (sym g.tape_is ∙ ap (tape_after tape) none);
       stand_is = sym (ap (λ (xs : List ℕ). stand_at key stand (records tape xs)) none) ∙ g.stand_is;
-      added = sent_all g.sent (ap (λ (xs : List ℕ). written (outputs key stand (records tape xs))) none);
+      added = sent_all g.sent (ap (λ (xs : List ℕ). all_spelled (outputs key stand (records tape xs))) none);
     }
 
 pub going_bad : {key : List ℕ} {begin : Stand} {octets : List ℕ} {before now left : Option (List ℕ)} {tape : Tape} {stand : Stand} → Going key begin octets before now left tape stand → tape.ended ≡ true → Over key begin octets before now tape stand
@@ -83,7 +83,7 @@ going_bad {key = key} {tape = tape} {stand = stand} g bad =
     record {
       place = ap fault (sym g.tape_is ∙ s.tape);
       stand_is = sym (ap (stand_at key stand) s.list) ∙ g.stand_is;
-      added = sent_all g.sent (ap (λ (es : List TapeRecord). written (outputs key stand es)) s.list);
+      added = sent_all g.sent (ap (λ (es : List TapeRecord). all_spelled (outputs key stand es)) s.list);
     }
 
 -- a drive that has stopped stays where it is, and sends nothing more
@@ -108,14 +108,14 @@ pub ends_stopped : {key : List ℕ} {begin : Stand} {octets : List ℕ} {before 
     → (place : ℕ) → stand.stop ≡ Some place → Ended (BadTape place) (drive_output key begin octets) (drive_fault key begin octets) before now
 ends_stopped {key = key} {begin = begin} {octets = octets} {tape = tape} {stand = stand} g place off =
     let same : stand ≡ drive_stand key begin octets = sym (stopped_stays key stand (records tape g.more) place off) ∙ g.stand_is in (
-      sent_all g.sent (ap written (stopped_silent key stand (records tape g.more) place off)),
-      ap (λ (o : Option ℕ). first_of o (fault (after blank octets))) (ap (λ (s : Stand). s.stop) (sym same) ∙ off),
+      sent_all g.sent (ap all_spelled (stopped_silent key stand (records tape g.more) place off)),
+      ap (λ (o : Option ℕ). first_of o (fault (tape_after blank octets))) (ap (λ (s : Stand). s.stop) (sym same) ∙ off),
     )
 
 fault_over : {key : List ℕ} {begin : Stand} {octets : List ℕ} {before now : Option (List ℕ)} {tape : Tape} {stand : Stand} → Over key begin octets before now tape stand
     → stand.stop ≡ None → drive_fault key begin octets ≡ fault tape
 fault_over {key = key} {begin = begin} {octets = octets} {stand = stand} o goes =
-    ap (λ (p : Option ℕ). first_of p (fault (after blank octets))) (ap (λ (s : Stand). s.stop) (sym o.stand_is) ∙ goes) ∙ o.place
+    ap (λ (p : Option ℕ). first_of p (fault (tape_after blank octets))) (ap (λ (s : Stand). s.stop) (sym o.stand_is) ∙ goes) ∙ o.place
 
 -- no whole record stands at a place
 pub ends_bad : {key : List ℕ} {begin : Stand} {octets : List ℕ} {before now : Option (List ℕ)} {tape : Tape} {stand : Stand} → Over key begin octets before now tape stand

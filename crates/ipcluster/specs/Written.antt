@@ -1,6 +1,6 @@
 -- What was written of what is to be written.
 use Rattle.std.specs.Prelude.{◌≡◌, ℕ, List, ◌++◌, Option, Some, None, ◌⊎◌}
-use Rattle.edges.specs.Causes.{Rose}
+use Rattle.cluster_types.specs.Causes.{Rose}
 use Rattle.edges.specs.Streams.{Added}
 use Rattle.command_words.specs.declared.ending.Ending.{Ending}
 use Rattle.command_words.specs.declared.ending.Ending.TheVariants.{Done, BadTape}
@@ -19,12 +19,6 @@ Said text before now faults later = Added text before now ⊎ (WroteFront text b
 -- a fact of what a source had left, where it tells
 abbrev pub Told : Option (List ℕ) → (List ℕ → Type 0) → Type 0
 Told left P = (octets : List ℕ) → left ≡ Some octets → P octets
-
--- of a whole, a part was written, and the rest is still to come
-pub record Sent (whole : List ℕ) (before now : Option (List ℕ)) (rest : List ℕ) : Type 0 where
-  pub front : List ℕ
-  pub parts : whole ≡ front ++ rest
-  pub added : Added front before now
 
 -- where the input was served to its end or up to its fault, all of the output was written
 abbrev pub Ended : Ending → (output : List ℕ) → (fault : Option ℕ) → (before now : Option (List ℕ)) → Type 0

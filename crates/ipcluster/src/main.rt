@@ -49,7 +49,7 @@ fn words_of(rt: &HostRuntime) -> Result<WordList, WordsError> {
     let mut args = env::args(rt)?;
     let _program = args.next();
     for arg in args {
-        words.push(Text::from_string(arg))?;
+        words.push(Text::from_string(arg)?)?;
     }
     Ok(words)
 }

@@ -1,7 +1,7 @@
 //! The top call.
 
 ghost use Rattle.std.specs.Prelude.{◌≡◌, ◌⊎◌, ℕ, None, Some, Err, IsSomeAnd, IfSome};
-ghost use Rattle.edges.specs.Causes.{Rose};
+ghost use Rattle.cluster_types.specs.Causes.{Rose};
 ghost use Rattle.edges.specs.Streams.{Added, IsAtEnd};
 ghost use Rattle.command_words.specs.Lines.{line};
 ghost use Rattle.command_words.specs.Reading.{reading};

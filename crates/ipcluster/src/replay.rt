@@ -1,11 +1,11 @@
 //! Serving a tape while it is read.
 
 ghost use Rattle.std.specs.Prelude.{◌≡◌, ◌≢◌, ◌≤◌, None, OnOk, OnErr, Err};
-ghost use Rattle.edges.specs.Causes.{Rose};
+ghost use Rattle.cluster_types.specs.Causes.{Rose};
 ghost use Rattle.edges.specs.Streams.{Added, IsAtEnd};
-ghost use Rattle.tape.specs.Spelling.{written};
-ghost use Rattle.tape.specs.Tape.{after, records};
-ghost use Rattle.tape_drive.specs.Drive.{served, outs, outputs, stand_at, drive_output, drive_fault};
+ghost use Rattle.tape.specs.Spelling.{all_spelled};
+ghost use Rattle.tape.specs.Tape.{tape_after, records};
+ghost use Rattle.tape_drive.specs.Drive.{outputs, stand_at, drive_output, drive_fault};
 ghost use Rattle.ipcluster.specs.Program.{begin_of};
 ghost use Rattle.ipcluster.specs.Written.{WroteFront, Told, Ended};
 
@@ -18,7 +18,6 @@ use hmac_sign::Key;
 use load_schemes::chooser::Chooser;
 use std::alloc::{AllocError, Global};
 use tape::reader::TapeReader;
-use tape::record::TapeRecord;
 use tape_drive::drive::Drive;
 
 /// The most octets that are read at once.
@@ -55,46 +54,7 @@ fn put<K: Sink>(output: &mut K, octets: &[u8]) -> Result<(), ServeError>
     }
 }
 
-/// Serves a record, and writes what is sent.
-fn serve_one<K: Sink>(
-    drive: &mut Drive,
-    key: &Key,
-    chooser: &Chooser,
-    item: &TapeRecord,
-    output: &mut K,
-) -> Result<(), ServeError>
-    ensures stand { OnOk result (drive.new ≡ served key.now drive.old item.now) }
-    ensures ok { OnOk result (Added (written (outs key.now drive.old item.now)) (K.written output.old) (K.written output.new)) }
-    ensures err { OnErr result (WroteFront (written (outs key.now drive.old item.now)) (K.written output.old) (K.written output.new)) }
-    ensures cause { result ≡ Err ServeError.WriteFailed → Rose (K.faults output.old) (K.faults output.new) }
-    ensures later { K.faults output.old ≤ K.faults output.new }
-{
-    let text = drive.serve(key, chooser, item)?;
-    put(output, text.as_slice())?;
-    Ok(())
-}
-
-/// Serves records one after another, and writes what each sends.
-fn serve_all<K: Sink>(
-    drive: &mut Drive,
-    key: &Key,
-    chooser: &Chooser,
-    list: &[TapeRecord],
-    output: &mut K,
-) -> Result<(), ServeError>
-    ensures stand { OnOk result (drive.new ≡ stand_at key.now drive.old list.now) }
-    ensures ok { OnOk result (Added (written (outputs key.now drive.old list.now)) (K.written output.old) (K.written output.new)) }
-    ensures err { OnErr result (WroteFront (written (outputs key.now drive.old list.now)) (K.written output.old) (K.written output.new)) }
-    ensures cause { result ≡ Err ServeError.WriteFailed → Rose (K.faults output.old) (K.faults output.new) }
-    ensures later { K.faults output.old ≤ K.faults output.new }
-{
-    for item in list {
-        serve_one(drive, key, chooser, item, output)?;
-    }
-    Ok(())
-}
-
-/// Takes a piece of the tape, and serves the records that it ends.
+/// Takes a piece of the tape, serves the records that it ends, and writes what they send, at once.
 fn serve_piece<K: Sink>(
     drive: &mut Drive,
     key: &Key,
@@ -103,16 +63,16 @@ fn serve_piece<K: Sink>(
     piece: &[u8],
     output: &mut K,
 ) -> Result<(), ServeError>
-    ensures tape { OnOk result (tape.new ≡ after tape.old piece.now) }
+    ensures tape { OnOk result (tape.new ≡ tape_after tape.old piece.now) }
     ensures stand { OnOk result (drive.new ≡ stand_at key.now drive.old (records tape.old piece.now)) }
-    ensures ok { OnOk result (Added (written (outputs key.now drive.old (records tape.old piece.now))) (K.written output.old) (K.written output.new)) }
-    ensures err { OnErr result (WroteFront (written (outputs key.now drive.old (records tape.old piece.now))) (K.written output.old) (K.written output.new)) }
+    ensures ok { OnOk result (Added (all_spelled (outputs key.now drive.old (records tape.old piece.now))) (K.written output.old) (K.written output.new)) }
+    ensures err { OnErr result (WroteFront (all_spelled (outputs key.now drive.old (records tape.old piece.now))) (K.written output.old) (K.written output.new)) }
     ensures cause { result ≡ Err ServeError.WriteFailed → Rose (K.faults output.old) (K.faults output.new) }
     ensures later { K.faults output.old ≤ K.faults output.new }
 {
     let list = tape.feed(piece)?;
-    serve_all(drive, key, chooser, list.as_slice(), output)?;
-    Ok(())
+    let text = drive.serve_all(key, chooser, list.as_slice())?;
+    put(output, text.as_slice())
 }
 
 /// Reads a tape to its end or to its fault, and serves it as far as that.

@@ -27,6 +27,9 @@ const TWICE: &[u8] =
 const JOINING: &[u8] =
     b"\x01\0\0\0\0\0\0\0\0\0\0\0\0\0\0\0\0\0\0\0\x01\x03\x01\x01e\x06\0\0\0\0\0\0\0\0\0\0\0\0\0\0\0\0\0\0\0\x01\x06\0\0\0\x09<IDS|MSG>\0\0\0@d2f52e7ee3d1bb06564157fe40e43ed04a1d7379b14330f3fc557ded7a84af38\0\0\06{\"msg_id\":\"join-e0\",\"msg_type\":\"registration_request\"}\0\0\0\x02{}\0\0\0\x02{}\0\0\0\x0d{\"uuid\":\"e0\"}";
 
+/// Time passes, to moment 0.
+const TIME: &[u8] = b"\x05\0\0\0\0\0\0\0\0\0\0\0\0\0\0\0\0";
+
 /// The same on connection 2, with the identity `f`.
 const SECOND: &[u8] =
     b"\x01\0\0\0\0\0\0\0\0\0\0\0\0\0\0\0\0\0\0\0\x02\x03\x01\x01f\x06\0\0\0\0\0\0\0\0\0\0\0\0\0\0\0\0\0\0\0\x02\x06\0\0\0\x09<IDS|MSG>\0\0\0@d2f52e7ee3d1bb06564157fe40e43ed04a1d7379b14330f3fc557ded7a84af38\0\0\06{\"msg_id\":\"join-e0\",\"msg_type\":\"registration_request\"}\0\0\0\x02{}\0\0\0\x02{}\0\0\0\x0d{\"uuid\":\"e0\"}";
@@ -61,13 +64,6 @@ struct Left {
     errors: MemSink,
 }
 
-impl Left {
-    /// Whether this is the status, and this the line of the errors.
-    fn says(&self, status: u8, line: &str) -> bool {
-        self.status == status && self.errors.written() == line.as_bytes()
-    }
-}
-
 /// Does what these words ask for, on this input.
 fn run(alloc: Global, texts: &[&str], tape: &[u8], failing: &Failing) -> Result<Left, Fail> {
     let words = words(alloc, texts)?;
@@ -92,98 +88,96 @@ fn run(alloc: Global, texts: &[&str], tape: &[u8], failing: &Failing) -> Result<
 
 const REPLAY: &[&str] = &["replay", "--key", "k"];
 
+const UNREAD: &[&str] = &["replay", "--key"];
+
+/// Whether these words, on this tape, come to this status and this line of the errors, with nothing written.
+fn ends_as(
+    alloc: Global,
+    texts: &[&str],
+    tape: &[u8],
+    failing: &Failing,
+    status: u8,
+    line: &str,
+) -> Result<bool, Fail> {
+    let left = run(alloc, texts, tape, failing)?;
+    Ok(
+        left.status == status
+            && left.errors.written() == line.as_bytes()
+            && left.output.written().is_empty(),
+    )
+}
+
+const SECOND_READ: Failing = Failing {
+    reads: &[2],
+    writes: &[],
+    lines: &[],
+};
+
+const FIRST_WRITE: Failing = Failing {
+    reads: &[],
+    writes: &[1],
+    lines: &[],
+};
+
+const SECOND_WRITE: Failing = Failing {
+    reads: &[],
+    writes: &[2],
+    lines: &[],
+};
+
+const FIRST_LINE: Failing = Failing {
+    reads: &[],
+    writes: &[],
+    lines: &[1],
+};
+
 #[test]
-fn an_empty_tape(rt: HostRuntime) -> Result<(), Fail> {
-    let left = run(rt.alloc(), REPLAY, b"", &NONE)?;
-    assert!(rt; left.says(0, ""));
-    assert_eq!(rt; left.output.written().len(), 0);
+fn ends(rt: HostRuntime) -> Result<(), Fail> {
+    let alloc = rt.alloc();
+    for (texts, tape, failing, status, line) in [
+        (REPLAY, b"".as_slice(), &NONE, 0, ""),
+        (REPLAY, TORN, &NONE, 6, "ipcluster: bad tape at 25\n"),
+        (REPLAY, TWICE, &NONE, 6, "ipcluster: bad tape at 25\n"),
+        (
+            UNREAD,
+            UP,
+            &NONE,
+            2,
+            "ipcluster: the command line has no reading\n",
+        ),
+        (REPLAY, UP, &SECOND_READ, 3, "ipcluster: read fault\n"),
+        (REPLAY, JOINING, &FIRST_WRITE, 4, "ipcluster: write fault\n"),
+        (REPLAY, TORN, &FIRST_LINE, 6, ""),
+    ] {
+        assert!(rt;
+            ends_as(alloc, texts, tape, failing, status, line)?,
+            "at {line}"
+        );
+    }
     Ok(())
 }
 
 #[test]
-fn a_torn_record(rt: HostRuntime) -> Result<(), Fail> {
-    let left = run(rt.alloc(), REPLAY, TORN, &NONE)?;
-    assert!(rt; left.says(6, "ipcluster: bad tape at 25\n"));
-    assert_eq!(rt; left.output.written().len(), 0);
-    Ok(())
-}
-
-#[test]
-fn a_record_that_breaks_a_rule(rt: HostRuntime) -> Result<(), Fail> {
-    let left = run(rt.alloc(), REPLAY, TWICE, &NONE)?;
-    assert!(rt; left.says(6, "ipcluster: bad tape at 25\n"));
-    Ok(())
-}
-
-#[test]
-fn no_reading(rt: HostRuntime) -> Result<(), Fail> {
-    let left = run(rt.alloc(), &["replay", "--key"], UP, &NONE)?;
-    assert!(rt; left.says(2, "ipcluster: the command line has no reading\n"));
-    Ok(())
-}
-
-#[test]
-fn a_read_that_fails(rt: HostRuntime) -> Result<(), Fail> {
-    let failing = Failing {
-        reads: &[2],
-        writes: &[],
-        lines: &[],
-    };
-    let left = run(rt.alloc(), REPLAY, UP, &failing)?;
-    assert!(rt; left.says(3, "ipcluster: read fault\n"));
-    Ok(())
-}
-
-#[test]
-fn an_engine_that_joins(rt: HostRuntime) -> Result<(), Fail> {
-    let left = run(rt.alloc(), REPLAY, JOINING, &NONE)?;
-    assert!(rt; left.says(0, ""));
+fn an_engine_joins_before_a_write_fails(rt: HostRuntime) -> Result<(), Fail> {
+    let alloc = rt.alloc();
+    let first = run(alloc, REPLAY, JOINING, &NONE)?;
+    assert!(rt; first.status == 0 && first.errors.written().is_empty());
     assert!(rt;
-        left.output
+        first
+            .output
             .written()
             .ends_with(b"{\"status\":\"ok\",\"id\":0}")
     );
-    Ok(())
-}
-
-#[test]
-fn a_write_that_fails(rt: HostRuntime) -> Result<(), Fail> {
-    let failing = Failing {
-        reads: &[],
-        writes: &[1],
-        lines: &[],
-    };
-    let left = run(rt.alloc(), REPLAY, JOINING, &failing)?;
-    assert!(rt; left.says(4, "ipcluster: write fault\n"));
-    assert_eq!(rt; left.output.written().len(), 0);
-    Ok(())
-}
-
-#[test]
-fn a_write_that_fails_in_mid_stream(rt: HostRuntime) -> Result<(), Fail> {
-    let alloc = rt.alloc();
     let mut tape = Vec::from_slice(alloc, JOINING)?;
+    // What a piece of 65,536 octets sends is written at once, so that the second message has to come in a later one.
+    for _ in 0..4_000 {
+        tape.extend_from_slice(TIME)?;
+    }
     tape.extend_from_slice(SECOND)?;
-    let failing = Failing {
-        reads: &[],
-        writes: &[2],
-        lines: &[],
-    };
-    let left = run(alloc, REPLAY, tape.as_slice(), &failing)?;
-    assert!(rt; left.says(4, "ipcluster: write fault\n"));
-    let first = run(alloc, REPLAY, JOINING, &NONE)?;
+    let left = run(alloc, REPLAY, tape.as_slice(), &SECOND_WRITE)?;
+    assert!(rt;
+        left.status == 4 && left.errors.written() == b"ipcluster: write fault\n".as_slice()
+    );
     assert!(rt; left.output.written() == first.output.written());
-    Ok(())
-}
-
-#[test]
-fn errors_that_take_nothing(rt: HostRuntime) -> Result<(), Fail> {
-    let failing = Failing {
-        reads: &[],
-        writes: &[],
-        lines: &[1],
-    };
-    let left = run(rt.alloc(), REPLAY, TORN, &failing)?;
-    assert!(rt; left.says(6, ""));
     Ok(())
 }

@@ -1,3 +1,4 @@
 pub mod Walk
 pub mod Short
 pub mod Commas
+pub mod Onces

@@ -2,7 +2,7 @@
 
 ghost use Rattle.std.specs.Prelude.{◌≡◌, ◌++◌, ◌∷◌, [], IfOk, OnOk, codes, map, string_bytes};
 ghost use Rattle.json.specs.Print.{quoted};
-ghost use Rattle.message_defs.specs.Texts.{parted, texts_list, error_content, outcome_content};
+ghost use Rattle.message_defs.specs.Texts.{parted, empty_object, texts_list, error_content, outcome_content};
 ghost use Rattle.jupyter_header.specs.Comma.{comma};
 
 use crate::write::quoted;
@@ -11,15 +11,22 @@ use cluster_types::octets::Octets;
 use cluster_types::text::Text;
 use std::alloc::{AllocError, Global};
 
+/// An object without members.
+#[tactic(auto, unfolding(message_defs::specs::Texts::empty_object))]
+pub fn empty_object() -> &'static [u8]
+    ensures { result.now ≡ empty_object }
+{
+    b"{}"
+}
+
 /// Appends the comma that stands before the item at a place.
-fn push_comma(text: &mut String, place: usize) -> Result<(), AllocError>
+pub fn push_comma(text: &mut String, place: usize) -> Result<(), AllocError>
     ensures { OnOk result (string_bytes text.new ≡ string_bytes text.old ++ comma place) }
 {
     if place == 0 {
         return Ok(());
     }
-    text.push_str(",")?;
-    Ok(())
+    text.push_str(",")
 }
 
 /// Appends the ids, as JSON writes them, parted by commas.
@@ -72,7 +79,7 @@ pub fn error_content(
     text.push_str(",\"traceback\":[],\"ids\":")?;
     text.push_str(list.as_str())?;
     text.push_str("}")?;
-    Ok(Octets::from_vec(text.into_bytes()))
+    Octets::from_string(text)
 }
 
 /// The content of an outcome that the controller makes.
@@ -84,5 +91,5 @@ pub fn outcome_content(alloc: Global, ename: &str, evalue: &str) -> Result<Octet
     let value = quoted(alloc, evalue)?;
     let mut text = error_text(alloc, name.as_str(), value.as_str())?;
     text.push_str(",\"traceback\":[]}")?;
-    Ok(Octets::from_vec(text.into_bytes()))
+    Octets::from_string(text)
 }

@@ -18,6 +18,7 @@ use message_defs::request::Request;
 use serde_json::Value;
 use std::alloc::Global;
 
+/// What a question about queues asks for.
 fn queue_content(alloc: Global, value: &Value) -> Result<HubContent, ReadError>
     ensures ok { IfOk result (λ c. queue_from (view value.now) ≡ Ok c) }
     ensures err { IfErr result (λ e. (e ≡ ReadError.OutOfMemory) ⊎ (queue_from (view value.now) ≡ Err e)) }
@@ -27,6 +28,7 @@ fn queue_content(alloc: Global, value: &Value) -> Result<HubContent, ReadError>
     Ok(HubContent::Queue { targets, verbose })
 }
 
+/// What a question about results asks for.
 fn result_content(alloc: Global, value: &Value) -> Result<HubContent, ReadError>
     ensures ok { IfOk result (λ c. result_from (view value.now) ≡ Ok c) }
     ensures err { IfErr result (λ e. (e ≡ ReadError.OutOfMemory) ⊎ (result_from (view value.now) ≡ Err e)) }
@@ -94,6 +96,7 @@ fn none_listed(alloc: Global, value: &Value, field: &str) -> Result<(), ReadErro
     Err(bad(alloc, field))
 }
 
+/// What a purge lists.
 fn purge_content(alloc: Global, value: &Value) -> Result<HubContent, ReadError>
     ensures ok { IfOk result (λ c. purge_from (view value.now) ≡ Ok c) }
     ensures err { IfErr result (λ e. (e ≡ ReadError.OutOfMemory) ⊎ (purge_from (view value.now) ≡ Err e)) }
@@ -103,6 +106,7 @@ fn purge_content(alloc: Global, value: &Value) -> Result<HubContent, ReadError>
     Ok(HubContent::Purge { all, ids })
 }
 
+/// What a resubmission lists.
 fn resubmit_content(alloc: Global, value: &Value) -> Result<HubContent, ReadError>
     ensures ok { IfOk result (λ c. resubmit_from (view value.now) ≡ Ok c) }
     ensures err { IfErr result (λ e. (e ≡ ReadError.OutOfMemory) ⊎ (resubmit_from (view value.now) ≡ Err e)) }
@@ -111,6 +115,7 @@ fn resubmit_content(alloc: Global, value: &Value) -> Result<HubContent, ReadErro
     Ok(HubContent::Resubmit { ids })
 }
 
+/// The engine that a registration names.
 fn join_content(alloc: Global, value: &Value) -> Result<HubContent, ReadError>
     ensures ok { IfOk result (λ c. join_from (view value.now) ≡ Ok c) }
     ensures err { IfErr result (λ e. (e ≡ ReadError.OutOfMemory) ⊎ (join_from (view value.now) ≡ Err e)) }
@@ -133,6 +138,7 @@ fn number_field(alloc: Global, value: &Value, field: &str) -> Result<u64, ReadEr
     }
 }
 
+/// The beat that an echo names.
 fn pong_content(alloc: Global, value: &Value) -> Result<HubContent, ReadError>
     ensures ok { IfOk result (λ c. pong_from (view value.now) ≡ Ok c) }
     ensures err { IfErr result (λ e. (e ≡ ReadError.OutOfMemory) ⊎ (pong_from (view value.now) ≡ Err e)) }
@@ -158,18 +164,17 @@ fn read_fields(alloc: Global, request: Request, value: &Value) -> Result<HubCont
     ensures ok { IfOk result (λ c. content_from request (view value.now) ≡ Ok c) }
     ensures err { IfErr result (λ e. (e ≡ ReadError.OutOfMemory) ⊎ (content_from request (view value.now) ≡ Err e)) }
 {
-    let content = match request {
-        Request::Connection => HubContent::Connection,
-        Request::History => HubContent::History,
-        Request::Shutdown => HubContent::Shutdown,
-        Request::Queue => queue_content(alloc, value)?,
-        Request::Results => result_content(alloc, value)?,
-        Request::Purge => purge_content(alloc, value)?,
-        Request::Resubmit => resubmit_content(alloc, value)?,
-        Request::Registration => join_content(alloc, value)?,
-        Request::Beat => pong_content(alloc, value)?,
-    };
-    Ok(content)
+    match request {
+        Request::Connection => Ok(HubContent::Connection),
+        Request::History => Ok(HubContent::History),
+        Request::Shutdown => Ok(HubContent::Shutdown),
+        Request::Queue => queue_content(alloc, value),
+        Request::Results => result_content(alloc, value),
+        Request::Purge => purge_content(alloc, value),
+        Request::Resubmit => resubmit_content(alloc, value),
+        Request::Registration => join_content(alloc, value),
+        Request::Beat => pong_content(alloc, value),
+    }
 }
 
 /// The content of a request.
@@ -188,8 +193,7 @@ pub fn read_content(
         return Ok(known);
     }
     let value = read_object(alloc, content)?;
-    let content = read_fields(alloc, request, &value)?;
-    Ok(content)
+    read_fields(alloc, request, &value)
 }
 
 /// The content of a message whose `msg_type` is that of a request.
@@ -199,6 +203,5 @@ pub fn read_hub(alloc: Global, msg_type: &str, content: &[u8]) -> Result<HubCont
     ensures err { IfErr result (λ e. (e ≡ ReadError.OutOfMemory) ⊎ (read_hub msg_type.now content.now ≡ Some (Err e))) }
 {
     let request = request_of(msg_type).unwrap();
-    let content = read_content(alloc, request, content)?;
-    Ok(content)
+    read_content(alloc, request, content)
 }

@@ -78,5 +78,5 @@ pub fn reply_type(alloc: Global, msg_type: &Text) -> Result<Text, AllocError>
 {
     let mut text = String::from_str(alloc, stem_of(msg_type.as_str()))?;
     text.push_str("_reply")?;
-    Ok(Text::from_string(text))
+    Text::from_string(text)
 }

@@ -4,6 +4,7 @@
 #![tactic(auto)]
 
 pub mod contents;
+pub mod distinct;
 mod fields;
 pub mod header;
 pub mod hub;

@@ -59,8 +59,7 @@ pub fn id_list(alloc: Global, value: &Value) -> Result<Option<Ids>, AllocError>
     let Some(values) = value.as_array() else {
         return Ok(None);
     };
-    let ids = ids_of(alloc, values.as_slice())?;
-    Ok(ids)
+    ids_of(alloc, values.as_slice())
 }
 
 /// The engines' numbers that a list has, where each is one.
@@ -70,8 +69,7 @@ fn engine_list(alloc: Global, value: &Value) -> Result<Option<Engines>, AllocErr
     let Some(values) = value.as_array() else {
         return Ok(None);
     };
-    let engines = engines_of(alloc, values.as_slice())?;
-    Ok(engines)
+    engines_of(alloc, values.as_slice())
 }
 
 /// A field that has to be a list of ids.

@@ -20,8 +20,7 @@ fn read_task(alloc: Global, parent: &[u8]) -> Result<Text, ReadError>
     ensures err { IfErr result (λ e. (e ≡ ReadError.OutOfMemory) ⊎ (read_task parent.now ≡ Err e)) }
 {
     let value = read_object(alloc, parent)?;
-    let task = id_field(alloc, &value, "msg_id")?;
-    Ok(task)
+    id_field(alloc, &value, "msg_id")
 }
 
 /// Whether `dependencies_met` is false.
@@ -76,8 +75,7 @@ fn read_status(alloc: Global, content: &[u8]) -> Result<bool, ReadError>
     ensures err { IfErr result (λ e. (e ≡ ReadError.OutOfMemory) ⊎ (read_status content.now ≡ Err e)) }
 {
     let value = read_object(alloc, content)?;
-    let ok = status_field(alloc, &value)?;
-    Ok(ok)
+    status_field(alloc, &value)
 }
 
 /// What a reply says by its parent header, its metadata and its content, which are read in this order.

@@ -1,12 +1,12 @@
 //! The metadata of a task.
 
-ghost use Rattle.std.specs.Prelude.{◌≡◌, ◌⊎◌, ◌≤◌, ◌∷◌, [], Ok, Err, Some, None, IfOk, IfErr, OnOk, length, bytes_eq, codes};
-ghost use Rattle.std.specs.List.{list_any};
+ghost use Rattle.std.specs.Prelude.{◌≡◌, ◌⊎◌, ◌≤◌, ◌∷◌, [], Ok, Err, Some, None, IfOk, IfErr, length, codes};
 ghost use Rattle.serde_json.specs.Find.{get};
 ghost use Rattle.serde_json.specs.View.{view, items_view};
 ghost use Rattle.message_defs.specs.Fields.{whole_from};
-ghost use Rattle.message_defs.specs.Submit.{once, with_new, at_most_4096, listed_by, listed_from, plain_dependency, flagged_dependency, dependency_from, submit_from, read_submit};
+ghost use Rattle.message_defs.specs.Submit.{at_most_4096, listed_by, listed_from, plain_dependency, flagged_dependency, dependency_from, submit_from, read_submit};
 
+use crate::distinct::once;
 use crate::fields::{bad, flag_field, id_in, whole_field};
 use crate::lists::{ids_of, optional_ids};
 use crate::object::read_object;
@@ -28,34 +28,6 @@ const MOST_SECONDS: u64 = 1_000_000_000;
 
 /// The greatest number of retries.
 const MOST_RETRIES: u64 = 1_000;
-
-/// Whether an id is among those found.
-fn is_found(found: &[Text], id: &Text) -> bool
-    ensures { result ≡ list_any (λ other. bytes_eq other id.now) found.now }
-{
-    found.iter().any(|other| other.is(id))
-}
-
-/// Adds an id that isn't there yet.
-fn add_new(found: &mut Ids, id: Text) -> Result<(), AllocError>
-    ensures { OnOk result (found.new ≡ with_new found.old id) }
-{
-    if is_found(found.as_slice(), &id) {
-        return Ok(());
-    }
-    found.push(id)
-}
-
-/// The ids, each at its first place alone.
-fn once(alloc: Global, ids: Ids) -> Result<Ids, AllocError>
-    ensures { IfOk result (λ found. found ≡ once ids) }
-{
-    let mut found = Sequence::new(alloc);
-    for id in ids.into_vec() {
-        add_new(&mut found, id)?;
-    }
-    Ok(found)
-}
 
 /// The list of one id.
 fn single(alloc: Global, id: &str) -> Result<Ids, AllocError>
@@ -93,8 +65,7 @@ fn listed_by(alloc: Global, value: &Value) -> Result<Option<Ids>, AllocError>
     let Some(values) = value.as_array() else {
         return Ok(None);
     };
-    let ids = short_list(alloc, values.as_slice())?;
-    Ok(ids)
+    short_list(alloc, values.as_slice())
 }
 
 /// The ids of a dependency that is written as an object, which may be absent. A fault names the dependency's field.
@@ -121,7 +92,7 @@ fn flagged_dependency(alloc: Global, value: &Value, field: &str) -> Result<Dep, 
     let success = flag_field(alloc, value, "success", true, field)?;
     let failure = flag_field(alloc, value, "failure", false, field)?;
     Ok(Dep {
-        ids: once(alloc, ids)?,
+        ids: once(alloc, &ids)?,
         all,
         success,
         failure,
@@ -133,7 +104,7 @@ pub fn plain_dependency(alloc: Global, ids: Ids) -> Result<Dep, AllocError>
     ensures { IfOk result (λ d. d ≡ plain_dependency ids) }
 {
     Ok(Dep {
-        ids: once(alloc, ids)?,
+        ids: once(alloc, &ids)?,
         all: true,
         success: true,
         failure: false,
@@ -149,8 +120,7 @@ fn dependency_field(alloc: Global, value: &Value, field: &str) -> Result<Dep, Re
         return Ok(plain_dependency(alloc, Sequence::new(alloc))?);
     };
     if found.is_object() {
-        let dependency = flagged_dependency(alloc, found, field)?;
-        return Ok(dependency);
+        return flagged_dependency(alloc, found, field);
     }
     match listed_by(alloc, found)? {
         Some(ids) => Ok(plain_dependency(alloc, ids)?),
@@ -197,6 +167,5 @@ pub fn read_submit(alloc: Global, octets: &[u8]) -> Result<SubmitMeta, ReadError
 {
     let whole = whole_timeouts(alloc, octets)?;
     let value = read_object(alloc, whole.as_slice())?;
-    let meta = submit_fields(alloc, &value)?;
-    Ok(meta)
+    submit_fields(alloc, &value)
 }

@@ -115,7 +115,7 @@ fn keeps_to_limits(rt: HostRuntime) -> Result<(), Fail> {
 }
 
 #[test]
-fn refuses_metadata(rt: HostRuntime) {
+fn metadata(rt: HostRuntime) -> Result<(), Fail> {
     let alloc = rt.alloc();
     for (text, kind, field) in [
         ("{\"retries\":1001}", "BadField", "retries"),
@@ -140,11 +140,6 @@ fn refuses_metadata(rt: HostRuntime) {
             "at {text}"
         );
     }
-}
-
-#[test]
-fn reads_metadata(rt: HostRuntime) -> Result<(), Fail> {
-    let alloc = rt.alloc();
     let sent =
         b"{\"after\": [], \"follow\": [], \"timeout\": 0.0, \"targets\": [], \"retries\": 0}";
     let meta = read_submit(alloc, sent)?;
@@ -280,7 +275,7 @@ fn reads_requests(rt: HostRuntime) -> Result<(), Fail> {
 }
 
 #[test]
-fn writes_headers(rt: HostRuntime) -> Result<(), Fail> {
+fn written_texts(rt: HostRuntime) -> Result<(), Fail> {
     let alloc = rt.alloc();
     let date = "2023-11-14T22:13:20.000Z";
     let kind = Text::new(alloc, "queue_request")?;
@@ -303,12 +298,6 @@ fn writes_headers(rt: HostRuntime) -> Result<(), Fail> {
         again.as_slice(),
         "{\"msg_id\":\"resubmit:2\",\"session\":\"a\\\"\\n\\u0001\u{e9}\",\"username\":\"a\\\"\\n\\u0001\u{e9}\",\"date\":\"2023-11-14T22:13:20.000Z\",\"msg_type\":\"queue_request\",\"version\":\"5.3\"}".as_bytes()
     );
-    Ok(())
-}
-
-#[test]
-fn writes_contents(rt: HostRuntime) -> Result<(), Fail> {
-    let alloc = rt.alloc();
     let mut ids = Sequence::new(alloc);
     ids.push(Text::new(alloc, "b")?)?;
     ids.push(Text::new(alloc, "c\"")?)?;

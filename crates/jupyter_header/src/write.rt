@@ -65,7 +65,7 @@ pub fn header_of(
         moment_date,
         kind.as_str(),
     )?;
-    Ok(Octets::from_vec(text.into_bytes()))
+    Octets::from_string(text)
 }
 
 /// The header of a message that the controller makes. The date is that of the moment, as `YYYY-MM-DDTHH:MM:SS.mmmZ`.

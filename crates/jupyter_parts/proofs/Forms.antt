@@ -3,7 +3,7 @@ use Rattle.std.proofs.Common.{◌≡◌, ◌≢◌, ◌≤◌, ◌==◌, ◌||�
 use Rattle.std.proofs.lemmas.Slice.Eq.{bytes_eq-Decides}
 use Rattle.std.specs.List.{list_any}
 use Rattle.cluster_types.specs.declared.message.Message.{Message}
-use Rattle.jupyter_parts.specs.Signed.{IsSigned, delimiter, is_delimiter, is_target, target_of, identities, behind, signature, signed_frames, message_in, message_behind, read_parts, addressed, written}
+use Rattle.jupyter_parts.specs.Signed.{IsSigned, delimiter, is_delimiter, is_target, target_of, identities, behind, signature, signed_frames, message_in, message_behind, read_parts, addressed, message_frames}
 
 same_text : (text : List ℕ) → bytes_eq text text ≡ true
 same_text text = (bytes_eq-Decides text text).1 refl
@@ -124,6 +124,6 @@ target_is (x ∷ xs) short =
     rw (some, test) refl
 
 -- what is written is signed
-pub written_signed : (key : List ℕ) (message : Message) (frames : List (List ℕ)) → length message.target ≤ 255 → message.target ≢ delimiter → frames ≡ written key message → IsSigned key frames message
+pub written_signed : (key : List ℕ) (message : Message) (frames : List (List ℕ)) → length message.target ≤ 255 → message.target ≢ delimiter → frames ≡ message_frames key message → IsSigned key frames message
 written_signed key message frames short other is =
     record { before = addressed message.target; no_delimiter = plain message.target other; in_order = is; target = target_is message.target short }

@@ -67,6 +67,6 @@ abbrev pub addressed : List ℕ → List (List ℕ)
 addressed target = if length target == 0 then [] else target ∷ []
 
 -- the frames that are written for a message
-abbrev pub written : List ℕ → Message → List (List ℕ)
-written key message =
+abbrev pub message_frames : List ℕ → Message → List (List ℕ)
+message_frames key message =
     addressed message.target ++ signed_frames key message.header message.parent message.metadata message.content message.buffers

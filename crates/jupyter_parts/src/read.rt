@@ -4,9 +4,10 @@ ghost use Rattle.std.specs.Prelude.{◌≡◌, ◌⊎◌, ◌+◌, ◌<◌, ◌�
 ghost use Rattle.jupyter_parts.specs.Signed.{is_delimiter, identities, behind, is_target, target_of, signature, message_in, read_parts, IsSigned};
 
 use crate::fault::PartsError;
-use cluster_types::message::{Buffers, Message};
+use cluster_types::message::Buffers;
 use cluster_types::octets::Octets;
 use cluster_types::sequence::Sequence;
+use cluster_types::shared_message::SharedMessage;
 use edges::frames::Frames;
 use hmac_sign::Key;
 use std::alloc::{AllocError, Global};
@@ -54,17 +55,17 @@ fn is_target(frame: &[u8]) -> bool
 }
 
 /// The target that the frames before a place name.
-fn target(alloc: Global, frames: &Frames, end: usize) -> Result<Octets, AllocError>
+fn target(frames: &Frames, end: usize) -> &[u8]
     requires { end ≤ length frames.now }
-    ensures { IfOk result (λ o. o ≡ target_of (take end frames.now)) }
+    ensures { result.now ≡ target_of (take end frames.now) }
 {
     for place in 0..end {
         let frame = part(frames, place);
         if is_target(frame) {
-            return Octets::new(alloc, frame);
+            return frame;
         }
     }
-    Ok(Octets::from_vec(Vec::new(alloc)))
+    &[]
 }
 
 /// The frames from a place on.
@@ -98,12 +99,12 @@ fn message_from(
     alloc: Global,
     frames: &Frames,
     key: &Key,
-    target: Octets,
+    target: &[u8],
     from: usize,
-) -> Result<Message, PartsError>
+) -> Result<SharedMessage, PartsError>
     requires { from ≤ length frames.now }
-    ensures ok { IfOk result (λ m. message_in key.now target (drop from frames.now) ≡ Ok m) }
-    ensures err { IfErr result (λ e. (e ≡ PartsError.OutOfMemory) ⊎ (message_in key.now target (drop from frames.now) ≡ Err e)) }
+    ensures ok { IfOk result (λ m. message_in key.now target.now (drop from frames.now) ≡ Ok m) }
+    ensures err { IfErr result (λ e. (e ≡ PartsError.OutOfMemory) ⊎ (message_in key.now target.now (drop from frames.now) ≡ Err e)) }
 {
     if frames.len() - from < 5 {
         return Err(PartsError::TooFewParts);
@@ -116,21 +117,15 @@ fn message_from(
     if !is_signature(key, given, header, parent, metadata, content) {
         return Err(PartsError::BadSignature(Octets::new(alloc, given)?));
     }
-    Ok(Message {
-        target,
-        header: Octets::new(alloc, header)?,
-        parent: Octets::new(alloc, parent)?,
-        metadata: Octets::new(alloc, metadata)?,
-        content: Octets::new(alloc, content)?,
-        buffers: buffers(alloc, frames, from + 5)?,
-    })
+    let buffers = buffers(alloc, frames, from + 5)?;
+    Ok(SharedMessage::new(alloc, target, header, parent, metadata, content, buffers)?)
 }
 
 /// The message that frames are, signed under the key.
 ///
 /// The delimiter is the first frame that is `<IDS|MSG>`. The target is the first frame before it that has 1 to 255
 /// octets, else empty; what else stands there is ignored.
-pub fn read_parts(alloc: Global, frames: &Frames, key: &Key) -> Result<Message, PartsError>
+pub fn read_parts(alloc: Global, frames: &Frames, key: &Key) -> Result<SharedMessage, PartsError>
     ensures signed { IfOk result (λ m. IsSigned key.now frames.now m) }
     ensures ok { IfOk result (λ m. read_parts key.now frames.now ≡ Ok m) }
     ensures err { IfErr result (λ e. (e ≡ PartsError.OutOfMemory) ⊎ (read_parts key.now frames.now ≡ Err e)) }
@@ -138,7 +133,6 @@ pub fn read_parts(alloc: Global, frames: &Frames, key: &Key) -> Result<Message, 
     let Some(at) = delimiter_place(frames) else {
         return Err(PartsError::NoDelimiter);
     };
-    let target = target(alloc, frames, at)?;
-    let message = message_from(alloc, frames, key, target, at + 1)?;
-    Ok(message)
+    let target = target(frames, at);
+    message_from(alloc, frames, key, target, at + 1)
 }

@@ -3,9 +3,9 @@
 use crate::fault::PartsError;
 use crate::read::read_parts;
 use crate::write::write_parts;
-use cluster_types::message::Message;
 use cluster_types::octets::Octets;
 use cluster_types::sequence::Sequence;
+use cluster_types::shared_message::SharedMessage;
 use edges::frames::Frames;
 use hmac_sign::Key;
 use std::alloc::{AllocError, Global};
@@ -36,7 +36,7 @@ fn frames_of(alloc: Global, bodies: &[&str]) -> Result<Frames, AllocError> {
 }
 
 /// The tag that was refused.
-fn refused_tag(reading: Result<Message, PartsError>) -> Option<Octets> {
+fn refused_tag(reading: Result<SharedMessage, PartsError>) -> Option<Octets> {
     match reading {
         Err(PartsError::BadSignature(given)) => Some(given),
         Err(_) => None,
@@ -82,9 +82,9 @@ fn reads(rt: HostRuntime) -> Result<(), Fail> {
         ],
     )?;
     let message = read_parts(alloc, &frames, &key)?;
-    assert_eq!(rt; message.target.as_slice(), b"e0".as_slice());
-    assert_eq!(rt; message.metadata.as_slice(), METADATA.as_bytes());
-    assert_eq!(rt; message.buffers.len(), 2);
+    assert_eq!(rt; message.target(), b"e0".as_slice());
+    assert_eq!(rt; message.metadata(), METADATA.as_bytes());
+    assert_eq!(rt; message.buffers().len(), 2);
     Ok(())
 }
 
@@ -95,14 +95,15 @@ fn writes(rt: HostRuntime) -> Result<(), Fail> {
     let key = Key::new(alloc, b"k")?;
     let mut buffers = Sequence::new(alloc);
     buffers.push(Octets::new(alloc, b"b")?)?;
-    let message = Message {
-        target: Octets::new(alloc, b"e0")?,
-        header: Octets::new(alloc, HEADER.as_bytes())?,
-        parent: Octets::new(alloc, PARENT.as_bytes())?,
-        metadata: Octets::new(alloc, METADATA.as_bytes())?,
-        content: Octets::new(alloc, CONTENT.as_bytes())?,
+    let message = SharedMessage::new(
+        alloc,
+        b"e0",
+        HEADER.as_bytes(),
+        PARENT.as_bytes(),
+        METADATA.as_bytes(),
+        CONTENT.as_bytes(),
         buffers,
-    };
+    )?;
     let frames = write_parts(alloc, &message, &key)?;
     assert_eq!(rt; frames.len(), 8);
     assert_eq!(rt; frames.get(0), Some(b"e0".as_slice()));

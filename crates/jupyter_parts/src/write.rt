@@ -1,9 +1,10 @@
 //! Writing signed messages.
 
 ghost use Rattle.std.specs.Prelude.{◌≡◌, ◌≢◌, ◌≤◌, ◌∷◌, ◌++◌, [], IfOk, OnOk, length};
-ghost use Rattle.jupyter_parts.specs.Signed.{delimiter, signature, signed_frames, written, IsSigned};
+ghost use Rattle.jupyter_parts.specs.Signed.{delimiter, signature, signed_frames, message_frames, IsSigned};
 
-use cluster_types::message::{Buffers, Message};
+use cluster_types::message::Buffers;
+use cluster_types::shared_message::SharedMessage;
 use edges::frames::Frames;
 use hmac_sign::Key;
 use std::alloc::{AllocError, Global};
@@ -67,24 +68,24 @@ pub fn write_signed(
 }
 
 /// The frames of a message, signed under the key: a target that isn't empty is the one identity frame.
-pub fn write_parts(alloc: Global, message: &Message, key: &Key) -> Result<Frames, AllocError>
+pub fn write_parts(alloc: Global, message: &SharedMessage, key: &Key) -> Result<Frames, AllocError>
     requires short { length message.now.target ≤ 255 }
     requires plain { message.now.target ≢ delimiter }
-    ensures value { IfOk result (λ f. f ≡ written key.now message.now) }
+    ensures value { IfOk result (λ f. f ≡ message_frames key.now message.now) }
     ensures signed { IfOk result (λ f. IsSigned key.now f message.now) }
 {
     let mut frames = Frames::new(alloc);
-    if !message.target.as_slice().is_empty() {
-        frames.push(message.target.as_slice())?;
+    if !message.target().is_empty() {
+        frames.push(message.target())?;
     }
     push_signed(
         &mut frames,
         key,
-        message.header.as_slice(),
-        message.parent.as_slice(),
-        message.metadata.as_slice(),
-        message.content.as_slice(),
-        &message.buffers,
+        message.header(),
+        message.parent(),
+        message.metadata(),
+        message.content(),
+        message.buffers(),
     )?;
     Ok(frames)
 }

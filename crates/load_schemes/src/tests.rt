@@ -8,33 +8,19 @@ use crate::place::place_of;
 use cluster_types::config::Scheme;
 use std::test::Fail;
 
-const LOADS: [u32; 3] = [2, 1, 1];
+/// Schemes, loads and words, and the place that each comes to. The halves of the word 8,589,934,593 are 1 and 2.
+const ROWS: [(Scheme, [u32; 3], u64, usize); 7] = [
+    (Scheme::LeastLoad, [2, 1, 1], 0, 1),
+    (Scheme::Lru, [2, 1, 1], 5, 0),
+    (Scheme::PlainRandom, [2, 1, 1], 7, 1),
+    (Scheme::TwoBin, [2, 1, 1], 8_589_934_593, 1),
+    (Scheme::PlainRandom, [0, 0, 0], 0, 0),
+    (Scheme::PlainRandom, [0, 0, 0], 7, 1),
+    (Scheme::PlainRandom, [0, 0, 0], 9_098_160_460_397_411_210, 2),
+];
 
 #[test]
 fn places_over_three_loads(rt: HostRuntime) -> Result<(), Fail> {
-    let loads = LOADS;
-    assert_eq!(rt; place_of(Scheme::LeastLoad, &loads, 0), 1);
-    assert_eq!(rt; place_of(Scheme::Lru, &loads, 5), 0);
-    assert_eq!(rt; place_of(Scheme::PlainRandom, &loads, 7), 1);
-    // The halves of this word are 1 and 2.
-    assert_eq!(rt; place_of(Scheme::TwoBin, &loads, 8589934593), 1);
-    Ok(())
-}
-
-#[test]
-fn words_over_three_engines(rt: HostRuntime) -> Result<(), Fail> {
-    let loads = [0; 3];
-    assert_eq!(rt; place_of(Scheme::PlainRandom, &loads, 0), 0);
-    assert_eq!(rt; place_of(Scheme::PlainRandom, &loads, 7), 1);
-    assert_eq!(rt;
-        place_of(Scheme::PlainRandom, &loads, 9098160460397411210),
-        2
-    );
-    Ok(())
-}
-
-#[test]
-fn stored_closure(rt: HostRuntime) -> Result<(), Fail> {
     let choose: Choose = Box::new(
         rt.alloc(),
         |scheme: Scheme, loads: &[u32], word: u64| -> usize
@@ -43,8 +29,8 @@ fn stored_closure(rt: HostRuntime) -> Result<(), Fail> {
         { place_of(scheme, loads, word) },
     )?;
     let chooser = Chooser::new(choose);
-    let loads = LOADS;
-    assert_eq!(rt; chooser.choose(Scheme::LeastLoad, &loads, 0), 1);
-    assert_eq!(rt; chooser.choose(Scheme::TwoBin, &loads, 8589934593), 1);
+    for (scheme, loads, word, place) in ROWS {
+        assert_eq!(rt; chooser.choose(scheme, &loads, word), place, "at {word}");
+    }
     Ok(())
 }

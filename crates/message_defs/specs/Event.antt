@@ -45,21 +45,21 @@ fault_field part (BadField field) = field
 fault_field part OutOfMemory = part
 
 -- what a content asks for
-abbrev pub event_in : HubContent → EventType
-event_in ConnectionContent = Ask ConnectionQuery
-event_in HistoryContent = Ask HistoryQuery
-event_in ShutdownContent = Ask ShutdownQuery
-event_in (QueueContent targets verbose) = Ask (QueueQuery targets verbose)
-event_in (ResultContent ids status_only) = Ask (ResultQuery ids status_only)
-event_in (PurgeContent all ids) = PurgeEvent all ids
-event_in (ResubmitContent ids) = ResubmitEvent ids
-event_in (Join uuid) = JoinEvent uuid
-event_in (Pong beat) = PongEvent beat
+abbrev pub event_of_content : HubContent → EventType
+event_of_content ConnectionContent = Ask ConnectionQuery
+event_of_content HistoryContent = Ask HistoryQuery
+event_of_content ShutdownContent = Ask ShutdownQuery
+event_of_content (QueueContent targets verbose) = Ask (QueueQuery targets verbose)
+event_of_content (ResultContent ids status_only) = Ask (ResultQuery ids status_only)
+event_of_content (PurgeContent all ids) = PurgeEvent all ids
+event_of_content (ResubmitContent ids) = ResubmitEvent ids
+event_of_content (Join uuid) = JoinEvent uuid
+event_of_content (Pong beat) = PongEvent beat
 
 -- what a content asks for, or that it is bad
-abbrev pub asked : Reading HubContent → EventType
-asked (Ok content) = event_in content
-asked (Err fault) = Ask (Bad (fault_field (codes "content") fault))
+abbrev pub request_event : Reading HubContent → EventType
+request_event (Ok content) = event_of_content content
+request_event (Err fault) = Ask (Bad (fault_field (codes "content") fault))
 
 -- the requests that the hub knows: registrations and echoes belong to engines
 abbrev pub hub_request : Option Request → Option Request
@@ -76,7 +76,7 @@ hub_request (Some Resubmit) = Some Resubmit
 
 abbrev pub hub_event : List ℕ → Option Request → EventType
 hub_event content None = Ask Unknown
-hub_event content (Some request) = asked (read_content request content)
+hub_event content (Some request) = request_event (read_content request content)
 
 abbrev pub submission : HeaderType → SubmitMeta → Submission
 submission header meta = record {
@@ -108,9 +108,9 @@ mux_event header target =
     then (if length target == 0 then Err NoTarget else Ok (Direct (submission header direct_meta)))
     else Err BadType
 
-abbrev pub echoed : Reading HubContent → Result EventType Reason
-echoed (Ok content) = Ok (event_in content)
-echoed (Err fault) = Err BadReply
+abbrev pub echo_event : Reading HubContent → Result EventType Reason
+echo_event (Ok content) = Ok (event_of_content content)
+echo_event (Err fault) = Err BadReply
 
 abbrev pub replied : HeaderType → Reading ReplyMeta → Result EventType Reason
 replied header (Ok meta) = Ok (Reply meta.task header.msg_id meta.ok meta.declined)
@@ -134,8 +134,8 @@ is_echo (Some _) = false
 
 abbrev pub engine_event : HeaderType → Message → Result EventType Reason
 engine_event header message =
-    if is_registration (request_of header.msg_type) then Ok (asked (read_content Registration message.content))
-    else (if is_echo (request_of header.msg_type) then echoed (read_content Beat message.content) else reply_event header message)
+    if is_registration (request_of header.msg_type) then Ok (request_event (read_content Registration message.content))
+    else (if is_echo (request_of header.msg_type) then echo_event (read_content Beat message.content) else reply_event header message)
 
 abbrev pub event_under : Channel → Message → Reading HeaderType → Result EventType Reason
 event_under channel message (Err fault) = Err BadHeader

@@ -7,7 +7,7 @@ use Rattle.message_defs.specs.declared.request.Request.TheVariants.{Connection, 
 use Rattle.message_defs.specs.declared.content.HubContent.{HubContent}
 use Rattle.message_defs.specs.declared.content.HubContent.TheVariants.{Connection as ConnectionContent, History as HistoryContent, Shutdown as ShutdownContent, Queue as QueueContent, Result as ResultContent, Purge as PurgeContent, Resubmit as ResubmitContent, Join, Pong}
 use Rattle.message_defs.specs.declared.fault.ReadError.TheVariants.{Missing, BadField}
-use Rattle.message_defs.specs.Json.{Reading, after, read_object}
+use Rattle.message_defs.specs.Json.{Reading, reading_then, read_object}
 use Rattle.message_defs.specs.Fields.{or_bad, id_in, whole_in, list_in, id_from, flag_from, list_from, ids_from}
 
 -- the request that a msg_type names
@@ -33,14 +33,14 @@ engine_in value = below_2_32 (whole_in value)
 
 abbrev pub queue_from : Data → Reading HubContent
 queue_from value =
-    after (list_from engine_in (codes "targets") (get (codes "targets") value)) (λ targets.
-    after (flag_from (codes "verbose") false (get (codes "verbose") value)) (λ verbose.
+    reading_then (list_from engine_in (codes "targets") (get (codes "targets") value)) (λ targets.
+    reading_then (flag_from (codes "verbose") false (get (codes "verbose") value)) (λ verbose.
     Ok (QueueContent targets verbose)))
 
 abbrev pub result_from : Data → Reading HubContent
 result_from value =
-    after (ids_from (codes "msg_ids") (get (codes "msg_ids") value)) (λ ids.
-    after (flag_from (codes "status_only") false (get (codes "status_only") value)) (λ status_only.
+    reading_then (ids_from (codes "msg_ids") (get (codes "msg_ids") value)) (λ ids.
+    reading_then (flag_from (codes "status_only") false (get (codes "status_only") value)) (λ status_only.
     Ok (ResultContent ids status_only)))
 
 -- the word that asks for all settled ids
@@ -67,26 +67,26 @@ abbrev pub ids_or_all : Option Data → Reading (Bool × List (List ℕ))
 ids_or_all None = Err (Missing (codes "msg_ids"))
 ids_or_all (Some value) =
     if is_all (as_str value) then Ok (true, [])
-    else after (or_bad (codes "msg_ids") (list_in id_in value)) (λ ids. Ok (false, ids))
+    else reading_then (or_bad (codes "msg_ids") (list_in id_in value)) (λ ids. Ok (false, ids))
 
 abbrev pub purge_from : Data → Reading HubContent
 purge_from value =
-    after (ids_or_all (get (codes "msg_ids") value)) (λ asked.
-    after (none_listed (codes "engine_ids") (get (codes "engine_ids") value)) (λ _.
+    reading_then (ids_or_all (get (codes "msg_ids") value)) (λ asked.
+    reading_then (none_listed (codes "engine_ids") (get (codes "engine_ids") value)) (λ _.
     Ok (PurgeContent asked.0 asked.1)))
 
 abbrev pub resubmit_from : Data → Reading HubContent
-resubmit_from value = after (ids_from (codes "msg_ids") (get (codes "msg_ids") value)) (λ ids. Ok (ResubmitContent ids))
+resubmit_from value = reading_then (ids_from (codes "msg_ids") (get (codes "msg_ids") value)) (λ ids. Ok (ResubmitContent ids))
 
 abbrev pub join_from : Data → Reading HubContent
-join_from value = after (id_from (codes "uuid") (get (codes "uuid") value)) (λ uuid. Ok (Join uuid))
+join_from value = reading_then (id_from (codes "uuid") (get (codes "uuid") value)) (λ uuid. Ok (Join uuid))
 
 abbrev pub number_from : List ℕ → Option Data → Reading ℕ
 number_from field None = Err (Missing field)
 number_from field (Some value) = or_bad field (whole_in value)
 
 abbrev pub pong_from : Data → Reading HubContent
-pong_from value = after (number_from (codes "beat") (get (codes "beat") value)) (λ beat. Ok (Pong beat))
+pong_from value = reading_then (number_from (codes "beat") (get (codes "beat") value)) (λ beat. Ok (Pong beat))
 
 -- a request that says all by its type: its content isn't read
 abbrev pub unread : Request → Option HubContent
@@ -109,7 +109,7 @@ content_from Beat value = pong_from value
 
 abbrev pub read_unless : List ℕ → Request → Option HubContent → Reading HubContent
 read_unless content request (Some known) = Ok known
-read_unless content request None = after (read_object content) (content_from request)
+read_unless content request None = reading_then (read_object content) (content_from request)
 
 unfoldable pub read_content : Request → List ℕ → Reading HubContent
 read_content request content = read_unless content request (unread request)

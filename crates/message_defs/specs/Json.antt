@@ -12,9 +12,9 @@ abbrev pub Reading : Type 0 → Type 0
 Reading A = Result A ReadError
 
 -- a reading that goes on with what was read before, and ends with the first fault
-abbrev pub after : {A B : Type 0} → Reading A → (A → Reading B) → Reading B
-after (Ok a) go = go a
-after (Err fault) go = Err fault
+abbrev pub reading_then : {A B : Type 0} → Reading A → (A → Reading B) → Reading B
+reading_then (Ok a) go = go a
+reading_then (Err fault) go = Err fault
 
 -- the value of a JSON text: octets that are UTF-8, and that the JSON reader reads
 abbrev pub json_of : List ℕ → Option Data

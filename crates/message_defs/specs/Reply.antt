@@ -4,12 +4,12 @@ use Rattle.serde_json.specs.Data.{Data}
 use Rattle.serde_json.specs.Find.{get, as_bool, as_str}
 use Rattle.message_defs.specs.declared.content.ReplyMeta.{ReplyMeta}
 use Rattle.message_defs.specs.declared.fault.ReadError.TheVariants.{Missing}
-use Rattle.message_defs.specs.Json.{Reading, after, read_object}
+use Rattle.message_defs.specs.Json.{Reading, reading_then, read_object}
 use Rattle.message_defs.specs.Fields.{or_bad, id_from}
 
 -- the id of the task, from the header of the request
 unfoldable pub read_task : List ℕ → Reading (List ℕ)
-read_task parent = after (read_object parent) (λ value. id_from (codes "msg_id") (get (codes "msg_id") value))
+read_task parent = reading_then (read_object parent) (λ value. id_from (codes "msg_id") (get (codes "msg_id") value))
 
 abbrev pub is_false : Option Bool → Bool
 is_false None = false
@@ -19,7 +19,7 @@ is_false (Some false) = true
 -- whether the engine declined the task: `dependencies_met` is false
 unfoldable pub read_declined : List ℕ → Reading Bool
 read_declined metadata =
-    after (read_object metadata) (λ value. Ok (is_false (option_and_then as_bool (get (codes "dependencies_met") value))))
+    reading_then (read_object metadata) (λ value. Ok (is_false (option_and_then as_bool (get (codes "dependencies_met") value))))
 
 -- `ok`, or one of the words for an error
 abbrev pub status_of : Option (List ℕ) → Option Bool
@@ -34,11 +34,11 @@ status_from (Some value) = or_bad (codes "status") (status_of (as_str value))
 
 -- whether the task ran without an error
 unfoldable pub read_status : List ℕ → Reading Bool
-read_status content = after (read_object content) (λ value. status_from (get (codes "status") value))
+read_status content = reading_then (read_object content) (λ value. status_from (get (codes "status") value))
 
 abbrev pub read_reply : List ℕ → List ℕ → List ℕ → Reading ReplyMeta
 read_reply parent metadata content =
-    after (read_task parent) (λ task.
-    after (read_declined metadata) (λ declined.
-    after (read_status content) (λ ok.
+    reading_then (read_task parent) (λ task.
+    reading_then (read_declined metadata) (λ declined.
+    reading_then (read_status content) (λ ok.
     Ok (record { task = task; ok = ok; declined = declined }))))

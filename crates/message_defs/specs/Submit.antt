@@ -6,7 +6,7 @@ use Rattle.serde_json.specs.Events.{items_len}
 use Rattle.serde_json.specs.Find.{get, as_null, as_str, as_array, as_object}
 use Rattle.cluster_types.specs.declared.event.Dep.{Dep}
 use Rattle.message_defs.specs.declared.content.SubmitMeta.{SubmitMeta}
-use Rattle.message_defs.specs.Json.{Reading, after, read_object}
+use Rattle.message_defs.specs.Json.{Reading, reading_then, read_object}
 use Rattle.message_defs.specs.Fields.{or_bad, id_in, each_of, flag_from, whole_from, list_from}
 use Rattle.message_defs.specs.Points.{whole_timeouts}
 
@@ -45,27 +45,27 @@ plain_dependency ids = record { ids = once ids; all = true; success = true; fail
 -- a dependency that is written as an object. Whatever part of it is at fault, the field of the dependency is named.
 abbrev pub flagged_dependency : List ℕ → Data → Reading Dep
 flagged_dependency field value =
-    after (listed_from field (get (codes "dependencies") value)) (λ ids.
-    after (flag_from field true (get (codes "all") value)) (λ all.
-    after (flag_from field true (get (codes "success") value)) (λ success.
-    after (flag_from field false (get (codes "failure") value)) (λ failure.
+    reading_then (listed_from field (get (codes "dependencies") value)) (λ ids.
+    reading_then (flag_from field true (get (codes "all") value)) (λ all.
+    reading_then (flag_from field true (get (codes "success") value)) (λ success.
+    reading_then (flag_from field false (get (codes "failure") value)) (λ failure.
     Ok (record { ids = once ids; all = all; success = success; failure = failure })))))
 
 abbrev pub dependency_from : List ℕ → Option Data → Reading Dep
 dependency_from field None = Ok (plain_dependency [])
 dependency_from field (Some value) =
     if is_some (as_object value) then flagged_dependency field value
-    else after (or_bad field (listed_by value)) (λ ids. Ok (plain_dependency ids))
+    else reading_then (or_bad field (listed_by value)) (λ ids. Ok (plain_dependency ids))
 
 abbrev pub submit_from : Data → Reading SubmitMeta
 submit_from value =
-    after (dependency_from (codes "after") (get (codes "after") value)) (λ after_ids.
-    after (dependency_from (codes "follow") (get (codes "follow") value)) (λ follow.
-    after (list_from id_in (codes "targets") (get (codes "targets") value)) (λ targets.
-    after (whole_from (codes "timeout") 1000000000 (get (codes "timeout") value)) (λ timeout.
-    after (whole_from (codes "retries") 1000 (get (codes "retries") value)) (λ retries.
+    reading_then (dependency_from (codes "after") (get (codes "after") value)) (λ after_ids.
+    reading_then (dependency_from (codes "follow") (get (codes "follow") value)) (λ follow.
+    reading_then (list_from id_in (codes "targets") (get (codes "targets") value)) (λ targets.
+    reading_then (whole_from (codes "timeout") 1000000000 (get (codes "timeout") value)) (λ timeout.
+    reading_then (whole_from (codes "retries") 1000 (get (codes "retries") value)) (λ retries.
     Ok (record { after = after_ids; follow = follow; targets = targets; timeout = timeout; retries = retries }))))))
 
 -- the timeouts are read without a fraction of 0
 unfoldable pub read_submit : List ℕ → Reading SubmitMeta
-read_submit octets = after (read_object (whole_timeouts octets)) submit_from
+read_submit octets = reading_then (read_object (whole_timeouts octets)) submit_from

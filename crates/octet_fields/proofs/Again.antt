@@ -1,12 +1,14 @@
 -- A field that was written is read again, whatever follows it.
-use Rattle.std.proofs.Common.{◌≡◌, ℕ, ◌^◌, ◌<◌, false, List, ◌++◌, length, Ok, refl, ap, ◌∙◌, append_assoc, arith}
+use Rattle.std.proofs.Common.{◌≡◌, ℕ, ◌^◌, ◌<◌, false, List, ◌∷◌, ◌++◌, length, Ok, refl, ap, ◌∙◌, append_assoc, arith}
 use Rattle.std.specs.Prelude.{nat_lt}
 use Rattle.std.specs.Int.{w32, w64, from_be_bytes, to_be_bytes}
 use Rattle.std.proofs.lemmas.Bool.{le-ltb}
 use Rattle.std.proofs.lemmas.List.{take_at, drop_at, length-append}
 use Rattle.std.proofs.lemmas.Nat.{from_be_bytes-to_be_bytes_4, from_be_bytes-to_be_bytes_8}
-use Rattle.octet_fields.specs.Spelling.{be32, be64, str8, blob}
-use Rattle.octet_fields.specs.Reading.{number_at, str8_at, blob_at}
+use Rattle.cluster_types.specs.declared.config.Channel.{Channel}
+use Rattle.cluster_types.specs.declared.config.Channel.TheVariants.{Hub, Task, Mux, Engine}
+use Rattle.octet_fields.specs.Spelling.{be32, be64, str8, blob, channel_code}
+use Rattle.octet_fields.specs.Reading.{number_at, str8_at, blob_at, channel_at}
 use Rattle.octet_fields.proofs.Extends.{gather}
 
 pub gather_again : {A : Type 0} (n : ℕ) (v : List ℕ → A) (text rest : List ℕ) → length text ≡ n → gather n v (text ++ rest) ≡ Ok (v text, rest)
@@ -31,3 +33,10 @@ unfolding blob_at
 blob_again octets rest lt =
     ap blob_at (append_assoc (be32 (length octets)) octets rest)
     ∙ rw (number32 (length octets) (octets ++ rest) lt) (gather_again (length octets) (λ x. x) octets rest refl)
+
+pub channel_again : (channel : Channel) (rest : List ℕ) → channel_at (channel_code channel ∷ rest) ≡ Ok (channel, rest)
+unfolding channel_at
+channel_again Hub rest = refl
+channel_again Task rest = refl
+channel_again Mux rest = refl
+channel_again Engine rest = refl

@@ -1,12 +1,13 @@
 -- What reading gives where more octets come: a value stays, a fault stays, and what is short waits for as many as it says.
 use Rattle.std.proofs.Common.{◌≡◌, ℕ, ◌-◌, ◌<◌, ◌≤◌, Bool, true, false, cond, List, [], ◌∷◌, ◌++◌, length, take, drop, Result, Ok, Err, refl, ap, arith, inl, inr, length-append}
-use Rattle.std.specs.Prelude.{nat_lt, ◌⊎◌, if◌then◌else◌}
+use Rattle.std.specs.Prelude.{nat_lt, ◌==◌, ◌⊎◌, if◌then◌else◌}
 use Rattle.std.specs.Int.{Width, w32, byte_len, from_be_bytes}
 use Rattle.std.proofs.lemmas.Bool.{ltb-false, le-ltb, ltb-true, lt-ltb}
 use Rattle.std.proofs.lemmas.List.{take-append-le, drop-append-le}
+use Rattle.cluster_types.specs.declared.config.Channel.TheVariants.{Hub, Task, Mux, Engine}
 use Rattle.octet_fields.specs.declared.stop.Stop.{Stop}
 use Rattle.octet_fields.specs.declared.stop.Stop.TheVariants.{Short, Bad}
-use Rattle.octet_fields.specs.Reading.{Read, ◌>>=◌, octet_at, number_at, front_at, str8_at, blob_at}
+use Rattle.octet_fields.specs.Reading.{Read, ◌>>=◌, octet_at, number_at, front_at, str8_at, blob_at, channel_at}
 
 pub record Extends {A : Type 0} (f : List ℕ → Read A) : Type 0 where
   pub whole : (xs ys : List ℕ) (a : A) (rest : List ℕ) → f xs ≡ Ok (a, rest) → f (xs ++ ys) ≡ Ok (a, rest ++ ys)
@@ -179,3 +180,7 @@ str8s = in_turn octet_at front_at octets fronts
 pub blobs : Extends blob_at
 unfolding blob_at
 blobs = in_turn (number_at w32) front_at (numbers w32) fronts
+
+pub channels : Extends channel_at
+unfolding channel_at
+channels = in_turn octet_at _ octets (λ x. eithers (x == 0) _ _ (gives Hub) (eithers (x == 1) _ _ (gives Task) (eithers (x == 2) _ _ (gives Mux) (eithers (x == 3) _ _ (gives Engine) refuses))))

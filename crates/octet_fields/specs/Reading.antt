@@ -1,8 +1,10 @@
 -- Reading fields at the front of octets, from left to right.
-use Rattle.std.specs.Prelude.{◌≡◌, ℕ, ◌-◌, List, [], ◌∷◌, length, take, drop, Result, Ok, Err, nat_lt, if◌then◌else◌}
+use Rattle.std.specs.Prelude.{◌≡◌, ℕ, ◌-◌, List, [], ◌∷◌, length, take, drop, Result, Ok, Err, nat_lt, ◌==◌, if◌then◌else◌}
 use Rattle.std.specs.Int.{Width, w32, byte_len, from_be_bytes}
+use Rattle.cluster_types.specs.declared.config.Channel.{Channel}
+use Rattle.cluster_types.specs.declared.config.Channel.TheVariants.{Hub, Task, Mux, Engine}
 use Rattle.octet_fields.specs.declared.stop.Stop.{Stop}
-use Rattle.octet_fields.specs.declared.stop.Stop.TheVariants.{Short}
+use Rattle.octet_fields.specs.declared.stop.Stop.TheVariants.{Short, Bad}
 use Rattle.octet_fields.specs.declared.stop.ReadError.{ReadError}
 use Rattle.octet_fields.specs.declared.stop.ReadError.TheVariants as errors
 
@@ -63,3 +65,13 @@ unfoldable pub blob_at : List ℕ → Read (List ℕ)
 blob_at octets = do
   n ← number_at w32 octets
   front_at n.0 n.1
+
+-- a channel, by its code
+unfoldable pub channel_at : List ℕ → Read Channel
+channel_at octets = do
+  code ← octet_at octets
+  if code.0 == 0 then Ok (Hub, code.1)
+      else if code.0 == 1 then Ok (Task, code.1)
+      else if code.0 == 2 then Ok (Mux, code.1)
+      else if code.0 == 3 then Ok (Engine, code.1)
+      else Err Bad

@@ -1,9 +1,10 @@
 //! Reading fields at the front of octets.
 
 ghost use Rattle.std.specs.Int.{w32, w64};
-ghost use Rattle.octet_fields.specs.Reading.{IsRead, number_at, octet_at, front_at, str8_at, blob_at};
+ghost use Rattle.octet_fields.specs.Reading.{IsRead, number_at, octet_at, front_at, str8_at, blob_at, channel_at};
 
 use crate::stop::Stop;
+use cluster_types::config::Channel;
 
 /// One octet.
 pub fn octet(octets: &[u8]) -> Result<(u8, &[u8]), Stop>
@@ -57,8 +58,7 @@ pub fn str8(octets: &[u8]) -> Result<(&[u8], &[u8]), Stop>
     ensures { IsRead (λ x. (x.0.now, x.1.now)) result (str8_at octets.now) }
 {
     let (n, rest) = octet(octets)?;
-    let (text, rest) = front(n as usize, rest)?;
-    Ok((text, rest))
+    front(n as usize, rest)
 }
 
 /// Octets behind their length, which is below 2^32.
@@ -67,6 +67,20 @@ pub fn blob(octets: &[u8]) -> Result<(&[u8], &[u8]), Stop>
     ensures { IsRead (λ x. (x.0.now, x.1.now)) result (blob_at octets.now) }
 {
     let (n, rest) = number32(octets)?;
-    let (text, rest) = front(n as usize, rest)?;
-    Ok((text, rest))
+    front(n as usize, rest)
+}
+
+/// A channel, by its code.
+#[tactic(auto, unfolding(crate::specs::Reading::channel_at))]
+pub fn channel(octets: &[u8]) -> Result<(Channel, &[u8]), Stop>
+    ensures { IsRead (λ x. (x.0, x.1.now)) result (channel_at octets.now) }
+{
+    let (code, rest) = octet(octets)?;
+    match code {
+        0 => Ok((Channel::Hub, rest)),
+        1 => Ok((Channel::Task, rest)),
+        2 => Ok((Channel::Mux, rest)),
+        3 => Ok((Channel::Engine, rest)),
+        _ => Err(Stop::Bad),
+    }
 }

@@ -1,8 +1,9 @@
 //! Writing fields.
 
-ghost use Rattle.std.specs.Prelude.{◌≡◌, ◌<◌, ◌^◌, ◌++◌, length, OnOk};
-ghost use Rattle.octet_fields.specs.Spelling.{be64, be32, str8, blob};
+ghost use Rattle.std.specs.Prelude.{◌≡◌, ◌<◌, ◌^◌, ◌∷◌, [], ◌++◌, length, OnOk};
+ghost use Rattle.octet_fields.specs.Spelling.{be64, be32, str8, blob, channel_code};
 
+use cluster_types::config::Channel;
 use std::alloc::AllocError;
 
 /// Appends a number in four octets.
@@ -27,8 +28,7 @@ pub fn put_str8(into: &mut Vec<u8>, text: &[u8]) -> Result<(), AllocError>
     ensures { OnOk result (into.new.items ≡ into.old.items ++ str8 text.now) }
 {
     into.push(text.len() as u8)?;
-    into.extend_from_slice(text)?;
-    Ok(())
+    into.extend_from_slice(text)
 }
 
 /// Appends octets behind their length.
@@ -37,6 +37,25 @@ pub fn put_blob(into: &mut Vec<u8>, octets: &[u8]) -> Result<(), AllocError>
     ensures { OnOk result (into.new.items ≡ into.old.items ++ blob octets.now) }
 {
     put_number32(into, octets.len() as u32)?;
-    into.extend_from_slice(octets)?;
+    into.extend_from_slice(octets)
+}
+
+/// The code of a channel.
+fn code_of_channel(channel: Channel) -> u8
+    ensures { result ≡ channel_code channel }
+{
+    match channel {
+        Channel::Hub => 0,
+        Channel::Task => 1,
+        Channel::Mux => 2,
+        Channel::Engine => 3,
+    }
+}
+
+/// Appends the code of a channel.
+pub fn put_channel(into: &mut Vec<u8>, channel: Channel) -> Result<(), AllocError>
+    ensures { OnOk result (into.new.items ≡ into.old.items ++ channel_code channel ∷ []) }
+{
+    into.push(code_of_channel(channel))?;
     Ok(())
 }

@@ -5,7 +5,6 @@ use Rattle.std.specs.Str.{is_utf8}
 use Rattle.std.proofs.lemmas.Bool.{le-ltb}
 use Rattle.std.proofs.lemmas.Bool.Decides.{nat_tests}
 use Rattle.cluster_types.specs.declared.config.Channel.{Channel}
-use Rattle.cluster_types.specs.declared.config.Channel.TheVariants as channels
 use Rattle.cluster_types.specs.declared.config.Scheme.{Scheme}
 use Rattle.cluster_types.specs.declared.config.Scheme.TheVariants as schemes
 use Rattle.cluster_types.specs.declared.verdict.Verdict.{Verdict}
@@ -16,11 +15,11 @@ use Rattle.cluster_types.specs.declared.message.Message.{Message}
 use Rattle.cluster_types.specs.declared.entry.Input.TheVariants.{Open, Up, Down, In, Beat, Time}
 use Rattle.cluster_types.specs.declared.entry.Entry.{Entry}
 use Rattle.cluster_types.specs.declared.entry.Entry.TheVariants.{Input, Hand, Settle, Lose}
-use Rattle.octet_fields.specs.Spelling.{be32, be64, str8, blob}
+use Rattle.octet_fields.specs.Spelling.{be32, be64, str8, blob, channel_code}
 use Rattle.octet_fields.specs.Reading.{Read}
-use Rattle.octet_fields.proofs.Again.{number32, number64, str8_again, blob_again}
-use Rattle.record_codec.specs.Spelling.{scheme_code, channel_code, verdict_code, cause_code, blobs, message_spelling, spelling, IsMoment, IsName, IsShort, HasRecord}
-use Rattle.record_codec.specs.Reading.{moment_at, name_at, id_at, scheme_at, channel_at, verdict_at, cause_at, blobs_at, buffers_at, message_at, open_at, up_at, down_at, in_at, beat_at, time_at, hand_at, settle_at, lose_at, entry_at}
+use Rattle.octet_fields.proofs.Again.{number32, number64, str8_again, blob_again, channel_again}
+use Rattle.record_codec.specs.Spelling.{scheme_code, verdict_code, cause_code, blobs, message_spelling, spelling, IsMoment, IsName, IsShort, HasRecord}
+use Rattle.record_codec.specs.Reading.{moment_at, name_at, id_at, scheme_at, verdict_at, cause_at, blobs_at, buffers_at, message_at, open_at, up_at, down_at, in_at, beat_at, time_at, hand_at, settle_at, lose_at, entry_at}
 
 moment_again : (n : ℕ) (rest : List ℕ) → IsMoment n → moment_at (be64 n ++ rest) ≡ Ok (n, rest)
 unfolding moment_at
@@ -45,13 +44,6 @@ scheme_again schemes.Lru rest = refl
 scheme_again schemes.LeastLoad rest = refl
 scheme_again schemes.PlainRandom rest = refl
 scheme_again schemes.TwoBin rest = refl
-
-channel_again : (channel : Channel) (rest : List ℕ) → channel_at (channel_code channel ∷ rest) ≡ Ok (channel, rest)
-unfolding channel_at
-channel_again channels.Hub rest = refl
-channel_again channels.Task rest = refl
-channel_again channels.Mux rest = refl
-channel_again channels.Engine rest = refl
 
 verdict_again : (verdict : Verdict) (rest : List ℕ) → verdict_at (verdict_code verdict ∷ rest) ≡ Ok (verdict, rest)
 unfolding verdict_at

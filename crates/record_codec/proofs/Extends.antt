@@ -3,16 +3,15 @@ use Rattle.std.proofs.Common.{ℕ, zero, suc, ◌∷◌, [], length}
 use Rattle.std.specs.Prelude.{nat_lt, ◌==◌}
 use Rattle.std.specs.Int.{w32, w64}
 use Rattle.std.specs.Str.{is_utf8}
-use Rattle.cluster_types.specs.declared.config.Channel.TheVariants as channels
 use Rattle.cluster_types.specs.declared.config.Scheme.TheVariants as schemes
 use Rattle.cluster_types.specs.declared.verdict.Verdict.TheVariants as verdicts
 use Rattle.cluster_types.specs.declared.verdict.Cause.TheVariants as causes
 use Rattle.cluster_types.specs.declared.message.Message.{Message}
 use Rattle.cluster_types.specs.declared.entry.Input.TheVariants.{Open, Up, Down, In, Beat, Time}
 use Rattle.cluster_types.specs.declared.entry.Entry.TheVariants.{Input, Hand, Settle, Lose}
-use Rattle.octet_fields.specs.Reading.{octet_at, number_at, str8_at, blob_at}
-use Rattle.octet_fields.proofs.Extends.{Extends, in_turn, gives, refuses, eithers, octets, numbers, str8s, blobs}
-use Rattle.record_codec.specs.Reading.{moment_at, name_at, id_at, scheme_at, channel_at, verdict_at, cause_at, blobs_at, buffers_at, message_at, open_at, up_at, down_at, in_at, beat_at, time_at, hand_at, settle_at, lose_at, kind_at, entry_at}
+use Rattle.octet_fields.specs.Reading.{octet_at, number_at, str8_at, blob_at, channel_at}
+use Rattle.octet_fields.proofs.Extends.{Extends, in_turn, gives, refuses, eithers, octets, numbers, str8s, blobs, channels}
+use Rattle.record_codec.specs.Reading.{moment_at, name_at, id_at, scheme_at, verdict_at, cause_at, blobs_at, buffers_at, message_at, open_at, up_at, down_at, in_at, beat_at, time_at, hand_at, settle_at, lose_at, kind_at, entry_at}
 
 moments : Extends moment_at
 unfolding moment_at
@@ -29,10 +28,6 @@ ids = in_turn name_at _ names (λ name. eithers (is_utf8 name) _ _ (gives name) 
 scheme_codes : Extends scheme_at
 unfolding scheme_at
 scheme_codes = in_turn octet_at _ octets (λ x. eithers (x == 0) _ _ (gives schemes.Lru) (eithers (x == 1) _ _ (gives schemes.LeastLoad) (eithers (x == 2) _ _ (gives schemes.PlainRandom) (eithers (x == 3) _ _ (gives schemes.TwoBin) refuses))))
-
-channel_codes : Extends channel_at
-unfolding channel_at
-channel_codes = in_turn octet_at _ octets (λ x. eithers (x == 0) _ _ (gives channels.Hub) (eithers (x == 1) _ _ (gives channels.Task) (eithers (x == 2) _ _ (gives channels.Mux) (eithers (x == 3) _ _ (gives channels.Engine) refuses))))
 
 verdict_codes : Extends verdict_at
 unfolding verdict_at
@@ -63,7 +58,7 @@ opens = in_turn moment_at _ moments (λ moment. in_turn scheme_at _ scheme_codes
 
 ups : Extends up_at
 unfolding up_at
-ups = in_turn (number_at w32) _ (numbers w32) (λ conn. in_turn channel_at _ channel_codes (λ channel. in_turn moment_at _ moments (λ moment. in_turn (number_at w64) _ (numbers w64) (λ word. in_turn name_at _ names (λ identity. gives (Input (Up conn channel moment word identity)))))))
+ups = in_turn (number_at w32) _ (numbers w32) (λ conn. in_turn channel_at _ channels (λ channel. in_turn moment_at _ moments (λ moment. in_turn (number_at w64) _ (numbers w64) (λ word. in_turn name_at _ names (λ identity. gives (Input (Up conn channel moment word identity)))))))
 
 downs : Extends down_at
 unfolding down_at

@@ -4,7 +4,7 @@ use Rattle.std.proofs.lemmas.List.{take-append-drop, length-take, drop_at, get_o
 use Rattle.cluster_types.specs.declared.entry.Entry.{Entry}
 use Rattle.octet_fields.specs.declared.stop.Stop.{Stop}
 use Rattle.octet_fields.proofs.Takes.{IsBytes}
-use Rattle.record_codec.specs.Spelling.{spelling, Stands}
+use Rattle.record_codec.specs.Spelling.{spelling, RecordStands}
 use Rattle.record_codec.specs.Reading.{entry_at}
 use Rattle.record_codec.proofs.Again.{entry_again}
 use Rattle.record_codec.proofs.Takes.{entry_takes}
@@ -12,7 +12,7 @@ use Rattle.record_codec.proofs.Takes.{entry_takes}
 pub drop_bytes : (n : ℕ) (bytes : List ℕ) → IsBytes bytes → IsBytes (drop n bytes)
 drop_bytes n bytes h i = rw get_or-drop (h (n + i))
 
-pub stands : (octets : List ℕ) (at : ℕ) (e : Entry) (rest : List ℕ) → IsBytes octets → at ≤ length octets → entry_at (drop at octets) ≡ Ok (e, rest) → Stands octets at e (length octets - length rest)
+pub stands : (octets : List ℕ) (at : ℕ) (e : Entry) (rest : List ℕ) → IsBytes octets → at ≤ length octets → entry_at (drop at octets) ≡ Ok (e, rest) → RecordStands octets at e (length octets - length rest)
 stands octets at e rest bytes le read =
     let t = entry_takes (drop at octets) e rest (drop_bytes at octets bytes) read in
     let back : drop at octets ≡ spelling e ++ rest = t.1 ∙ ap (λ (z : List ℕ). z ++ rest) t.2.0 in
@@ -31,7 +31,7 @@ rest_fits octets at e rest bytes read =
     let t = entry_takes (drop at octets) e rest (drop_bytes at octets bytes) read in
     omega (arith, length-drop at octets, ap length t.1, length-append t.0 rest)
 
-pub none_stands : (octets : List ℕ) (at : ℕ) (s : Stop) (e : Entry) (next : ℕ) → entry_at (drop at octets) ≡ Err s → Stands octets at e next → ⊥
+pub none_stands : (octets : List ℕ) (at : ℕ) (s : Stop) (e : Entry) (next : ℕ) → entry_at (drop at octets) ≡ Err s → RecordStands octets at e next → ⊥
 none_stands octets at s e next read it =
     let back : drop at octets ≡ spelling e ++ it.rest =
     ap (drop at) (it.parts ∙ append_assoc it.front (spelling e) it.rest) ∙ drop_at it.front (spelling e ++ it.rest) at it.begins in

@@ -2,8 +2,6 @@
 use Rattle.std.specs.Prelude.{ℕ, zero, suc, List, [], ◌∷◌, length, Ok, Err, nat_lt, ◌==◌, if◌then◌else◌}
 use Rattle.std.specs.Str.{is_utf8}
 use Rattle.std.specs.Int.{w32, w64}
-use Rattle.cluster_types.specs.declared.config.Channel.{Channel}
-use Rattle.cluster_types.specs.declared.config.Channel.TheVariants as channels
 use Rattle.cluster_types.specs.declared.config.Scheme.{Scheme}
 use Rattle.cluster_types.specs.declared.config.Scheme.TheVariants as schemes
 use Rattle.cluster_types.specs.declared.verdict.Verdict.{Verdict}
@@ -14,14 +12,15 @@ use Rattle.cluster_types.specs.declared.message.Message.{Message}
 use Rattle.cluster_types.specs.declared.entry.Input.TheVariants.{Open, Up, Down, In, Beat, Time}
 use Rattle.cluster_types.specs.declared.entry.Entry.{Entry}
 use Rattle.cluster_types.specs.declared.entry.Entry.TheVariants.{Input, Hand, Settle, Lose}
+use Rattle.cluster_types.specs.Limits.{last_moment}
 use Rattle.octet_fields.specs.declared.stop.Stop.TheVariants.{Bad}
-use Rattle.octet_fields.specs.Reading.{Read, ◌>>=◌, octet_at, number_at, str8_at, blob_at}
+use Rattle.octet_fields.specs.Reading.{Read, ◌>>=◌, octet_at, number_at, str8_at, blob_at, channel_at}
 
 -- a moment up to the last one
 unfoldable pub moment_at : List ℕ → Read ℕ
 moment_at octets = do
   n ← number_at w64 octets
-  if nat_lt 253402300799999 n.0 then Err Bad else Ok (n.0, n.1)
+  if nat_lt last_moment n.0 then Err Bad else Ok (n.0, n.1)
 
 -- 1 to 255 octets behind their length
 unfoldable pub name_at : List ℕ → Read (List ℕ)
@@ -42,15 +41,6 @@ scheme_at octets = do
       else if code.0 == 1 then Ok (schemes.LeastLoad, code.1)
       else if code.0 == 2 then Ok (schemes.PlainRandom, code.1)
       else if code.0 == 3 then Ok (schemes.TwoBin, code.1)
-      else Err Bad
-
-unfoldable pub channel_at : List ℕ → Read Channel
-channel_at octets = do
-  code ← octet_at octets
-  if code.0 == 0 then Ok (channels.Hub, code.1)
-      else if code.0 == 1 then Ok (channels.Task, code.1)
-      else if code.0 == 2 then Ok (channels.Mux, code.1)
-      else if code.0 == 3 then Ok (channels.Engine, code.1)
       else Err Bad
 
 unfoldable pub verdict_at : List ℕ → Read Verdict

@@ -2,8 +2,6 @@
 use Rattle.std.specs.Prelude.{◌≡◌, ℕ, ◌+◌, ◌^◌, ◌<◌, ◌≤◌, true, List, [], ◌∷◌, ◌++◌, length, All}
 use Rattle.std.specs.List.{flat_map}
 use Rattle.std.specs.Str.{is_utf8}
-use Rattle.cluster_types.specs.declared.config.Channel.{Channel}
-use Rattle.cluster_types.specs.declared.config.Channel.TheVariants as channels
 use Rattle.cluster_types.specs.declared.config.Scheme.{Scheme}
 use Rattle.cluster_types.specs.declared.config.Scheme.TheVariants as schemes
 use Rattle.cluster_types.specs.declared.verdict.Verdict.{Verdict}
@@ -14,19 +12,14 @@ use Rattle.cluster_types.specs.declared.message.Message.{Message}
 use Rattle.cluster_types.specs.declared.entry.Input.TheVariants.{Open, Up, Down, In, Beat, Time}
 use Rattle.cluster_types.specs.declared.entry.Entry.{Entry}
 use Rattle.cluster_types.specs.declared.entry.Entry.TheVariants.{Input, Hand, Settle, Lose}
-use Rattle.octet_fields.specs.Spelling.{be32, be64, str8, blob}
+use Rattle.cluster_types.specs.Limits.{last_moment, most_buffers}
+use Rattle.octet_fields.specs.Spelling.{be32, be64, str8, blob, channel_code}
 
 abbrev pub scheme_code : Scheme → ℕ
 scheme_code schemes.Lru = 0
 scheme_code schemes.LeastLoad = 1
 scheme_code schemes.PlainRandom = 2
 scheme_code schemes.TwoBin = 3
-
-abbrev pub channel_code : Channel → ℕ
-channel_code channels.Hub = 0
-channel_code channels.Task = 1
-channel_code channels.Mux = 2
-channel_code channels.Engine = 3
 
 abbrev pub verdict_code : Verdict → ℕ
 verdict_code verdicts.Completed = 1
@@ -62,7 +55,7 @@ spelling (Lose engine) = 9 ∷ be32 engine
 
 -- the last moment, in milliseconds since 1970: the end of the year 9999
 abbrev pub IsMoment : ℕ → Type 0
-IsMoment moment = moment ≤ 253402300799999
+IsMoment moment = moment ≤ last_moment
 
 -- 1 to 255 octets
 abbrev pub IsName : List ℕ → Type 0
@@ -75,7 +68,7 @@ pub record IsShort (m : Message) : Type 0 where
   pub parent : length m.parent < 2 ^ 32
   pub metadata : length m.metadata < 2 ^ 32
   pub content : length m.content < 2 ^ 32
-  pub number : length m.buffers ≤ 58
+  pub number : length m.buffers ≤ most_buffers
   pub buffers : All (λ buffer. length buffer < 2 ^ 32) m.buffers
 
 -- an entry whose values are within their limits
@@ -107,7 +100,7 @@ abbrev pub HasRecord : Entry → Type 0
 HasRecord e = IsWithinLimits e × IsTyped e
 
 -- the record of the entry stands at this place of the octets, and ends before that one
-pub record Stands (octets : List ℕ) (at : ℕ) (e : Entry) (next : ℕ) : Type 0 where
+pub record RecordStands (octets : List ℕ) (at : ℕ) (e : Entry) (next : ℕ) : Type 0 where
   pub front : List ℕ
   pub rest : List ℕ
   pub parts : octets ≡ front ++ spelling e ++ rest

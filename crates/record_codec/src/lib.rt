@@ -3,10 +3,10 @@
 
 pub mod fault;
 pub mod laws;
-pub mod message;
+mod message;
 pub mod reading;
 pub mod size;
 #[cfg(test)]
 mod tests;
-pub mod values;
+mod values;
 pub mod writing;

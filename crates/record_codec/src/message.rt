@@ -5,8 +5,9 @@ ghost use Rattle.octet_fields.specs.Reading.{Gives, blob_at};
 ghost use Rattle.record_codec.specs.Reading.{blobs_at, buffers_at, message_at};
 ghost use Rattle.record_codec.specs.Spelling.{blobs, message_spelling, IsShort};
 
-use cluster_types::message::{Buffers, Message};
+use cluster_types::message::Buffers;
 use cluster_types::octets::Octets;
+use cluster_types::shared_message::SharedMessage;
 use octet_fields::reading::{blob, octet, str8};
 use octet_fields::stop::{ReadError, Stop};
 use octet_fields::writing::{put_blob, put_str8};
@@ -43,33 +44,22 @@ fn counted_buffers(alloc: Global, octets: &[u8]) -> Result<(Buffers, &[u8]), Rea
     if count > 58 {
         return Err(ReadError::Stop(Stop::Bad));
     }
-    let (list, rest) = buffers(alloc, count, rest)?;
-    Ok((list, rest))
+    buffers(alloc, count, rest)
 }
 
 /// A message.
 #[tactic(auto, unfolding(crate::specs::Reading::message_at))]
-pub fn message(alloc: Global, octets: &[u8]) -> Result<(Message, &[u8]), ReadError>
+pub fn message(alloc: Global, octets: &[u8]) -> Result<(SharedMessage, &[u8]), ReadError>
     ensures { Gives (λ x. (x.0, x.1.now)) result (message_at octets.now) }
 {
     let (target, rest) = str8(octets)?;
-    let target = Octets::new(alloc, target)?;
-    let (header, rest) = blob_copy(alloc, rest)?;
-    let (parent, rest) = blob_copy(alloc, rest)?;
-    let (metadata, rest) = blob_copy(alloc, rest)?;
-    let (content, rest) = blob_copy(alloc, rest)?;
+    let (header, rest) = blob(rest)?;
+    let (parent, rest) = blob(rest)?;
+    let (metadata, rest) = blob(rest)?;
+    let (content, rest) = blob(rest)?;
     let (buffers, rest) = counted_buffers(alloc, rest)?;
-    Ok((
-        Message {
-            target,
-            header,
-            parent,
-            metadata,
-            content,
-            buffers,
-        },
-        rest,
-    ))
+    let message = SharedMessage::new(alloc, target, header, parent, metadata, content, buffers)?;
+    Ok((message, rest))
 }
 
 /// Appends buffers, each behind its length.
@@ -85,16 +75,15 @@ fn put_buffers(into: &mut Vec<u8>, buffers: &[Octets]) -> Result<(), AllocError>
 
 /// Appends a message.
 #[tactic(auto, using(octet_fields::proofs::Joins::joins), unfolding(crate::specs::Spelling::message_spelling))]
-pub fn put_message(into: &mut Vec<u8>, message: &Message) -> Result<(), AllocError>
+pub fn put_message(into: &mut Vec<u8>, message: &SharedMessage) -> Result<(), AllocError>
     requires { IsShort message.now }
     ensures { OnOk result (into.new.items ≡ into.old.items ++ message_spelling message.now) }
 {
-    put_str8(into, message.target.as_slice())?;
-    put_blob(into, message.header.as_slice())?;
-    put_blob(into, message.parent.as_slice())?;
-    put_blob(into, message.metadata.as_slice())?;
-    put_blob(into, message.content.as_slice())?;
-    into.push(message.buffers.len() as u8)?;
-    put_buffers(into, message.buffers.as_slice())?;
-    Ok(())
+    put_str8(into, message.target())?;
+    put_blob(into, message.header())?;
+    put_blob(into, message.parent())?;
+    put_blob(into, message.metadata())?;
+    put_blob(into, message.content())?;
+    into.push(message.buffers().len() as u8)?;
+    put_buffers(into, message.buffers().as_slice())
 }

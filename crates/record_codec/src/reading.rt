@@ -4,17 +4,18 @@ ghost use Rattle.std.specs.Prelude.{◌≡◌, ◌⊎◌, List, ℕ, length, dro
 ghost use Rattle.octet_fields.specs.Reading.{Gives};
 ghost use Rattle.cluster_types.specs.declared.entry.Entry.{Entry as EntryType};
 ghost use Rattle.record_codec.specs.Reading.{open_at, up_at, down_at, in_at, beat_at, time_at, hand_at, settle_at, lose_at, kind_at, entry_at};
-ghost use Rattle.record_codec.specs.Spelling.{Stands};
+ghost use Rattle.record_codec.specs.Spelling.{RecordStands};
 
 use crate::fault::RecordError;
 use crate::message::message;
-use crate::values::{cause, channel, id, moment, name, scheme, verdict};
+use crate::values::{cause, id, moment, name, scheme, verdict};
 use cluster_types::entry::{Entry, Input};
 use cluster_types::octets::Octets;
-use octet_fields::reading::{number32, number64, octet};
+use octet_fields::reading::{channel, number32, number64, octet};
 use octet_fields::stop::{ReadError, Stop};
 use std::alloc::Global;
 
+/// The opening of a controller.
 #[tactic(auto, unfolding(crate::specs::Reading::open_at))]
 fn open(octets: &[u8]) -> Result<(Entry, &[u8]), ReadError>
     ensures { Gives (λ x. (x.0, x.1.now)) result (open_at octets.now) }
@@ -34,6 +35,7 @@ fn open(octets: &[u8]) -> Result<(Entry, &[u8]), ReadError>
     ))
 }
 
+/// A connection that came up.
 #[tactic(auto, unfolding(crate::specs::Reading::up_at))]
 fn up(alloc: Global, octets: &[u8]) -> Result<(Entry, &[u8]), ReadError>
     ensures { Gives (λ x. (x.0, x.1.now)) result (up_at octets.now) }
@@ -56,6 +58,7 @@ fn up(alloc: Global, octets: &[u8]) -> Result<(Entry, &[u8]), ReadError>
     ))
 }
 
+/// A connection that went down.
 #[tactic(auto, unfolding(crate::specs::Reading::down_at))]
 fn down(octets: &[u8]) -> Result<(Entry, &[u8]), ReadError>
     ensures { Gives (λ x. (x.0, x.1.now)) result (down_at octets.now) }
@@ -66,6 +69,7 @@ fn down(octets: &[u8]) -> Result<(Entry, &[u8]), ReadError>
     Ok((Entry::Input(Input::Down { conn, moment, word }), rest))
 }
 
+/// A message that came in.
 #[tactic(auto, unfolding(crate::specs::Reading::in_at))]
 fn message_in(alloc: Global, octets: &[u8]) -> Result<(Entry, &[u8]), ReadError>
     ensures { Gives (λ x. (x.0, x.1.now)) result (in_at octets.now) }
@@ -85,6 +89,7 @@ fn message_in(alloc: Global, octets: &[u8]) -> Result<(Entry, &[u8]), ReadError>
     ))
 }
 
+/// A beat.
 #[tactic(auto, unfolding(crate::specs::Reading::beat_at))]
 fn beat(octets: &[u8]) -> Result<(Entry, &[u8]), ReadError>
     ensures { Gives (λ x. (x.0, x.1.now)) result (beat_at octets.now) }
@@ -94,6 +99,7 @@ fn beat(octets: &[u8]) -> Result<(Entry, &[u8]), ReadError>
     Ok((Entry::Input(Input::Beat { moment, word }), rest))
 }
 
+/// A moment that came.
 #[tactic(auto, unfolding(crate::specs::Reading::time_at))]
 fn time(octets: &[u8]) -> Result<(Entry, &[u8]), ReadError>
     ensures { Gives (λ x. (x.0, x.1.now)) result (time_at octets.now) }
@@ -103,6 +109,7 @@ fn time(octets: &[u8]) -> Result<(Entry, &[u8]), ReadError>
     Ok((Entry::Input(Input::Time { moment, word }), rest))
 }
 
+/// A task that was handed to an engine.
 #[tactic(auto, unfolding(crate::specs::Reading::hand_at))]
 fn hand(alloc: Global, octets: &[u8]) -> Result<(Entry, &[u8]), ReadError>
     ensures { Gives (λ x. (x.0, x.1.now)) result (hand_at octets.now) }
@@ -112,6 +119,7 @@ fn hand(alloc: Global, octets: &[u8]) -> Result<(Entry, &[u8]), ReadError>
     Ok((Entry::Hand { id, engine }, rest))
 }
 
+/// A task that was settled.
 #[tactic(auto, unfolding(crate::specs::Reading::settle_at))]
 fn settle(alloc: Global, octets: &[u8]) -> Result<(Entry, &[u8]), ReadError>
     ensures { Gives (λ x. (x.0, x.1.now)) result (settle_at octets.now) }
@@ -122,6 +130,7 @@ fn settle(alloc: Global, octets: &[u8]) -> Result<(Entry, &[u8]), ReadError>
     Ok((Entry::Settle { id, verdict, cause }, rest))
 }
 
+/// An engine that was lost.
 #[tactic(auto, unfolding(crate::specs::Reading::lose_at))]
 fn lose(octets: &[u8]) -> Result<(Entry, &[u8]), ReadError>
     ensures { Gives (λ x. (x.0, x.1.now)) result (lose_at octets.now) }
@@ -130,6 +139,7 @@ fn lose(octets: &[u8]) -> Result<(Entry, &[u8]), ReadError>
     Ok((Entry::Lose { engine }, rest))
 }
 
+/// The entry of a kind, by its code.
 fn of_kind(alloc: Global, kind: u8, octets: &[u8]) -> Result<(Entry, &[u8]), ReadError>
     ensures { Gives (λ x. (x.0, x.1.now)) result (kind_at kind octets.now) }
 {
@@ -153,15 +163,14 @@ pub fn read_front(alloc: Global, octets: &[u8]) -> Result<(Entry, &[u8]), ReadEr
     ensures { Gives (λ x. (x.0, x.1.now)) result (entry_at octets.now) }
 {
     let (kind, rest) = octet(octets)?;
-    let (entry, rest) = of_kind(alloc, kind, rest)?;
-    Ok((entry, rest))
+    of_kind(alloc, kind, rest)
 }
 
 /// The entry whose record stands at a place, and the place where the record ends. Octets behind it don't matter.
 pub fn read_entry(alloc: Global, from: &[u8], at: usize) -> Result<(Entry, usize), RecordError>
-    ensures ok { IfOk result (λ x. Stands from.now at x.0 x.1) }
+    ensures ok { IfOk result (λ x. RecordStands from.now at x.0 x.1) }
     ensures err { IfErr result (λ e. (e ≡ RecordError.OutOfMemory)
-        ⊎ ((e ≡ RecordError.BadRecord at) × ((entry : EntryType) (next : ℕ) → Stands from.now at entry next → ⊥))) }
+        ⊎ ((e ≡ RecordError.BadRecord at) × ((entry : EntryType) (next : ℕ) → RecordStands from.now at entry next → ⊥))) }
 {
     if at > from.len() {
         return Err(RecordError::BadRecord(at));

@@ -4,10 +4,11 @@ ghost use Rattle.std.specs.Prelude.{◌≡◌, ◌+◌, ◌*◌, ◌≤◌, ◌<
 ghost use Rattle.record_codec.specs.Spelling.{spelling, blobs, message_spelling, IsShort, IsWithinLimits};
 
 use cluster_types::entry::{Entry, Input};
-use cluster_types::message::Message;
 use cluster_types::octets::Octets;
+use cluster_types::shared_message::SharedMessage;
 use cluster_types::text::Text;
 
+/// The number of octets of buffers, each behind its length.
 #[tactic(auto, using(crate::proofs::Lengths::lengths))]
 fn size_of_buffers(buffers: &[Octets]) -> u64
     requires number { length buffers.now ≤ 58 }
@@ -22,21 +23,23 @@ fn size_of_buffers(buffers: &[Octets]) -> u64
     size
 }
 
+/// The number of octets of a message.
 #[tactic(auto, using(crate::proofs::Lengths::lengths), unfolding(crate::specs::Spelling::message_spelling))]
-fn size_of_message(message: &Message) -> u64
+fn size_of_message(message: &SharedMessage) -> u64
     requires { IsShort message.now }
     ensures value { result ≡ length (message_spelling message.now) }
     ensures bound { result < 2 ^ 62 }
 {
-    let parts = message.header.as_slice().len()
-        + message.parent.as_slice().len()
-        + message.metadata.as_slice().len()
-        + message.content.as_slice().len();
-    18 + message.target.as_slice().len() as u64
+    let parts = message.header().len()
+        + message.parent().len()
+        + message.metadata().len()
+        + message.content().len();
+    18 + message.target().len() as u64
         + parts as u64
-        + size_of_buffers(message.buffers.as_slice())
+        + size_of_buffers(message.buffers().as_slice())
 }
 
+/// The number of octets of an input's record.
 #[tactic(auto, using(crate::proofs::Lengths::lengths))]
 fn size_of_input(input: &Input) -> u64
     requires { IsWithinLimits (Entry.Input input.now) }
@@ -52,6 +55,7 @@ fn size_of_input(input: &Input) -> u64
     }
 }
 
+/// The number of octets of an id behind its length.
 fn size_of_id(id: &Text) -> u64
     requires { length id.now < 256 }
     ensures { result ≡ 1 + length id.now }

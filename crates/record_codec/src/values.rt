@@ -1,17 +1,15 @@
 //! Reading the values of a record's fields, each within its list or limit.
 
 ghost use Rattle.octet_fields.specs.Reading.{IsRead, Gives};
-ghost use Rattle.record_codec.specs.Reading.{moment_at, name_at, id_at, scheme_at, channel_at, verdict_at, cause_at};
+ghost use Rattle.record_codec.specs.Reading.{moment_at, name_at, id_at, scheme_at, verdict_at, cause_at};
 
-use cluster_types::config::{Channel, Scheme};
+use cluster_types::config::Scheme;
+use cluster_types::limits::LAST_MOMENT;
 use cluster_types::text::Text;
 use cluster_types::verdict::{Cause, Verdict};
 use octet_fields::reading::{number64, octet, str8};
 use octet_fields::stop::{ReadError, Stop};
 use std::alloc::Global;
-
-/// The last moment, in milliseconds since 1970-01-01T00:00:00Z.
-pub const LAST_MOMENT: u64 = 253_402_300_799_999;
 
 /// A moment.
 #[tactic(auto, unfolding(crate::specs::Reading::moment_at))]
@@ -60,21 +58,6 @@ pub fn scheme(octets: &[u8]) -> Result<(Scheme, &[u8]), Stop>
         1 => Ok((Scheme::LeastLoad, rest)),
         2 => Ok((Scheme::PlainRandom, rest)),
         3 => Ok((Scheme::TwoBin, rest)),
-        _ => Err(Stop::Bad),
-    }
-}
-
-/// A channel, by its code.
-#[tactic(auto, unfolding(crate::specs::Reading::channel_at))]
-pub fn channel(octets: &[u8]) -> Result<(Channel, &[u8]), Stop>
-    ensures { IsRead (λ x. (x.0, x.1.now)) result (channel_at octets.now) }
-{
-    let (code, rest) = octet(octets)?;
-    match code {
-        0 => Ok((Channel::Hub, rest)),
-        1 => Ok((Channel::Task, rest)),
-        2 => Ok((Channel::Mux, rest)),
-        3 => Ok((Channel::Engine, rest)),
         _ => Err(Stop::Bad),
     }
 }

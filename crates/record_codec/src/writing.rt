@@ -2,18 +2,19 @@
 
 ghost use Rattle.std.specs.Prelude.{◌≡◌, ◌++◌, length, true, OnOk};
 ghost use Rattle.std.specs.Str.{is_utf8};
-ghost use Rattle.record_codec.specs.Spelling.{spelling, scheme_code, channel_code, verdict_code, cause_code, IsMoment, IsName, IsShort, IsWithinLimits, HasRecord};
+ghost use Rattle.record_codec.specs.Spelling.{spelling, scheme_code, verdict_code, cause_code, IsMoment, IsName, IsShort, IsWithinLimits, HasRecord};
 
 use crate::message::put_message;
 use cluster_types::config::{Channel, Scheme};
 use cluster_types::entry::{Entry, Input};
-use cluster_types::message::Message;
 use cluster_types::octets::Octets;
+use cluster_types::shared_message::SharedMessage;
 use cluster_types::text::Text;
 use cluster_types::verdict::{Cause, Verdict};
-use octet_fields::writing::{put_number32, put_number64, put_str8};
+use octet_fields::writing::{put_channel, put_number32, put_number64, put_str8};
 use std::alloc::AllocError;
 
+/// The code of a scheme.
 fn code_of_scheme(scheme: Scheme) -> u8
     ensures { result ≡ scheme_code scheme }
 {
@@ -25,17 +26,7 @@ fn code_of_scheme(scheme: Scheme) -> u8
     }
 }
 
-fn code_of_channel(channel: Channel) -> u8
-    ensures { result ≡ channel_code channel }
-{
-    match channel {
-        Channel::Hub => 0,
-        Channel::Task => 1,
-        Channel::Mux => 2,
-        Channel::Engine => 3,
-    }
-}
-
+/// The code of a verdict.
 fn code_of_verdict(verdict: Verdict) -> u8
     ensures { result ≡ verdict_code verdict }
 {
@@ -45,6 +36,7 @@ fn code_of_verdict(verdict: Verdict) -> u8
     }
 }
 
+/// The code of a cause.
 fn code_of_cause(cause: Cause) -> u8
     ensures { result ≡ cause_code cause }
 {
@@ -65,6 +57,7 @@ fn text_of(id: &Text) -> &[u8]
     id.as_str().as_bytes()
 }
 
+/// Appends the record of the opening of a controller.
 #[tactic(auto, using(octet_fields::proofs::Joins::joins))]
 fn write_open(
     into: &mut Vec<u8>,
@@ -81,10 +74,10 @@ fn write_open(
     put_number64(into, moment)?;
     into.push(code_of_scheme(scheme))?;
     put_number32(into, hwm)?;
-    put_number32(into, misses)?;
-    Ok(())
+    put_number32(into, misses)
 }
 
+/// Appends the record of a connection that came up.
 #[tactic(auto, using(octet_fields::proofs::Joins::joins))]
 fn write_up(
     into: &mut Vec<u8>,
@@ -101,13 +94,13 @@ fn write_up(
 {
     into.push(2)?;
     put_number32(into, conn)?;
-    into.push(code_of_channel(channel))?;
+    put_channel(into, channel)?;
     put_number64(into, moment)?;
     put_number64(into, word)?;
-    put_str8(into, identity.as_slice())?;
-    Ok(())
+    put_str8(into, identity.as_slice())
 }
 
+/// Appends the record of a connection that went down.
 #[tactic(auto, using(octet_fields::proofs::Joins::joins))]
 fn write_down(into: &mut Vec<u8>, conn: u32, moment: u64, word: u64) -> Result<(), AllocError>
     requires { IsMoment moment }
@@ -117,17 +110,17 @@ fn write_down(into: &mut Vec<u8>, conn: u32, moment: u64, word: u64) -> Result<(
     into.push(3)?;
     put_number32(into, conn)?;
     put_number64(into, moment)?;
-    put_number64(into, word)?;
-    Ok(())
+    put_number64(into, word)
 }
 
+/// Appends the record of a message that came in.
 #[tactic(auto, using(octet_fields::proofs::Joins::joins))]
 fn write_in(
     into: &mut Vec<u8>,
     conn: u32,
     moment: u64,
     word: u64,
-    message: &Message,
+    message: &SharedMessage,
 ) -> Result<(), AllocError>
     requires moment { IsMoment moment }
     requires message { IsShort message.now }
@@ -138,10 +131,10 @@ fn write_in(
     put_number32(into, conn)?;
     put_number64(into, moment)?;
     put_number64(into, word)?;
-    put_message(into, message)?;
-    Ok(())
+    put_message(into, message)
 }
 
+/// Appends the record of a beat.
 #[tactic(auto, using(octet_fields::proofs::Joins::joins))]
 fn write_beat(into: &mut Vec<u8>, moment: u64, word: u64) -> Result<(), AllocError>
     requires { IsMoment moment }
@@ -150,10 +143,10 @@ fn write_beat(into: &mut Vec<u8>, moment: u64, word: u64) -> Result<(), AllocErr
 {
     into.push(5)?;
     put_number64(into, moment)?;
-    put_number64(into, word)?;
-    Ok(())
+    put_number64(into, word)
 }
 
+/// Appends the record of a moment that came.
 #[tactic(auto, using(octet_fields::proofs::Joins::joins))]
 fn write_time(into: &mut Vec<u8>, moment: u64, word: u64) -> Result<(), AllocError>
     requires { IsMoment moment }
@@ -162,10 +155,10 @@ fn write_time(into: &mut Vec<u8>, moment: u64, word: u64) -> Result<(), AllocErr
 {
     into.push(6)?;
     put_number64(into, moment)?;
-    put_number64(into, word)?;
-    Ok(())
+    put_number64(into, word)
 }
 
+/// Appends the record of a task that was handed to an engine.
 #[tactic(auto, using(octet_fields::proofs::Joins::joins))]
 fn write_hand(into: &mut Vec<u8>, id: &Text, engine: u32) -> Result<(), AllocError>
     requires { IsName id.now }
@@ -175,10 +168,10 @@ fn write_hand(into: &mut Vec<u8>, id: &Text, engine: u32) -> Result<(), AllocErr
     let text = text_of(id);
     into.push(7)?;
     put_str8(into, text)?;
-    put_number32(into, engine)?;
-    Ok(())
+    put_number32(into, engine)
 }
 
+/// Appends the record of a task that was settled.
 #[tactic(auto, using(octet_fields::proofs::Joins::joins))]
 fn write_settle(
     into: &mut Vec<u8>,
@@ -198,16 +191,17 @@ fn write_settle(
     Ok(())
 }
 
+/// Appends the record of an engine that was lost.
 #[tactic(auto, using(octet_fields::proofs::Joins::joins))]
 fn write_lose(into: &mut Vec<u8>, engine: u32) -> Result<(), AllocError>
     ensures record { OnOk result (into.new.items ≡ into.old.items ++ spelling (Entry.Lose engine)) }
     ensures has { HasRecord (Entry.Lose engine) }
 {
     into.push(9)?;
-    put_number32(into, engine)?;
-    Ok(())
+    put_number32(into, engine)
 }
 
+/// Appends the record of an input.
 fn write_input(into: &mut Vec<u8>, input: &Input) -> Result<(), AllocError>
     requires { IsWithinLimits (Entry.Input input.now) }
     ensures record { OnOk result (into.new.items ≡ into.old.items ++ spelling (Entry.Input input.now)) }
@@ -219,25 +213,24 @@ fn write_input(into: &mut Vec<u8>, input: &Input) -> Result<(), AllocError>
             scheme,
             hwm,
             misses,
-        } => write_open(into, *moment, *scheme, *hwm, *misses)?,
+        } => write_open(into, *moment, *scheme, *hwm, *misses),
         Input::Up {
             conn,
             channel,
             moment,
             word,
             identity,
-        } => write_up(into, *conn, *channel, *moment, *word, identity)?,
-        Input::Down { conn, moment, word } => write_down(into, *conn, *moment, *word)?,
+        } => write_up(into, *conn, *channel, *moment, *word, identity),
+        Input::Down { conn, moment, word } => write_down(into, *conn, *moment, *word),
         Input::In {
             conn,
             moment,
             word,
             message,
-        } => write_in(into, *conn, *moment, *word, message)?,
-        Input::Beat { moment, word } => write_beat(into, *moment, *word)?,
-        Input::Time { moment, word } => write_time(into, *moment, *word)?,
+        } => write_in(into, *conn, *moment, *word, message),
+        Input::Beat { moment, word } => write_beat(into, *moment, *word),
+        Input::Time { moment, word } => write_time(into, *moment, *word),
     }
-    Ok(())
 }
 
 /// Appends the record of an entry. The octets behind an `OutOfMemory` may be a part of it.
@@ -247,10 +240,9 @@ pub fn write_entry(into: &mut Vec<u8>, entry: &Entry) -> Result<(), AllocError>
     ensures has { HasRecord entry.now }
 {
     match entry {
-        Entry::Input(input) => write_input(into, input)?,
-        Entry::Hand { id, engine } => write_hand(into, id, *engine)?,
-        Entry::Settle { id, verdict, cause } => write_settle(into, id, *verdict, *cause)?,
-        Entry::Lose { engine } => write_lose(into, *engine)?,
+        Entry::Input(input) => write_input(into, input),
+        Entry::Hand { id, engine } => write_hand(into, id, *engine),
+        Entry::Settle { id, verdict, cause } => write_settle(into, id, *verdict, *cause),
+        Entry::Lose { engine } => write_lose(into, *engine),
     }
-    Ok(())
 }

@@ -16,7 +16,7 @@ use cluster_types::octets::Octets;
 use cluster_types::sequence::Sequence;
 use hub_queries::answer::ok_answer;
 use hub_queries::limits::{limited, plain, refusal};
-use hub_queries::tally::push_comma;
+use jupyter_header::contents::push_comma;
 use jupyter_header::write::quoted;
 use std::alloc::{AllocError, Global};
 
@@ -37,8 +37,7 @@ pub fn purge_answer(alloc: Global, channel: Channel, plan: &PurgePlan) -> Result
     ensures { IfOk result (λ a. a ≡ limited channel (purge_answer (purging_of plan.now))) }
 {
     let whole = whole_purge(alloc, plan)?;
-    let answer = limited(alloc, channel, whole)?;
-    Ok(answer)
+    limited(alloc, channel, whole)
 }
 
 /// Appends an old and a new id, with the comma before the item at a place.
@@ -55,8 +54,7 @@ fn push_renaming(
     push_comma(text, place)?;
     text.push_str(old.as_str())?;
     text.push_str(":")?;
-    text.push_str(new.as_str())?;
-    Ok(())
+    text.push_str(new.as_str())
 }
 
 /// Appends the old and the new ids, parted by commas.
@@ -89,9 +87,8 @@ pub fn renamed_answer(
     ensures { IfOk result (λ a. a ≡ limited channel (resubmit_answer (Makes (map copy_of renamed.now)))) }
 {
     let text = renamed_text(alloc, renamed)?;
-    let whole = plain(alloc, Octets::from_vec(text.into_bytes()));
-    let answer = limited(alloc, channel, whole)?;
-    Ok(answer)
+    let whole = plain(alloc, Octets::from_string(text)?);
+    limited(alloc, channel, whole)
 }
 
 /// The refusal of a resubmission, whatever its length.
@@ -120,6 +117,5 @@ pub fn refused_answer(
     ensures { (what : Resubmitting) → refusal_of what ≡ Some refused.now → IfOk result (λ a. a ≡ limited channel (resubmit_answer what)) }
 {
     let whole = whole_refusal(alloc, refused)?;
-    let answer = limited(alloc, channel, whole)?;
-    Ok(answer)
+    limited(alloc, channel, whole)
 }

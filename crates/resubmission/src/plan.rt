@@ -7,7 +7,6 @@ ghost use Rattle.cluster_defs.specs.Purges.{copies_from, Makes};
 ghost use Rattle.cluster_defs.specs.RecordPlans.{resubmit_known_in, resubmit_in};
 ghost use Rattle.resubmission.specs.Plans.{copy_of, refusal_of};
 
-use cluster_types::copying::TryCopy;
 use cluster_types::message::Ids;
 use cluster_types::record::Records;
 use cluster_types::sequence::Sequence;
@@ -15,6 +14,7 @@ use cluster_types::text::Text;
 use std::alloc::{AllocError, Global};
 use task_lookup::distinct::once;
 use task_lookup::standing::{Standing, ids_that};
+use thiserror::Error;
 
 /// A new id, with the old one whose request it gets.
 #[derive(Debug, Drop)]
@@ -28,17 +28,22 @@ pub struct Renaming {
 pub type Renamed = Sequence<Renaming>;
 
 /// Why a resubmission makes no task. Each list has the ids concerned, in the order of the request.
-#[derive(Debug, Drop)]
+#[derive(Debug, Drop, Error)]
 pub enum ResubmitRefusal {
     /// These ids were never known.
+    #[error("ids that were never known")]
     Unknown(Ids),
     /// These ids are purged, and all listed ones are known.
+    #[error("ids that are purged")]
     Purged(Ids),
     /// These ids aren't settled, and all listed ones are known and not purged.
+    #[error("ids that aren't settled")]
     Inflight(Ids),
     /// The known and the new ids would be more than there may be.
+    #[error("more ids than there may be")]
     TableFull,
     /// There was no memory.
+    #[error("out of memory")]
     OutOfMemory,
 }
 
@@ -61,7 +66,7 @@ fn new_id(alloc: Global, number: u64) -> Result<Text, AllocError>
     let digits = number.to_string(alloc)?;
     let mut text = String::from_str(alloc, "resubmit:")?;
     text.push_str(digits.as_str())?;
-    Ok(Text::from_string(text))
+    Text::from_string(text)
 }
 
 /// A new id for each old one, with the numbers that follow a number.
@@ -73,7 +78,7 @@ fn renamed(alloc: Global, last: u64, ids: &Ids) -> Result<Renamed, AllocError>
     for (place, id) in ids.as_slice().iter().enumerate() {
         let new = new_id(alloc, last + place as u64 + 1)?;
         renamed.push(Renaming {
-            old: id.copy()?,
+            old: id.clone()?,
             new,
         })?;
     }
@@ -126,8 +131,7 @@ fn plan_distinct<R: Records>(
     if !purged.is_empty() {
         return Err(ResubmitRefusal::Purged(purged));
     }
-    let renamed = plan_known(alloc, table, ids, limit)?;
-    Ok(renamed)
+    plan_known(alloc, table, ids, limit)
 }
 
 /// What a resubmission of these ids comes to, where so many ids may be known: a new id for each, or a refusal of all.

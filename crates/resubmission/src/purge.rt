@@ -7,7 +7,6 @@ ghost use Rattle.cluster_defs.specs.RecordPlans.{purge_list_in, purge_in};
 ghost use Rattle.hub_queries.specs.Kinds.{id_if};
 ghost use Rattle.resubmission.specs.Purging.{purging_of};
 
-use cluster_types::copying::TryCopy;
 use cluster_types::message::Ids;
 use cluster_types::record::{Record, Records};
 use cluster_types::sequence::Sequence;
@@ -41,7 +40,7 @@ fn push_kept(found: &mut Ids, task: Option<&Record>) -> Result<(), AllocError>
         return Ok(());
     };
     if is_kept(task) {
-        found.push(task.id.copy()?)?;
+        found.push(task.id.clone()?)?;
     }
     Ok(())
 }
@@ -62,11 +61,9 @@ fn listed<R: Records>(alloc: Global, table: &R, all: bool, ids: &Ids) -> Result<
     ensures { IfOk result (λ list. list ≡ purge_list_in (R.records table.now) all ids.now) }
 {
     if all {
-        let list = kept_ids(alloc, table)?;
-        return Ok(list);
+        return kept_ids(alloc, table);
     }
-    let list = once(alloc, ids)?;
-    Ok(list)
+    once(alloc, ids)
 }
 
 /// What a purge of these ids comes to.
@@ -95,6 +92,5 @@ pub fn plan_purge<R: Records>(
     ensures { IfOk result (λ p. purging_of p ≡ purge_in (R.records table.now) (purge_list_in (R.records table.now) all ids.now)) }
 {
     let list = listed(alloc, table, all, ids)?;
-    let plan = plan_listed(alloc, table, list)?;
-    Ok(plan)
+    plan_listed(alloc, table, list)
 }

@@ -5,10 +5,10 @@ use crate::plan::{ResubmitRefusal, plan};
 use crate::purge::{PurgePlan, plan_purge};
 use cluster_defs::answer::Answer;
 use cluster_types::config::Channel;
-use cluster_types::message::{Ids, Message};
-use cluster_types::octets::Octets;
+use cluster_types::message::Ids;
 use cluster_types::record::Record;
 use cluster_types::sequence::Sequence;
+use cluster_types::shared_message::SharedMessage;
 use cluster_types::text::Text;
 use cluster_types::verdict::{Cause, Verdict};
 use std::alloc::{AllocError, Global};
@@ -23,15 +23,16 @@ fn ids(alloc: Global, names: &[&str]) -> Result<Ids, AllocError> {
     Ok(list)
 }
 
-fn outcome(alloc: Global) -> Result<Message, AllocError> {
-    Ok(Message {
-        target: Octets::new(alloc, b"")?,
-        header: Octets::new(alloc, b"{}")?,
-        parent: Octets::new(alloc, b"{}")?,
-        metadata: Octets::new(alloc, b"{}")?,
-        content: Octets::new(alloc, b"{\"status\":\"ok\"}")?,
-        buffers: Sequence::new(alloc),
-    })
+fn outcome(alloc: Global) -> Result<SharedMessage, AllocError> {
+    SharedMessage::new(
+        alloc,
+        b"",
+        b"{}",
+        b"{}",
+        b"{}",
+        b"{\"status\":\"ok\"}",
+        Sequence::new(alloc),
+    )
 }
 
 fn settled(alloc: Global, name: &str, number: u64, purged: bool) -> Result<Record, AllocError> {
@@ -89,56 +90,36 @@ fn says(answer: &Answer, text: &str) -> bool {
     answer.content.as_slice() == text.as_bytes()
 }
 
-#[test]
-fn unknown_alone(rt: HostRuntime) -> Result<(), Fail> {
-    let alloc = rt.alloc();
-    let table = table(alloc)?;
-    let outcome = plan(alloc, &table, &ids(alloc, &["z", "c"])?, 2_000_000);
-    match &outcome {
-        Err(ResubmitRefusal::Unknown(list)) => assert!(rt; are(list, "z ")),
-        _ => assert!(rt; false),
+/// A refusal of a resubmission: its name, and each of its ids followed by a blank.
+fn is_refusal(refused: &ResubmitRefusal, name: &str, names: &str) -> bool {
+    match refused {
+        ResubmitRefusal::Unknown(list) => name == "Unknown" && are(list, names),
+        ResubmitRefusal::Purged(list) => name == "Purged" && are(list, names),
+        ResubmitRefusal::Inflight(list) => name == "Inflight" && are(list, names),
+        ResubmitRefusal::TableFull => name == "TableFull",
+        _ => false,
     }
-    Ok(())
 }
 
 #[test]
-fn purged_before_inflight(rt: HostRuntime) -> Result<(), Fail> {
+fn refused_resubmissions(rt: HostRuntime) -> Result<(), Fail> {
     let alloc = rt.alloc();
     let table = table(alloc)?;
-    let outcome = plan(alloc, &table, &ids(alloc, &["c", "b"])?, 2_000_000);
-    match &outcome {
-        Err(ResubmitRefusal::Purged(list)) => assert!(rt; are(list, "c ")),
-        _ => assert!(rt; false),
-    }
-    Ok(())
-}
-
-#[test]
-fn inflight(rt: HostRuntime) -> Result<(), Fail> {
-    let alloc = rt.alloc();
-    let table = table(alloc)?;
-    let outcome = plan(alloc, &table, &ids(alloc, &["b"])?, 2_000_000);
-    match &outcome {
-        Err(ResubmitRefusal::Inflight(list)) => assert!(rt; are(list, "b ")),
-        _ => assert!(rt; false),
-    }
-    Ok(())
-}
-
-#[test]
-fn limit_reached(rt: HostRuntime) -> Result<(), Fail> {
-    let alloc = rt.alloc();
-    let table = table(alloc)?;
-    match plan(alloc, &table, &ids(alloc, &["a"])?, 3) {
-        Err(refused) => {
-            assert!(rt; matches!(refused, ResubmitRefusal::TableFull));
-            let answer = refused_answer(alloc, Channel::Hub, &ResubmitRefusal::TableFull)?;
-            let text =
-                "{\"status\":\"error\",\"ename\":\"TableFull\",\"evalue\":\"2000000\",\"traceback\":[],\"ids\":[]}";
-            assert!(rt; says(&answer, text));
+    for (first, second, limit, name, names) in [
+        ("z", "c", 2_000_000, "Unknown", "z "),
+        ("c", "b", 2_000_000, "Purged", "c "),
+        ("b", "b", 2_000_000, "Inflight", "b "),
+        ("a", "a", 3, "TableFull", ""),
+    ] {
+        match plan(alloc, &table, &ids(alloc, &[first, second])?, limit) {
+            Err(refused) => assert!(rt; is_refusal(&refused, name, names), "at {name}"),
+            Ok(_) => assert!(rt; false),
         }
-        Ok(_) => assert!(rt; false),
     }
+    let answer = refused_answer(alloc, Channel::Hub, &ResubmitRefusal::TableFull)?;
+    let text =
+        "{\"status\":\"error\",\"ename\":\"TableFull\",\"evalue\":\"2000000\",\"traceback\":[],\"ids\":[]}";
+    assert!(rt; says(&answer, text));
     Ok(())
 }
 
@@ -155,39 +136,22 @@ fn one_task_again(rt: HostRuntime) -> Result<(), Fail> {
 }
 
 #[test]
-fn purge_of_a_running_task(rt: HostRuntime) -> Result<(), Fail> {
+fn purges(rt: HostRuntime) -> Result<(), Fail> {
     let alloc = rt.alloc();
     let table = table(alloc)?;
-    let plan = plan_purge(alloc, &table, false, &ids(alloc, &["a", "b"])?)?;
-    let answer = purge_answer(alloc, Channel::Hub, &plan)?;
+    let running = plan_purge(alloc, &table, false, &ids(alloc, &["a", "b"])?)?;
     let text =
         "{\"status\":\"error\",\"ename\":\"Inflight\",\"evalue\":\"\",\"traceback\":[],\"ids\":[\"b\"]}";
-    assert!(rt; says(&answer, text));
-    Ok(())
-}
-
-#[test]
-fn purge_of_all(rt: HostRuntime) -> Result<(), Fail> {
-    let alloc = rt.alloc();
-    let table = table(alloc)?;
-    let plan = plan_purge(alloc, &table, true, &ids(alloc, &[])?)?;
-    match &plan {
-        PurgePlan::Drops(list) => assert!(rt; are(list, "a ")),
-        _ => assert!(rt; false),
-    }
-    let answer = purge_answer(alloc, Channel::Hub, &plan)?;
-    assert!(rt; says(&answer, "{\"status\":\"ok\"}"));
-    Ok(())
-}
-
-#[test]
-fn purge_of_unknown_ids(rt: HostRuntime) -> Result<(), Fail> {
-    let alloc = rt.alloc();
-    let table = table(alloc)?;
-    let plan = plan_purge(alloc, &table, false, &ids(alloc, &["c", "b", "z"])?)?;
-    match &plan {
-        PurgePlan::Unknown(list) => assert!(rt; are(list, "c z ")),
-        _ => assert!(rt; false),
-    }
+    assert!(rt; says(&purge_answer(alloc, Channel::Hub, &running)?, text));
+    let all = plan_purge(alloc, &table, true, &ids(alloc, &[])?)?;
+    assert!(rt; matches!(&all, PurgePlan::Drops(list) if are(list, "a ")));
+    assert!(rt;
+        says(
+            &purge_answer(alloc, Channel::Hub, &all)?,
+            "{\"status\":\"ok\"}"
+        )
+    );
+    let unknown = plan_purge(alloc, &table, false, &ids(alloc, &["c", "b", "z"])?)?;
+    assert!(rt; matches!(&unknown, PurgePlan::Unknown(list) if are(list, "c z ")));
     Ok(())
 }

@@ -1,20 +1,15 @@
 -- How the reading of a record goes on where more octets come.
-use Rattle.std.proofs.Common.{◌≡◌, ℕ, zero, suc, Bool, true, false, cond, List, [], ◌∷◌, Result, Ok, Err, refl}
-use Rattle.std.specs.Prelude.{nat_lt, ◌==◌, ◌||◌, if◌then◌else◌}
+use Rattle.std.proofs.Common.{ℕ, zero, suc, List, [], ◌∷◌}
+use Rattle.std.specs.Prelude.{nat_lt, ◌==◌, ◌||◌}
 use Rattle.std.specs.Int.{w32, w64}
 use Rattle.cluster_types.specs.declared.config.Channel.{Channel}
-use Rattle.cluster_types.specs.declared.config.Channel.TheVariants.{Hub, Task, Mux, Engine}
-use Rattle.octet_fields.specs.Reading.{Read, ◌>>=◌, octet_at, number_at, str8_at, blob_at}
-use Rattle.octet_fields.proofs.Extends.{Extends, then_read, in_turn, give, gives, refuse, refuses, either, eithers, octets, numbers, str8s, blobs}
+use Rattle.octet_fields.specs.Reading.{Read, octet_at, number_at, str8_at, blob_at, channel_at}
+use Rattle.octet_fields.proofs.Extends.{Extends, then_read, in_turn, give, gives, refuse, refuses, either, eithers, octets, numbers, str8s, blobs, channels}
 use Rattle.tape.specs.declared.record.TapeRecord.{TapeRecord}
 use Rattle.tape.specs.declared.record.TapeKind.{TapeKind}
 use Rattle.tape.specs.declared.record.TapeKind.TheVariants.{Up, Piece, Down, Beat, Time, Message}
-use Rattle.tape.specs.Reading.{last_moment, channel_at, up_at, piece_at, down_at, frames_at, message_at, kind_at, record_at}
-
-channels : Extends channel_at
-unfolding channel_at
-channels = in_turn octet_at (λ x. either (x == 0) (give Hub) (either (x == 1) (give Task) (either (x == 2) (give Mux) (either (x == 3) (give Engine) refuse)))) octets
-    (λ x. eithers (x == 0) (give Hub) _ (gives Hub) (eithers (x == 1) (give Task) _ (gives Task) (eithers (x == 2) (give Mux) _ (gives Mux) (eithers (x == 3) (give Engine) refuse (gives Engine) refuses))))
+use Rattle.cluster_types.specs.Limits.{last_moment}
+use Rattle.tape.specs.Reading.{up_at, piece_at, down_at, frames_at, message_at, kind_at, record_at}
 
 abbrev up_rest : ℕ → Channel → ℕ → List ℕ → Read TapeKind
 up_rest conn channel form = either (nat_lt 1 form) refuse (then_read str8_at (λ identity. give (Up conn channel (form == 1) identity)))

@@ -1,5 +1,5 @@
 -- Places past the end.
-use Rattle.std.proofs.Common.{◌≡◌, ℕ, List, [], ◌<◌, ◌≤◌, length, drop, refl, sym, subst, arith}
+use Rattle.std.proofs.Common.{ℕ, List, [], ◌<◌, length, refl, sym, subst, arith}
 use Rattle.std.specs.Prelude.{IsErr}
 use Rattle.std.proofs.lemmas.List.{drop_all}
 use Rattle.tape.specs.Reading.{record_at}

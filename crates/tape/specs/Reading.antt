@@ -1,22 +1,12 @@
 -- Reading a record of a tape at the front of octets, from left to right.
-use Rattle.std.specs.Prelude.{ℕ, zero, suc, List, [], ◌∷◌, Ok, Err, nat_lt, ◌==◌, ◌||◌, true, false, if◌then◌else◌}
+use Rattle.std.specs.Prelude.{ℕ, zero, suc, List, [], ◌∷◌, Ok, Err, nat_lt, ◌==◌, ◌||◌, if◌then◌else◌}
 use Rattle.std.specs.Int.{w32, w64}
-use Rattle.cluster_types.specs.declared.config.Channel.{Channel}
-use Rattle.cluster_types.specs.declared.config.Channel.TheVariants.{Hub, Task, Mux, Engine}
+use Rattle.cluster_types.specs.Limits.{last_moment, most_frames}
 use Rattle.octet_fields.specs.declared.stop.Stop.TheVariants.{Bad}
-use Rattle.octet_fields.specs.Reading.{Read, ◌>>=◌, octet_at, number_at, str8_at, blob_at}
+use Rattle.octet_fields.specs.Reading.{Read, ◌>>=◌, octet_at, number_at, str8_at, blob_at, channel_at}
 use Rattle.tape.specs.declared.record.TapeRecord.{TapeRecord}
 use Rattle.tape.specs.declared.record.TapeKind.{TapeKind}
 use Rattle.tape.specs.declared.record.TapeKind.TheVariants.{Up, Piece, Down, Beat, Time, Message}
-
--- the last millisecond of the year 9999
-abbrev pub last_moment : ℕ
-last_moment = 253402300799999
-
-unfoldable pub channel_at : List ℕ → Read Channel
-channel_at octets = do
-  x ← octet_at octets
-  if x.0 == 0 then Ok (Hub, x.1) else if x.0 == 1 then Ok (Task, x.1) else if x.0 == 2 then Ok (Mux, x.1) else if x.0 == 3 then Ok (Engine, x.1) else Err Bad
 
 unfoldable pub up_at : List ℕ → Read TapeKind
 up_at octets = do
@@ -51,7 +41,7 @@ unfoldable pub message_at : List ℕ → Read TapeKind
 message_at octets = do
   conn ← number_at w32 octets
   count ← octet_at conn.1
-  if (count.0 == 0) || nat_lt 64 count.0 then Err Bad else do
+  if (count.0 == 0) || nat_lt most_frames count.0 then Err Bad else do
     frames ← frames_at count.0 count.1
     Ok (Message conn.0 frames.0, frames.1)
 

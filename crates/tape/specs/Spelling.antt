@@ -1,19 +1,11 @@
 -- The one spelling of a record of a tape.
-use Rattle.std.specs.Prelude.{◌≡◌, ℕ, ◌^◌, ◌<◌, ◌≤◌, List, [], ◌∷◌, ◌++◌, length, Bool, true, false, All, if◌then◌else◌}
+use Rattle.std.specs.Prelude.{ℕ, ◌^◌, ◌<◌, ◌≤◌, List, [], ◌∷◌, ◌++◌, length, Bool, true, false, All}
 use Rattle.std.specs.List.{flat_map}
-use Rattle.cluster_types.specs.declared.config.Channel.{Channel}
-use Rattle.cluster_types.specs.declared.config.Channel.TheVariants.{Hub, Task, Mux, Engine}
-use Rattle.octet_fields.specs.Spelling.{be32, be64, str8, blob}
+use Rattle.octet_fields.specs.Spelling.{be32, be64, str8, blob, channel_code}
 use Rattle.tape.specs.declared.record.TapeRecord.{TapeRecord}
 use Rattle.tape.specs.declared.record.TapeKind.{TapeKind}
 use Rattle.tape.specs.declared.record.TapeKind.TheVariants.{Up, Piece, Down, Beat, Time, Message}
-use Rattle.tape.specs.Reading.{last_moment}
-
-abbrev pub channel_code : Channel → ℕ
-channel_code Hub = 0
-channel_code Task = 1
-channel_code Mux = 2
-channel_code Engine = 3
+use Rattle.cluster_types.specs.Limits.{last_moment, most_frames}
 
 abbrev pub form_code : Bool → ℕ
 form_code false = 0
@@ -41,8 +33,8 @@ abbrev pub spelled : TapeRecord → List ℕ
 spelled r = kind_code r.kind ∷ be64 r.moment ++ be64 r.word ++ kind_text r.kind
 
 -- records one after another
-abbrev pub written : List TapeRecord → List ℕ
-written = flat_map spelled
+abbrev pub all_spelled : List TapeRecord → List ℕ
+all_spelled = flat_map spelled
 
 abbrev pub FitsBlob : List ℕ → Type 0
 FitsBlob octets = length octets < 2 ^ 32
@@ -53,7 +45,7 @@ KindFits (Piece conn octets) = (conn < 2 ^ 32) × FitsBlob octets
 KindFits (Down conn) = conn < 2 ^ 32
 KindFits Beat = Unit {0}
 KindFits Time = Unit {0}
-KindFits (Message conn frames) = (conn < 2 ^ 32) × (0 < length frames) × (length frames ≤ 64) × All FitsBlob frames
+KindFits (Message conn frames) = (conn < 2 ^ 32) × (0 < length frames) × (length frames ≤ most_frames) × All FitsBlob frames
 
 -- what has a spelling
 pub record Fits (r : TapeRecord) : Type 0 where

@@ -1,6 +1,6 @@
 -- A tape, octet by octet: an octet ends a record, shows that none stands there, or is kept.
-use Rattle.std.specs.Prelude.{◌≡◌, ℕ, ◌+◌, ◌-◌, ◌<◌, ◌≤◌, min, List, [], ◌∷◌, ◌++◌, length, drop, Option, Some, None, Result, Ok, Err, IsErr, Bool, true, false, ◌==◌, ◌⊎◌, if◌then◌else◌}
-use Rattle.octet_fields.specs.declared.stop.Stop.{Stop}
+use Rattle.std.specs.Prelude.{◌≡◌, ℕ, ◌+◌, ◌-◌, min, List, [], ◌∷◌, ◌++◌, length, drop, Option, Some, None, Ok, Err, IsErr, Bool, true, false, ◌==◌, if◌then◌else◌}
+use Rattle.cluster_types.specs.Limits.{tape_limit}
 use Rattle.octet_fields.specs.declared.stop.Stop.TheVariants.{Short, Bad}
 use Rattle.octet_fields.specs.Reading.{Read}
 use Rattle.tape.specs.declared.record.TapeRecord.{TapeRecord}
@@ -26,12 +26,12 @@ abbrev pub blank : Tape
 blank = record { at = 0; rest = []; ended = false }
 
 -- places past 2 ^ 32 are not told apart
-abbrev pub place_after : ℕ → ℕ → ℕ
-place_after at n = min (at + n) 4294967296
+abbrev pub capped_place : ℕ → ℕ → ℕ
+capped_place at n = min (at + n) tape_limit
 
 -- what the octets of an unfinished record with one more are
 abbrev pub taken : ℕ → List ℕ → Read TapeRecord → Tape × List TapeRecord
-taken at rest (Ok r) = (record { at = place_after at (length rest); rest = []; ended = false }, r.0 ∷ [])
+taken at rest (Ok r) = (record { at = capped_place at (length rest); rest = []; ended = false }, r.0 ∷ [])
 taken at rest (Err (Short k)) = (record { at = at; rest = rest; ended = false }, [])
 taken at rest (Err Bad) = (record { at = at; rest = rest; ended = true }, [])
 
@@ -39,9 +39,9 @@ abbrev pub step : Tape → ℕ → Tape × List TapeRecord
 step t x = if t.ended then (t, []) else taken t.at (t.rest ++ x ∷ []) (record_at (t.rest ++ x ∷ []))
 
 -- what is known after these octets
-abbrev pub after : Tape → List ℕ → Tape
-after t [] = t
-after t (x ∷ xs) = after (step t x).0 xs
+abbrev pub tape_after : Tape → List ℕ → Tape
+tape_after t [] = t
+tape_after t (x ∷ xs) = tape_after (step t x).0 xs
 
 -- the records that these octets end
 abbrev pub records : Tape → List ℕ → List TapeRecord

@@ -1,18 +1,17 @@
 //! A reader of records that is fed in any pieces.
 
 ghost use Rattle.std.specs.Prelude.{◌≡◌, ◌<◌, ◌≤◌, ◌++◌, ℕ, List, take, length, IfOk, IfErr, OnOk, false, Ok};
+ghost use Rattle.cluster_types.specs.Limits.{tape_limit};
 ghost use Rattle.octet_fields.specs.Reading.{Fails};
 ghost use Rattle.tape.specs.Reading.{record_at};
-ghost use Rattle.tape.specs.Tape.{Tape, blank, after, records, fault, place_after, listed};
+ghost use Rattle.tape.specs.Tape.{Tape, blank, tape_after, records, fault, capped_place, listed};
 
 use crate::reading::read_record;
 use crate::record::{TapeRecord, TapeRecords};
+use cluster_types::limits::TAPE_OCTETS;
 use octet_fields::stop::{ReadError, Stop};
 use std::alloc::{AllocError, Global};
 use std::marker::Model;
-
-/// Places past this one are not told apart.
-const LAST_PLACE: u64 = 4_294_967_296;
 
 /// What has come of a tape. At least `left` octets are missing to the record that is unfinished.
 #[derive(Drop)]
@@ -25,6 +24,7 @@ pub struct TapeReader {
 
 impl Model for TapeReader {
     ghost use Rattle.std.specs.Prelude.{◌≡◌, ◌≤◌, false, Err};
+    ghost use Rattle.cluster_types.specs.Limits.{tape_limit};
     ghost use Rattle.octet_fields.specs.declared.stop.Stop.TheVariants.{Short};
     ghost use Rattle.tape.specs.Reading.{record_at};
     ghost use Rattle.tape.specs.Tape.{Tape};
@@ -33,7 +33,7 @@ impl Model for TapeReader {
 
     ghost view = { λ t. record { at = t.at; rest = t.rest.items; ended = t.ended } };
 
-    ghost invariant = { λ t. (t.at ≤ 4294967296) × (t.ended ≡ false → record_at t.rest.items ≡ Err (Short t.left)) };
+    ghost invariant = { λ t. (t.at ≤ tape_limit) × (t.ended ≡ false → record_at t.rest.items ≡ Err (Short t.left)) };
 }
 
 impl TapeReader {
@@ -75,7 +75,7 @@ impl TapeReader {
         requires some { 0 < length piece.now }
         requires goes { self.old.ended ≡ false }
         ensures count { IfOk result (λ r. (0 < r.0) × (r.0 ≤ length piece.now)) }
-        ensures after { IfOk result (λ r. self.new ≡ after self.old (take r.0 piece.now)) }
+        ensures after { IfOk result (λ r. self.new ≡ tape_after self.old (take r.0 piece.now)) }
         ensures records { IfOk result (λ r. listed r.1 ≡ records self.old (take r.0 piece.now)) }
     {
         let alloc = *self.rest.allocator();
@@ -111,7 +111,7 @@ impl TapeReader {
     fn take(&mut self, list: &mut TapeRecords, piece: &[u8]) -> Result<usize, AllocError>
         requires { 0 < length piece.now }
         ensures count { IfOk result (λ n. (0 < n) × (n ≤ length piece.now)) }
-        ensures after { IfOk result (λ n. self.new ≡ after self.old (take n piece.now)) }
+        ensures after { IfOk result (λ n. self.new ≡ tape_after self.old (take n piece.now)) }
         ensures records { IfOk result (λ n. list.new ≡ list.old ++ records self.old (take n piece.now)) }
     {
         if self.ended {
@@ -124,7 +124,7 @@ impl TapeReader {
 
     /// Takes the next piece of the tape, and gives the records that it ends.
     pub fn feed(&mut self, piece: &[u8]) -> Result<TapeRecords, AllocError>
-        ensures after { OnOk result (self.new ≡ after self.old piece.now) }
+        ensures after { OnOk result (self.new ≡ tape_after self.old piece.now) }
         ensures records { IfOk result (λ list. list ≡ records self.old piece.now) }
     {
         let mut list = TapeRecords::new(*self.rest.allocator());
@@ -149,10 +149,10 @@ fn push_some(list: &mut TapeRecords, item: Option<TapeRecord>) -> Result<(), All
 
 /// The place so many octets on.
 fn placed(at: u64, n: usize) -> u64
-    requires { at ≤ 4294967296 }
-    ensures { result ≡ place_after at n }
+    requires { at ≤ tape_limit }
+    ensures { result ≡ capped_place at n }
 {
-    at.saturating_add(n as u64).min(LAST_PLACE)
+    at.saturating_add(n as u64).min(TAPE_OCTETS)
 }
 
 /// The record at the front.

@@ -2,22 +2,16 @@
 
 ghost use Rattle.std.specs.Prelude.{◌≡◌, IfOk, Err};
 ghost use Rattle.octet_fields.specs.Reading.{Gives, IsRead, Passes};
-ghost use Rattle.tape.specs.Reading.{channel_at, up_at, piece_at, down_at, frames_at, message_at, kind_at, record_at};
+ghost use Rattle.tape.specs.Reading.{up_at, piece_at, down_at, frames_at, message_at, kind_at, record_at};
 ghost use Rattle.tape.specs.Tape.{IsRecord, NoRecord};
 
 use crate::record::{TapeKind, TapeRecord};
-use cluster_types::config::Channel;
+use cluster_types::limits::{LAST_MOMENT, MOST_FRAMES};
 use cluster_types::octets::Octets;
 use edges::frames::Frames;
-use octet_fields::reading::{blob, number32, number64, octet, str8};
+use octet_fields::reading::{blob, channel, number32, number64, octet, str8};
 use octet_fields::stop::{ReadError, Stop};
 use std::alloc::Global;
-
-/// The last millisecond of the year 9999.
-pub const LAST_MOMENT: u64 = 253_402_300_799_999;
-
-/// The most frames that a record has.
-const MOST_FRAMES: u8 = 64;
 
 /// Why no record is read.
 #[derive(Clone, Copy, Debug, PartialEq, Eq)]
@@ -25,20 +19,6 @@ pub enum TapeError {
     /// No whole record stands there.
     BadTape,
     OutOfMemory,
-}
-
-#[tactic(auto, unfolding(crate::specs::Reading::channel_at))]
-fn channel(octets: &[u8]) -> Result<(Channel, &[u8]), Stop>
-    ensures { IsRead (λ x. (x.0, x.1.now)) result (channel_at octets.now) }
-{
-    let (code, rest) = octet(octets)?;
-    match code {
-        0 => Ok((Channel::Hub, rest)),
-        1 => Ok((Channel::Task, rest)),
-        2 => Ok((Channel::Mux, rest)),
-        3 => Ok((Channel::Engine, rest)),
-        _ => Err(Stop::Bad),
-    }
 }
 
 #[tactic(auto, unfolding(crate::specs::Reading::up_at))]
@@ -115,7 +95,7 @@ fn message_kind(alloc: Global, octets: &[u8]) -> Result<(TapeKind, &[u8]), ReadE
 {
     let (conn, rest) = number32(octets)?;
     let (count, rest) = octet(rest)?;
-    if count == 0 || count > MOST_FRAMES {
+    if count == 0 || usize::from(count) > MOST_FRAMES {
         return Err(ReadError::Stop(Stop::Bad));
     }
     let _passed = pass_frames(count, rest)?;

@@ -1,10 +1,11 @@
 //! Records that are read and written again, and one that is cut off.
 
 use crate::reader::TapeReader;
-use crate::reading::{LAST_MOMENT, TapeError, read_tape};
+use crate::reading::{TapeError, read_tape};
 use crate::record::{TapeKind, TapeRecord};
 use crate::writing::write_tape;
 use cluster_types::config::Channel;
+use cluster_types::limits::LAST_MOMENT;
 use edges::frames::Frames;
 use std::alloc::{AllocError, Global};
 use std::test::Fail;

@@ -2,25 +2,15 @@
 
 ghost use Rattle.std.specs.Prelude.{◌≡◌, ◌<◌, ◌≤◌, ◌^◌, ◌++◌, length, slice_index_or, [], All, OnOk};
 ghost use Rattle.std.specs.List.{flat_map};
+ghost use Rattle.cluster_types.specs.Limits.{most_frames};
 ghost use Rattle.octet_fields.specs.Spelling.{blob};
-ghost use Rattle.tape.specs.Spelling.{spelled, written, kind_text, kind_code, channel_code, form_code, Fits, KindFits, FitsBlob};
+ghost use Rattle.tape.specs.Spelling.{spelled, all_spelled, kind_text, kind_code, form_code, Fits, KindFits, FitsBlob};
 
 use crate::record::{TapeKind, TapeRecord};
 use cluster_types::config::Channel;
 use edges::frames::Frames;
-use octet_fields::writing::{put_blob, put_number32, put_number64, put_str8};
+use octet_fields::writing::{put_blob, put_channel, put_number32, put_number64, put_str8};
 use std::alloc::AllocError;
-
-fn code_of_channel(channel: Channel) -> u8
-    ensures { result ≡ channel_code channel }
-{
-    match channel {
-        Channel::Hub => 0,
-        Channel::Task => 1,
-        Channel::Mux => 2,
-        Channel::Engine => 3,
-    }
-}
 
 fn code_of_form(bare: bool) -> u8
     ensures { result ≡ form_code bare }
@@ -53,7 +43,7 @@ fn put_up(
     ensures { OnOk result (into.new.items ≡ into.old.items ++ kind_text (TapeKind.Up conn channel bare identity.now)) }
 {
     put_number32(into, conn)?;
-    into.push(code_of_channel(channel))?;
+    put_channel(into, channel)?;
     into.push(code_of_form(bare))?;
     put_str8(into, identity)?;
     Ok(())
@@ -93,7 +83,7 @@ fn put_frames(into: &mut Vec<u8>, frames: &Frames) -> Result<(), AllocError>
 
 #[tactic(auto, using(octet_fields::proofs::Joins::joins))]
 fn put_message(into: &mut Vec<u8>, conn: u32, frames: &Frames) -> Result<(), AllocError>
-    requires few { length frames.now ≤ 64 }
+    requires few { length frames.now ≤ most_frames }
     requires fit { All FitsBlob frames.now }
     ensures { OnOk result (into.new.items ≡ into.old.items ++ kind_text (TapeKind.Message conn frames.now)) }
 {
@@ -140,7 +130,7 @@ pub fn write_tape(into: &mut Vec<u8>, item: &TapeRecord) -> Result<(), AllocErro
 /// Appends records one after another.
 pub fn write_records(into: &mut Vec<u8>, items: &[TapeRecord]) -> Result<(), AllocError>
     requires { All Fits items.now }
-    ensures { OnOk result (into.new.items ≡ into.old.items ++ written items.now) }
+    ensures { OnOk result (into.new.items ≡ into.old.items ++ all_spelled items.now) }
 {
     for item in items {
         write_tape(into, item)?;

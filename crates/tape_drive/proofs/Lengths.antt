@@ -3,11 +3,11 @@ use Rattle.std.proofs.Common.{◌≡◌, ℕ, ◌+◌, List, [], ◌∷◌, ◌+
 use Rattle.std.specs.List.{flat_map}
 use Rattle.std.proofs.lemmas.List.{length-append}
 use Rattle.std.proofs.lemmas.List.Sums.{sum_by-cons}
-use Rattle.octet_fields.specs.Spelling.{be32, be64, blob, str8}
+use Rattle.octet_fields.specs.Spelling.{be32, be64, blob, channel_code, str8}
 use Rattle.tape.specs.declared.record.TapeRecord.{TapeRecord}
 use Rattle.tape.specs.declared.record.TapeKind.{TapeKind}
 use Rattle.tape.specs.declared.record.TapeKind.TheVariants.{Up, Piece, Down, Beat, Time, Message}
-use Rattle.tape.specs.Spelling.{spelled, kind_text, kind_code, channel_code, form_code}
+use Rattle.tape.specs.Spelling.{spelled, kind_text, kind_code, form_code}
 use Rattle.tape_drive.specs.Sizes.{frame_size, frames_size, kind_size}
 
 be32_length : (n : ℕ) → length (be32 n) ≡ 4

@@ -3,5 +3,6 @@ pub mod Lawful
 pub mod Lengths
 pub mod Moments
 pub mod Ordered
+pub mod Serving
 pub mod Sorting
 pub mod Unsent

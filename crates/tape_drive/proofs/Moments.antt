@@ -12,7 +12,7 @@ use Rattle.jupyter_parts.specs.Signed.{read_parts}
 use Rattle.tape.specs.declared.record.TapeRecord.{TapeRecord}
 use Rattle.tape.specs.declared.record.TapeKind.{TapeKind}
 use Rattle.tape.specs.declared.record.TapeKind.TheVariants.{Up, Piece, Down, Beat, Time, Message as MessageKind}
-use Rattle.tape.specs.Reading.{last_moment}
+use Rattle.cluster_types.specs.Limits.{last_moment}
 use Rattle.tape_drive.specs.Links.{Link, link_on, given_on}
 use Rattle.tape_drive.specs.Inputs.{signed, in_of, up_where, down_where, stream_inputs, kind_inputs, inputs_of}
 use Rattle.tape_drive.specs.Steps.{AreInTime}

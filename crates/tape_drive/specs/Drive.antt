@@ -5,8 +5,8 @@ use Rattle.cluster_types.specs.declared.entry.Entry.TheVariants.{Input}
 use Rattle.cluster_types.specs.declared.entry.Input.TheVariants.{Open}
 use Rattle.cluster_defs.specs.Histories.{History, decide_all}
 use Rattle.tape.specs.declared.record.TapeRecord.{TapeRecord}
-use Rattle.tape.specs.Spelling.{spelled, written}
-use Rattle.tape.specs.Tape.{blank, after, records, fault}
+use Rattle.tape.specs.Spelling.{spelled, all_spelled}
+use Rattle.tape.specs.Tape.{blank, tape_after, records, fault}
 use Rattle.tape_drive.specs.Links.{Link, links_at, links_left}
 use Rattle.tape_drive.specs.Rules.{least_after, stop_of}
 use Rattle.tape_drive.specs.Inputs.{inputs_of}
@@ -93,7 +93,7 @@ drive_stand key s octets = stand_at key s (records blank octets)
 
 -- the octets that a tape is answered with
 abbrev pub drive_output : List ℕ → Stand → List ℕ → List ℕ
-drive_output key s octets = written (outputs key s (records blank octets))
+drive_output key s octets = all_spelled (outputs key s (records blank octets))
 
 abbrev pub first_of : Option ℕ → Option ℕ → Option ℕ
 first_of (Some place) other = Some place
@@ -101,4 +101,4 @@ first_of None other = other
 
 -- the place of the first record of a tape that breaks a rule, or else of what is no whole record
 abbrev pub drive_fault : List ℕ → Stand → List ℕ → Option ℕ
-drive_fault key s octets = first_of (drive_stand key s octets).stop (fault (after blank octets))
+drive_fault key s octets = first_of (drive_stand key s octets).stop (fault (tape_after blank octets))

@@ -18,11 +18,11 @@ use Rattle.tape_drive.specs.Links.{Link, link_on, given_on}
 unfoldable pub numbered_identity : ℕ → List ℕ
 numbered_identity conn = codes "conn-" ++ decimal conn
 
-abbrev pub named : ℕ → List ℕ → List ℕ
-named conn identity = if length identity == 0 then numbered_identity conn else identity
+abbrev pub identity_or_number : ℕ → List ℕ → List ℕ
+identity_or_number conn identity = if length identity == 0 then numbered_identity conn else identity
 
 abbrev pub up_of : ℕ → Channel → ℕ → ℕ → List ℕ → InputType
-up_of conn channel moment word identity = UpInput conn channel moment word (named conn identity)
+up_of conn channel moment word identity = UpInput conn channel moment word (identity_or_number conn identity)
 
 -- the message that frames are, where they are signed
 abbrev pub signed : Result Message PartsError → Option Message

@@ -5,7 +5,7 @@ use Rattle.std.specs.List.{list_all}
 use Rattle.tape.specs.declared.record.TapeRecord.{TapeRecord}
 use Rattle.tape.specs.declared.record.TapeKind.{TapeKind}
 use Rattle.tape.specs.declared.record.TapeKind.TheVariants.{Up, Piece, Down, Beat, Time, Message}
-use Rattle.tape.specs.Reading.{last_moment}
+use Rattle.cluster_types.specs.Limits.{last_moment, body_limit, message_limit, tape_limit}
 use Rattle.tape.specs.Spelling.{spelled}
 use Rattle.tape_drive.specs.Links.{Link, link_on, is_bare, is_zmtp}
 
@@ -23,7 +23,7 @@ is_piece octets = nat_lt 0 (length octets) && nat_le (length octets) 1048576
 
 -- a message has bodies of at most 16,777,216 octets, and of at most 33,554,432 together
 abbrev pub is_in_limits : List (List ℕ) → Bool
-is_in_limits frames = list_all (λ body. nat_le (length body) 16777216) frames && nat_le (sum_by length frames) 33554432
+is_in_limits frames = list_all (λ body. nat_le (length body) body_limit) frames && nat_le (sum_by length frames) message_limit
 
 -- `least` is the least number that a connection may still have
 abbrev pub kind_follows : List Link → ℕ → TapeKind → Bool
@@ -45,5 +45,5 @@ least_after least _ = least
 -- the place of the fault of a record at a place: its own where it breaks a rule, and 4,294,967,296 where it ends past that
 abbrev pub stop_of : List Link → ℕ → ℕ → TapeRecord → Option ℕ
 stop_of links least at r =
-    if follows links least r then if nat_le (at + length (spelled r)) 4294967296 then None else Some 4294967296
+    if follows links least r then if nat_le (at + length (spelled r)) tape_limit then None else Some tape_limit
     else Some at

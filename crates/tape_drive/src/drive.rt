@@ -3,12 +3,12 @@
 ghost use Rattle.std.specs.Prelude.{◌≡◌, ◌≤◌, ◌+◌, ◌++◌, ◌∷◌, [], Some, None, IfOk, OnOk, length, map, reverse};
 ghost use Rattle.cluster_types.specs.declared.entry.Entry.{Entry};
 ghost use Rattle.cluster_state.specs.Plain.{InTime};
-ghost use Rattle.tape.specs.Reading.{last_moment};
-ghost use Rattle.tape.specs.Spelling.{spelled, written};
+ghost use Rattle.cluster_types.specs.Limits.{last_moment, tape_limit};
+ghost use Rattle.tape.specs.Spelling.{spelled, all_spelled};
 ghost use Rattle.tape_drive.specs.Rules.{stop_of};
 ghost use Rattle.tape_drive.specs.Steps.{stepped, stepped_all, step_outs, AreInTime};
 ghost use Rattle.tape_drive.specs.Sends.{step_sends, steps_send, sent_at};
-ghost use Rattle.tape_drive.specs.Drive.{Stand, start, goes_on, sends, halts, served, outs};
+ghost use Rattle.tape_drive.specs.Drive.{Stand, start, goes_on, sends, halts, served, outs, stand_at, outputs};
 
 use crate::links::Link;
 use crate::records::{leave, take_record};
@@ -89,7 +89,7 @@ impl Drive {
     ) -> Result<(), AllocError>
         requires { InTime (Entry.Input input) }
         ensures stand { OnOk result (self.new ≡ record self.old { history = stepped self.old.history input }) }
-        ensures octets { OnOk result (into.new.items ≡ into.old.items ++ written (map (sent_at moment) (step_sends key.now self.old.links self.old.history input))) }
+        ensures octets { OnOk result (into.new.items ≡ into.old.items ++ all_spelled (map (sent_at moment) (step_sends key.now self.old.links self.old.history input))) }
     {
         let outs = step(&mut self.core, chooser, input)?;
         put_outs(into, key, self.links.as_slice(), moment, outs)?;
@@ -107,7 +107,7 @@ impl Drive {
     ) -> Result<(), AllocError>
         requires { AreInTime (reverse inputs.items) }
         ensures stand { OnOk result (self.new ≡ record self.old { history = stepped_all self.old.history (reverse inputs.items) }) }
-        ensures octets { OnOk result (into.new.items ≡ into.old.items ++ written (map (sent_at moment) (steps_send key.now self.old.links self.old.history (reverse inputs.items)))) }
+        ensures octets { OnOk result (into.new.items ≡ into.old.items ++ all_spelled (map (sent_at moment) (steps_send key.now self.old.links self.old.history (reverse inputs.items)))) }
     {
         while let Some(input) = inputs.pop() {
             self.serve_input(into, key, chooser, moment, input)?;
@@ -124,9 +124,9 @@ impl Drive {
         item: &TapeRecord,
     ) -> Result<(), AllocError>
         requires moment { item.now.moment ≤ last_moment }
-        requires end { self.old.at + length (spelled item.now) ≤ 4294967296 }
+        requires end { self.old.at + length (spelled item.now) ≤ tape_limit }
         ensures stand { OnOk result (self.new ≡ goes_on key.now self.old item.now) }
-        ensures octets { OnOk result (into.new.items ≡ into.old.items ++ written (sends key.now self.old item.now)) }
+        ensures octets { OnOk result (into.new.items ≡ into.old.items ++ all_spelled (sends key.now self.old item.now)) }
     {
         let mut inputs = Vec::new(self.core.allocator());
         take_record(&mut self.links, &mut inputs, into, key, item)?;
@@ -145,24 +145,41 @@ impl Drive {
         stop_of(self.links.as_slice(), self.least, self.at, item)
     }
 
-    /// Serves a record, and gives the octets of what is sent. A record that breaks a rule stops the tape: neither it
-    /// nor what stands behind it is served.
+    /// Serves a record, and appends the octets of what is sent. A record that breaks a rule stops the tape: neither it nor
+    /// what stands behind it is served.
     pub fn serve(
         &mut self,
+        into: &mut Vec<u8>,
         key: &Key,
         chooser: &Chooser,
         item: &TapeRecord,
-    ) -> Result<Vec<u8>, AllocError>
+    ) -> Result<(), AllocError>
         ensures stand { OnOk result (self.new ≡ served key.now self.old item.now) }
-        ensures octets { IfOk result (λ text. text.items ≡ written (outs key.now self.old item.now)) }
+        ensures octets { OnOk result (into.new.items ≡ into.old.items ++ all_spelled (outs key.now self.old item.now)) }
     {
-        let mut text = Vec::new(self.core.allocator());
         if self.stop.is_some() {
-            return Ok(text);
+            return Ok(());
         }
         match self.fault_of(item) {
             Some(place) => self.stop = Some(place),
-            None => self.go_on(&mut text, key, chooser, item)?,
+            None => self.go_on(into, key, chooser, item)?,
+        }
+        Ok(())
+    }
+
+    /// Serves records one after another, and gives the octets of what is sent.
+    pub fn serve_all(
+        &mut self,
+        key: &Key,
+        chooser: &Chooser,
+        list: &[TapeRecord],
+    ) -> Result<Vec<u8>, AllocError>
+        ensures stand { OnOk result (self.new ≡ stand_at key.now self.old list.now) }
+        ensures octets { IfOk result (λ text. text.items ≡ all_spelled (outputs key.now self.old list.now)) }
+    {
+        let mut text = Vec::new(self.core.allocator());
+        for item in list {
+            self.serve(&mut text, key, chooser, item)?;
         }
         Ok(text)
     }

@@ -3,13 +3,12 @@
 ghost use Rattle.std.specs.Prelude.{◌≡◌, ◌++◌, ◌∷◌, [], option_to_list, option_map, IfOk, OnOk, take};
 ghost use Rattle.std.specs.List.{flat_map};
 ghost use Rattle.jupyter_parts.specs.Signed.{read_parts};
-ghost use Rattle.tape_drive.specs.Inputs.{numbered_identity, named, up_of, signed, in_of, up_where, down_where, stream_inputs};
+ghost use Rattle.tape_drive.specs.Inputs.{numbered_identity, identity_or_number, up_of, signed, in_of, up_where, down_where, stream_inputs};
 
 use cluster_types::config::Channel;
-use cluster_types::copying::TryCopy;
 use cluster_types::entry::Input;
-use cluster_types::message::Message;
 use cluster_types::octets::Octets;
+use cluster_types::shared_message::SharedMessage;
 use edges::frames::Frames;
 use hmac_sign::Key;
 use jupyter_parts::fault::PartsError;
@@ -38,14 +37,14 @@ fn numbered_identity(alloc: Global, conn: u32) -> Result<Octets, AllocError>
 }
 
 /// The identity of a connection, after its number where it has none.
-fn named(alloc: Global, conn: u32, identity: &Octets) -> Result<Octets, AllocError>
-    ensures { IfOk result (λ i. i ≡ named conn identity.now) }
+fn identity_or_number(alloc: Global, conn: u32, identity: &Octets) -> Result<Octets, AllocError>
+    ensures { IfOk result (λ i. i ≡ identity_or_number conn identity.now) }
 {
     if identity.as_slice().len() == 0 {
         let identity = numbered_identity(alloc, conn)?;
         return Ok(identity);
     }
-    let identity = identity.copy()?;
+    let identity = identity.clone()?;
     Ok(identity)
 }
 
@@ -58,7 +57,7 @@ fn up_of(
 ) -> Result<Input, AllocError>
     ensures { IfOk result (λ i. i ≡ up_of from.conn channel from.moment from.word identity.now) }
 {
-    let identity = named(alloc, from.conn, identity)?;
+    let identity = identity_or_number(alloc, from.conn, identity)?;
     Ok(Input::Up {
         conn: from.conn,
         channel,
@@ -101,7 +100,7 @@ fn add_up_where(
 }
 
 /// The message that frames are, where they are signed.
-fn signed(alloc: Global, key: &Key, frames: &Frames) -> Result<Option<Message>, AllocError>
+fn signed(alloc: Global, key: &Key, frames: &Frames) -> Result<Option<SharedMessage>, AllocError>
     ensures { IfOk result (λ m. m ≡ signed (read_parts key.now frames.now)) }
 {
     match read_parts(alloc, frames, key) {
@@ -117,7 +116,7 @@ fn signed(alloc: Global, key: &Key, frames: &Frames) -> Result<Option<Message>, 
 fn add_message(
     inputs: &mut Vec<Input>,
     from: Origin,
-    message: Option<Message>,
+    message: Option<SharedMessage>,
 ) -> Result<(), AllocError>
     ensures { OnOk result (inputs.new.items ≡ inputs.old.items ++ option_to_list (option_map (λ m. Input.In from.conn from.moment from.word m) message)) }
 {

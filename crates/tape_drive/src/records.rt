@@ -1,7 +1,7 @@
 //! What the records of a tape do to its connections.
 
 ghost use Rattle.std.specs.Prelude.{◌≡◌, ◌++◌, ◌∷◌, [], map, IfOk, OnOk};
-ghost use Rattle.tape.specs.Spelling.{written};
+ghost use Rattle.tape.specs.Spelling.{all_spelled};
 ghost use Rattle.tape_drive.specs.Links.{links_at, links_left, link_on, given_on};
 ghost use Rattle.tape_drive.specs.Inputs.{kind_inputs, inputs_of, stream_inputs};
 ghost use Rattle.tape_drive.specs.Sends.{stream_sends, sent_at, given_sendings};
@@ -30,7 +30,7 @@ fn take_up(
 ) -> Result<(), AllocError>
     ensures links { OnOk result (links.new.items ≡ links_at links.old.items (TapeKind.Up from.conn channel bare identity.now)) }
     ensures inputs { OnOk result (inputs.new.items ≡ inputs.old.items ++ kind_inputs [] links.old.items from.moment from.word (TapeKind.Up from.conn channel bare identity.now)) }
-    ensures octets { OnOk result (into.new.items ≡ into.old.items ++ written (map (sent_at from.moment) (stream_sends links.old.items (TapeKind.Up from.conn channel bare identity.now)))) }
+    ensures octets { OnOk result (into.new.items ≡ into.old.items ++ all_spelled (map (sent_at from.moment) (stream_sends links.old.items (TapeKind.Up from.conn channel bare identity.now)))) }
 {
     links.push(Link::new(*links.allocator(), from.conn, channel, bare))?;
     if bare {
@@ -50,7 +50,7 @@ fn take_given(
     given: &Option<(Channel, PeerFed)>,
 ) -> Result<(), AllocError>
     ensures inputs { OnOk result (inputs.new.items ≡ inputs.old.items ++ stream_inputs key.now from.conn from.moment from.word given.now) }
-    ensures octets { OnOk result (into.new.items ≡ into.old.items ++ written (map (sent_at from.moment) (map (TapeKind.Piece from.conn) (given_sendings given.now)))) }
+    ensures octets { OnOk result (into.new.items ≡ into.old.items ++ all_spelled (map (sent_at from.moment) (map (TapeKind.Piece from.conn) (given_sendings given.now)))) }
 {
     match given {
         Some((channel, fed)) => {
@@ -73,7 +73,7 @@ fn take_piece(
 ) -> Result<(), AllocError>
     ensures links { OnOk result (links.new ≡ links_at links.old (TapeKind.Piece from.conn octets.now)) }
     ensures inputs { OnOk result (inputs.new.items ≡ inputs.old.items ++ kind_inputs key.now links.old from.moment from.word (TapeKind.Piece from.conn octets.now)) }
-    ensures octets { OnOk result (into.new.items ≡ into.old.items ++ written (map (sent_at from.moment) (stream_sends links.old (TapeKind.Piece from.conn octets.now)))) }
+    ensures octets { OnOk result (into.new.items ≡ into.old.items ++ all_spelled (map (sent_at from.moment) (stream_sends links.old (TapeKind.Piece from.conn octets.now)))) }
 {
     let given = hear_on(links, from.conn, octets.as_slice())?;
     take_given(inputs, into, key, from, &given)?;
@@ -90,7 +90,7 @@ pub fn take_record(
 ) -> Result<(), AllocError>
     ensures links { OnOk result (links.new.items ≡ links_at links.old.items item.now.kind) }
     ensures inputs { OnOk result (inputs.new.items ≡ inputs.old.items ++ inputs_of key.now links.old.items item.now) }
-    ensures octets { OnOk result (into.new.items ≡ into.old.items ++ written (map (sent_at item.now.moment) (stream_sends links.old.items item.now.kind))) }
+    ensures octets { OnOk result (into.new.items ≡ into.old.items ++ all_spelled (map (sent_at item.now.moment) (stream_sends links.old.items item.now.kind))) }
 {
     let (moment, word) = (item.moment, item.word);
     match &item.kind {

@@ -2,13 +2,14 @@
 
 ghost use Rattle.std.specs.Prelude.{◌≡◌, ◌+◌, ◌-◌, ◌^◌, ◌==◌, min, sum_by, length, nat_lt, nat_le};
 ghost use Rattle.std.specs.List.{list_all};
+ghost use Rattle.cluster_types.specs.Limits.{body_limit, tape_limit};
 ghost use Rattle.tape.specs.Spelling.{spelled};
 ghost use Rattle.tape_drive.specs.Rules.{may_come_up, may_be_called, is_piece, is_in_limits, kind_follows, follows, least_after, stop_of};
 
 use crate::links::{Link, is_bare, is_up, is_zmtp};
 use crate::sizes::size_of;
+use cluster_types::limits::{BODY_OCTETS, LAST_MOMENT, MESSAGE_OCTETS, TAPE_OCTETS};
 use edges::frames::Frames;
-use tape::reading::LAST_MOMENT;
 use tape::record::{TapeKind, TapeRecord};
 use tape::writing::frame_at;
 
@@ -17,15 +18,6 @@ const MOST_CONNECTIONS: usize = 1024;
 
 /// The most octets of a piece.
 const MOST_IN_PIECE: usize = 1_048_576;
-
-/// The most octets of a frame's body.
-const MOST_OCTETS: usize = 16_777_216;
-
-/// The most octets of a message's bodies.
-const MOST_TOGETHER: u64 = 33_554_432;
-
-/// The last place of a tape.
-const LAST_PLACE: u64 = 4_294_967_296;
 
 /// Whether a connection may come up beside these, where `least` is the least number that it may have.
 fn may_come_up(links: &[Link], least: u64, conn: u32) -> bool
@@ -50,11 +42,11 @@ fn is_piece(octets: &[u8]) -> bool
 
 /// Whether no body is too long.
 fn are_short(frames: &Frames) -> bool
-    ensures { result ≡ list_all (λ body. nat_le (length body) 16777216) frames.now }
+    ensures { result ≡ list_all (λ body. nat_le (length body) body_limit) frames.now }
 {
     let mut short = true;
     for place in 0..frames.len() {
-        short = short && frame_at(frames, place).len() <= MOST_OCTETS;
+        short = short && frame_at(frames, place).len() as u64 <= BODY_OCTETS;
     }
     short
 }
@@ -74,7 +66,7 @@ fn octets_of(frames: &Frames) -> u64
 fn is_in_limits(frames: &Frames) -> bool
     ensures { result ≡ is_in_limits frames.now }
 {
-    are_short(frames) && octets_of(frames) <= MOST_TOGETHER
+    are_short(frames) && octets_of(frames) <= MESSAGE_OCTETS
 }
 
 /// Whether what a record tells may come.
@@ -120,9 +112,9 @@ pub fn least_after(least: u64, kind: &TapeKind) -> u64
 
 /// Whether a record that begins at a place ends where a tape may end.
 fn ends_in_time(at: u64, item: &TapeRecord) -> bool
-    ensures { result ≡ nat_le (at + length (spelled item.now)) 4294967296 }
+    ensures { result ≡ nat_le (at + length (spelled item.now)) tape_limit }
 {
-    at.saturating_add(size_of(item)) <= LAST_PLACE
+    at.saturating_add(size_of(item)) <= TAPE_OCTETS
 }
 
 /// The place of the fault of a record that begins at a place, where it has one.
@@ -135,5 +127,5 @@ pub fn stop_of(links: &[Link], least: u64, at: u64, item: &TapeRecord) -> Option
     if ends_in_time(at, item) {
         return None;
     }
-    Some(LAST_PLACE)
+    Some(TAPE_OCTETS)
 }

@@ -2,40 +2,35 @@
 
 ghost use Rattle.std.specs.Prelude.{◌≡◌, ◌≤◌, ◌++◌, ◌∷◌, [], map, All, IfOk, OnOk, IsTrue, length, drop, nat_le, reverse, true, Some};
 ghost use Rattle.std.specs.List.{list_all};
+ghost use Rattle.cluster_types.specs.Limits.{field_limit};
 ghost use Rattle.cluster_defs.specs.Words.{begins_with};
 ghost use Rattle.cluster_outgo.specs.Frames.{IsSendable, frames_of};
 ghost use Rattle.zmtp_frames.specs.Written.{own_ready};
-ghost use Rattle.tape.specs.Spelling.{Fits, FitsBlob, spelled, written};
+ghost use Rattle.tape.specs.Spelling.{Fits, FitsBlob, spelled, all_spelled};
 ghost use Rattle.tape_drive.specs.Links.{link_on, is_zmtp};
 ghost use Rattle.tape_drive.specs.Sends.{where_any, sendings, frames_sent, out_sent, by_connection, sent_at};
 
 use crate::links::{Link, is_zmtp};
 use crate::order::{conn_of, sort_by_connection};
 use cluster_outgo::frames_of;
+use cluster_types::limits::{FIELD_OCTETS, LAST_MOMENT, MOST_FRAMES};
 use cluster_types::octets::Octets;
 use cluster_types::out::{Out, Outs};
 use edges::frames::Frames;
 use hmac_sign::Key;
 use std::alloc::{AllocError, Global};
-use tape::reading::LAST_MOMENT;
 use tape::record::{TapeKind, TapeRecord};
 use tape::writing::{frame_at, write_tape};
 use zmtp_frames::writing::write_ready;
 use zmtp_peer::writing::message_octets;
 
-/// The most frames of a record.
-const MOST_FRAMES: usize = 64;
-
-/// The most octets that a record can tell.
-const MOST_TOLD: usize = 4_294_967_295;
-
 /// Whether the length of each body can be told.
 fn are_told(frames: &Frames) -> bool
-    ensures { result ≡ list_all (λ body. nat_le (length body) 4294967295) frames.now }
+    ensures { result ≡ list_all (λ body. nat_le (length body) field_limit) frames.now }
 {
     let mut told = true;
     for place in 0..frames.len() {
-        told = told && frame_at(frames, place).len() <= MOST_TOLD;
+        told = told && frame_at(frames, place).len() <= FIELD_OCTETS;
     }
     told
 }
@@ -48,7 +43,7 @@ fn is_told(item: &TapeRecord) -> bool
     match &item.kind {
         TapeKind::Piece { conn, octets } => {
             let _conn = *conn;
-            item.moment <= LAST_MOMENT && octets.as_slice().len() <= MOST_TOLD
+            item.moment <= LAST_MOMENT && octets.as_slice().len() <= FIELD_OCTETS
         }
         TapeKind::Message { conn, frames } => {
             let _conn = *conn;
@@ -98,7 +93,7 @@ fn put_where_any(
     conn: u32,
     octets: &[u8],
 ) -> Result<(), AllocError>
-    ensures { OnOk result (into.new.items ≡ into.old.items ++ written (map (sent_at moment) (map (TapeKind.Piece conn) (where_any octets.now)))) }
+    ensures { OnOk result (into.new.items ≡ into.old.items ++ all_spelled (map (sent_at moment) (map (TapeKind.Piece conn) (where_any octets.now)))) }
 {
     if octets.len() > 0 {
         put_piece(into, moment, conn, octets)?;
@@ -132,7 +127,7 @@ fn put_ready_and_rest(
     octets: &[u8],
 ) -> Result<(), AllocError>
     requires { length ready.now ≤ length octets.now }
-    ensures { OnOk result (into.new.items ≡ into.old.items ++ written (map (sent_at moment) (map (TapeKind.Piece conn) (ready.now ∷ where_any (drop (length ready.now) octets.now))))) }
+    ensures { OnOk result (into.new.items ≡ into.old.items ++ all_spelled (map (sent_at moment) (map (TapeKind.Piece conn) (ready.now ∷ where_any (drop (length ready.now) octets.now))))) }
 {
     put_piece(into, moment, conn, ready)?;
     put_where_any(into, moment, conn, &octets[ready.len()..])?;
@@ -146,7 +141,7 @@ pub fn put_sendings(
     conn: u32,
     octets: &[u8],
 ) -> Result<(), AllocError>
-    ensures { OnOk result (into.new.items ≡ into.old.items ++ written (map (sent_at moment) (map (TapeKind.Piece conn) (sendings octets.now)))) }
+    ensures { OnOk result (into.new.items ≡ into.old.items ++ all_spelled (map (sent_at moment) (map (TapeKind.Piece conn) (sendings octets.now)))) }
 {
     let ready = ready_octets(*into.allocator())?;
     if begin_with(octets, ready.as_slice()) {
@@ -183,7 +178,7 @@ fn frames_sent(alloc: Global, zmtp: bool, conn: u32, frames: Frames) -> Result<T
     ensures { IfOk result (λ k. k ≡ frames_sent zmtp conn frames) }
 {
     if zmtp {
-        let octets = Octets::from_vec(message_octets(alloc, &frames)?);
+        let octets = Octets::from_vec(message_octets(alloc, &frames)?)?;
         return Ok(TapeKind::Piece { conn, octets });
     }
     Ok(TapeKind::Message { conn, frames })
@@ -215,7 +210,7 @@ fn put_each(
     moment: u64,
     outs: &[Out],
 ) -> Result<(), AllocError>
-    ensures { OnOk result (into.new.items ≡ into.old.items ++ written (map (sent_at moment) (map (out_sent key.now links.now) outs.now))) }
+    ensures { OnOk result (into.new.items ≡ into.old.items ++ all_spelled (map (sent_at moment) (map (out_sent key.now links.now) outs.now))) }
 {
     for out in outs {
         put_out(into, key, links, moment, out)?;
@@ -231,7 +226,7 @@ pub fn put_outs(
     moment: u64,
     outs: Outs,
 ) -> Result<(), AllocError>
-    ensures { OnOk result (into.new.items ≡ into.old.items ++ written (map (sent_at moment) (map (out_sent key.now links.now) (by_connection outs)))) }
+    ensures { OnOk result (into.new.items ≡ into.old.items ++ all_spelled (map (sent_at moment) (map (out_sent key.now links.now) (by_connection outs)))) }
 {
     let mut outs = outs.into_vec();
     sort_by_connection(&mut outs)?;

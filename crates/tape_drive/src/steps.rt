@@ -7,7 +7,7 @@ ghost use Rattle.cluster_defs.specs.Scheduling.{may_take};
 ghost use Rattle.cluster_defs.specs.Histories.{facts, decide_all};
 ghost use Rattle.cluster_defs.specs.Outs.{outs_from};
 ghost use Rattle.cluster_state.specs.Plain.{InTime};
-ghost use Rattle.cluster_outs.specs.Asked.{type_on, told_type};
+ghost use Rattle.entry_outs.specs.Asked.{type_on, told_type};
 ghost use Rattle.tape_drive.specs.Steps.{may_come, stepped, step_outs};
 
 use cluster_core::machine::Core;

@@ -71,9 +71,9 @@ fn up(alloc: Global, bare: bool, identity: &[u8]) -> Result<TapeRecord, AllocErr
 }
 
 /// Octets on connection 1.
-fn piece(moment: u64, octets: Vec<u8>) -> TapeRecord {
-    let octets = Octets::from_vec(octets);
-    record(moment, TapeKind::Piece { conn: 1, octets })
+fn piece(alloc: Global, moment: u64, octets: &[u8]) -> Result<TapeRecord, AllocError> {
+    let octets = Octets::new(alloc, octets)?;
+    Ok(record(moment, TapeKind::Piece { conn: 1, octets }))
 }
 
 /// A message of one frame.
@@ -110,7 +110,8 @@ fn sends(
     octets: &[u8],
 ) -> Result<bool, AllocError> {
     let wanted = sent(alloc, item.moment, octets)?;
-    let answer = drive.serve(key, chooser, item)?;
+    let mut answer = Vec::new(alloc);
+    drive.serve(&mut answer, key, chooser, item)?;
     Ok(answer.as_slice() == wanted.as_slice())
 }
 
@@ -125,7 +126,7 @@ fn greeted(alloc: Global, chooser: &Chooser, key: &Key) -> Result<Option<Drive>,
         &up(alloc, false, b"")?,
         OWN_GREETING,
     )?;
-    let greeting = piece(6, Vec::from_slice(alloc, GREETING)?);
+    let greeting = piece(alloc, 6, GREETING)?;
     let second = sends(alloc, &mut drive, chooser, key, &greeting, OWN_READY)?;
     if first && second {
         return Ok(Some(drive));
@@ -138,21 +139,29 @@ fn refuses(alloc: Global, chooser: &Chooser, key: &Key) -> Result<bool, AllocErr
     let Some(mut drive) = greeted(alloc, chooser, key)? else {
         return Ok(false);
     };
-    let item = piece(7, Vec::from_slice(alloc, REQ)?);
+    let item = piece(alloc, 7, REQ)?;
     sends(alloc, &mut drive, chooser, key, &item, OWN_ERROR)
+}
+
+/// What a greeting and the READY of a REQ in one piece are answered with.
+fn answer_at_once(alloc: Global, chooser: &Chooser, key: &Key) -> Result<Vec<u8>, AllocError> {
+    let mut drive = begin(alloc, chooser)?;
+    let up = up(alloc, false, b"")?;
+    let octets = joined(alloc, GREETING, REQ)?;
+    let piece = piece(alloc, 6, octets.as_slice())?;
+    let mut answer = Vec::new(alloc);
+    drive.serve(&mut answer, key, chooser, &up)?;
+    answer.clear();
+    drive.serve(&mut answer, key, chooser, &piece)?;
+    Ok(answer)
 }
 
 /// READY and ERROR are two records, also where one piece calls for both.
 fn refuses_at_once(alloc: Global, chooser: &Chooser, key: &Key) -> Result<bool, AllocError> {
-    let mut drive = begin(alloc, chooser)?;
-    let _ = drive.serve(key, chooser, &up(alloc, false, b"")?)?;
-    let answer = drive.serve(key, chooser, &piece(6, joined(alloc, GREETING, REQ)?))?;
+    let answer = answer_at_once(alloc, chooser, key)?;
     let ready = sent(alloc, 6, OWN_READY)?;
-    let wanted = joined(
-        alloc,
-        ready.as_slice(),
-        sent(alloc, 6, OWN_ERROR)?.as_slice(),
-    )?;
+    let error = sent(alloc, 6, OWN_ERROR)?;
+    let wanted = joined(alloc, ready.as_slice(), error.as_slice())?;
     Ok(answer.as_slice() == wanted.as_slice())
 }
 
@@ -161,7 +170,7 @@ fn joins(alloc: Global, chooser: &Chooser, key: &Key) -> Result<bool, AllocError
     let Some(mut drive) = greeted(alloc, chooser, key)? else {
         return Ok(false);
     };
-    let item = piece(7, joined(alloc, DEALER, JOINING)?);
+    let item = piece(alloc, 7, joined(alloc, DEALER, JOINING)?.as_slice())?;
     sends(alloc, &mut drive, chooser, key, &item, JOINED)
 }
 
@@ -173,9 +182,10 @@ fn stop_behind(
     item: &TapeRecord,
 ) -> Result<Option<u64>, AllocError> {
     let mut drive = begin(alloc, chooser)?;
-    let _ = drive.serve(key, chooser, &up(alloc, true, b"c")?)?;
-    let _ = drive.serve(key, chooser, item)?;
-    let _ = drive.serve(key, chooser, item)?;
+    let mut sent = Vec::new(alloc);
+    drive.serve(&mut sent, key, chooser, &up(alloc, true, b"c")?)?;
+    drive.serve(&mut sent, key, chooser, item)?;
+    drive.serve(&mut sent, key, chooser, item)?;
     Ok(drive.stop())
 }
 
@@ -208,7 +218,7 @@ fn rules(rt: HostRuntime) -> Result<(), Fail> {
     let key = Key::new(alloc, b"k")?;
     let again = up(alloc, true, b"c")?;
     assert_eq!(rt; stop_behind(alloc, &chooser, &key, &again)?, Some(25));
-    let octets = piece(5, Vec::from_slice(alloc, b"x")?);
+    let octets = piece(alloc, 5, b"x")?;
     assert_eq!(rt; stop_behind(alloc, &chooser, &key, &octets)?, Some(25));
     let down = record(5, TapeKind::Down { conn: 2 });
     assert_eq!(rt; stop_behind(alloc, &chooser, &key, &down)?, Some(25));

@@ -1,6 +1,7 @@
 -- Calls of a disk that change nothing, one after another.
 use Rattle.std.proofs.Common.{◌≡◌, inl, inr, ⊎_elim, refl, ℕ, ◌≤◌, List, ◌∙◌, arith}
-use Rattle.disk_model.specs.Crashes.{NoMore, Elapses, Rose}
+use Rattle.cluster_types.specs.Causes.{Rose}
+use Rattle.disk_model.specs.Crashes.{NoMore, Elapses}
 use Rattle.task_journal.specs.Reads.{OnlyReads}
 
 -- one call, by what the trait says of it

@@ -14,7 +14,8 @@ use Rattle.task_journal.specs.declared.fault.OpenFault.{OpenFault}
 use Rattle.task_journal.specs.declared.found.Found.{Found}
 use Rattle.task_journal.specs.declared.gate.Gate.TheVariants.{Open}
 use Rattle.task_journal.specs.Batch.{batch_octets, IsBatch}
-use Rattle.task_journal.specs.Journal.{holding, records_at, gate_in, found_from, head, difference, headed, journal, StandsFor, last_of, place_in}
+use Rattle.octet_fields.specs.Difference.{difference}
+use Rattle.task_journal.specs.Journal.{holding, records_at, gate_in, found_from, head, headed, journal, StandsFor, last_of, place_in}
 use Rattle.task_journal.specs.Settled.{IsSettled, Outcome}
 use Rattle.task_journal.proofs.Loops.{difference_take, last_push}
 use Rattle.task_journal.proofs.Gates.{found_skip}

@@ -7,7 +7,8 @@ use Rattle.cluster_types.specs.declared.entry.Entry.{Entry}
 use Rattle.task_journal.specs.declared.fault.OpenFault.{OpenFault}
 use Rattle.task_journal.specs.declared.fault.OpenFault.TheVariants.{NotAJournal, Damaged, DiskFault, OutOfMemory}
 use Rattle.task_journal.specs.declared.found.Found.{Found}
-use Rattle.task_journal.specs.Journal.{◌>>=◌, nothing, behind, with_front, one, record_at, records_at, Fails, last_of, difference}
+use Rattle.octet_fields.specs.Difference.{difference}
+use Rattle.task_journal.specs.Journal.{◌>>=◌, nothing, behind, with_front, one, record_at, records_at, Fails, last_of}
 
 pub behind_behind : (a b c : Found) → behind a (behind b c) ≡ behind (behind a b) c
 behind_behind a b c = rw (append_assoc a.entries b.entries c.entries, append_assoc a.places b.places c.places) refl

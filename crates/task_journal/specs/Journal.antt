@@ -9,6 +9,7 @@ use Rattle.task_journal.specs.declared.fault.OpenFault.TheVariants.{NotAJournal,
 use Rattle.task_journal.specs.declared.found.Found.{Found}
 use Rattle.task_journal.specs.declared.gate.Gate.{Gate}
 use Rattle.task_journal.specs.declared.gate.Gate.TheVariants.{Missing, Closed, Short, Open}
+use Rattle.octet_fields.specs.Difference.{difference}
 
 infixl 10 ◌>>=◌
 abbrev pub ◌>>=◌ : {A B : Type 0} → Result A OpenFault → (A → Result B OpenFault) → Result B OpenFault
@@ -70,12 +71,6 @@ found_from total zero (gate ∷ octets) = from_gate (gate_in (gate ∷ octets)) 
 -- the name of the format, its version 1, and 19 zeros
 abbrev pub head : List ℕ
 head = codes "IPCJRNL1" ++ 0 ∷ 0 ∷ 0 ∷ 1 ∷ replicate 19 0
-
--- the place of the first octet that differs
-abbrev pub difference : ℕ → List ℕ → List ℕ → Option ℕ
-difference at [] octets = None
-difference at (x ∷ xs) [] = Some at
-difference at (x ∷ xs) (y ∷ ys) = if x == y then difference (at + 1) xs ys else Some at
 
 abbrev pub headed : Option ℕ → Result Found OpenFault → Result Found OpenFault
 headed None found = found

@@ -3,7 +3,8 @@ use Rattle.std.specs.Prelude.{◌≡◌, ℕ, ◌+◌, ◌-◌, ◌≤◌, List,
 use Rattle.task_journal.specs.declared.fault.OpenFault.{OpenFault}
 use Rattle.task_journal.specs.declared.fault.OpenFault.TheVariants.{NotAJournal, Damaged, DiskFault, OutOfMemory}
 use Rattle.task_journal.specs.declared.found.Found.{Found}
-use Rattle.task_journal.specs.Journal.{with_front, behind, found_from, Fails, head, difference}
+use Rattle.octet_fields.specs.Difference.{difference}
+use Rattle.task_journal.specs.Journal.{with_front, behind, found_from, Fails, head}
 
 -- the octets, and the place of the first of them
 pub record Ready : Type 0 where

@@ -1,7 +1,7 @@
 //! Calls of a disk that change nothing.
 
 ghost use Rattle.std.specs.Prelude.{◌≡◌, ◌≤◌, ◌+◌, length, take, drop, IfOk, OnOk, IsErrOf, IfErr};
-ghost use Rattle.disk_model.specs.Crashes.{Rose};
+ghost use Rattle.cluster_types.specs.Causes.{Rose};
 ghost use Rattle.task_journal.specs.Journal.{IsOfDisk};
 ghost use Rattle.task_journal.specs.Reads.{OnlyReads};
 

@@ -2,15 +2,20 @@
 
 use disk_model::disk::Failed;
 use std::alloc::AllocError;
+use thiserror::Error;
 
 /// Why a journal isn't read or opened.
-#[derive(Clone, Copy, Debug, PartialEq, Eq)]
+#[derive(Clone, Copy, Debug, PartialEq, Eq, Error)]
 pub enum OpenFault {
     /// The head differs from a journal's, first at this place.
+    #[error("no head of a journal, from octet {0} on")]
     NotAJournal(u64),
     /// A gate, a batch or a record isn't whole, first at this place.
+    #[error("the journal is damaged at octet {0}")]
     Damaged(u64),
+    #[error("a call of the disk failed")]
     DiskFault,
+    #[error("out of memory")]
     OutOfMemory,
 }
 
@@ -37,9 +42,11 @@ impl From<Failed> for OpenFault {
 }
 
 /// Why a batch isn't appended.
-#[derive(Clone, Copy, Debug, PartialEq, Eq)]
+#[derive(Clone, Copy, Debug, PartialEq, Eq, Error)]
 pub enum AppendFault {
+    #[error("a call of the disk failed")]
     DiskFault,
     /// A call of the disk failed earlier: the journal is to be opened again.
+    #[error("a call of the disk failed earlier")]
     Reopen,
 }

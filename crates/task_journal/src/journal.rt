@@ -2,7 +2,8 @@
 
 ghost use Rattle.std.specs.Prelude.{◌≡◌, ◌≤◌, ◌+◌, ◌++◌, ◌⊎◌, ◌↔◌, List, ℕ, length, true, false, Err, is_err, IfOk, IfErr, IsErr, OnOk};
 ghost use Rattle.cluster_types.specs.declared.entry.Entry.{Entry as EntryType};
-ghost use Rattle.disk_model.specs.Crashes.{Rose, Only, LeavesOnly};
+ghost use Rattle.cluster_types.specs.Causes.{Rose};
+ghost use Rattle.disk_model.specs.Crashes.{Only, LeavesOnly};
 ghost use Rattle.task_journal.specs.Batch.{IsBatch};
 ghost use Rattle.task_journal.specs.Journal.{StandsFor};
 ghost use Rattle.task_journal.specs.Settled.{IsReady, Outcome};
@@ -107,11 +108,7 @@ impl<D: Disk> Journal<D> {
     pub fn close(self) -> D
         ensures { result ≡ self.disk }
     {
-        let Journal {
-            disk,
-            gate: _,
-            failed: _,
-        } = self;
+        let Journal { disk, .. } = self;
         disk
     }
 }

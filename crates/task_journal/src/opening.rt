@@ -2,7 +2,8 @@
 
 ghost use Rattle.std.specs.Prelude.{◌≡◌, ◌≤◌, ◌<◌, ◌⊎◌, List, ℕ, [], ◌∷◌, ◌++◌, length, false, Ok, Err, IfOk, IfErr, OnOk, IsErr, IsErrOf};
 ghost use Rattle.cluster_types.specs.declared.entry.Entry.{Entry as EntryType};
-ghost use Rattle.disk_model.specs.Crashes.{Rose, Only, NoMore, LeavesOnly};
+ghost use Rattle.cluster_types.specs.Causes.{Rose};
+ghost use Rattle.disk_model.specs.Crashes.{Only, NoMore, LeavesOnly};
 ghost use Rattle.task_journal.specs.Journal.{StandsFor, Gives, Fails, IsSame, head, holding, journal};
 ghost use Rattle.task_journal.specs.Settled.{IsReady, Unharmed, OnRefusal};
 

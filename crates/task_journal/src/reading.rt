@@ -1,9 +1,10 @@
 //! Reading a journal.
 
 ghost use Rattle.std.specs.Prelude.{◌≡◌, ◌≤◌, ◌<◌, ◌^◌, length, drop, Some, IfOk, OnOk, IsErrOf};
-ghost use Rattle.disk_model.specs.Crashes.{Rose};
+ghost use Rattle.cluster_types.specs.Causes.{Rose};
 ghost use Rattle.task_journal.specs.Reads.{OnlyReads};
-ghost use Rattle.task_journal.specs.Journal.{Gives, Fails, with_front, records_at, found_from, difference, head, journal, holding, last_of};
+ghost use Rattle.octet_fields.specs.Difference.{difference};
+ghost use Rattle.task_journal.specs.Journal.{Gives, Fails, with_front, records_at, found_from, head, journal, holding, last_of};
 ghost use Rattle.task_journal.specs.Window.{Ready, Shows, span, Steps, HasHead};
 
 use crate::disk_calls::{read_into, size_of};

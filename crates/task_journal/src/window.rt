@@ -3,7 +3,7 @@
 ghost use Rattle.std.specs.Prelude.{◌≡◌, ◌≤◌, ◌<◌, ◌+◌, ◌^◌, ◌++◌, [], length, take, drop, IfOk, IfErr, OnOk, IsErrOf};
 ghost use Rattle.octet_fields.specs.Reading.{Gives as FieldGives};
 ghost use Rattle.record_codec.specs.Reading.{entry_at};
-ghost use Rattle.disk_model.specs.Crashes.{Rose};
+ghost use Rattle.cluster_types.specs.Causes.{Rose};
 ghost use Rattle.task_journal.specs.Reads.{OnlyReads};
 ghost use Rattle.task_journal.specs.Journal.{Gives, IsOfDisk, record_at};
 ghost use Rattle.task_journal.specs.Window.{Ready, Shows, span};
@@ -120,8 +120,7 @@ fn read_behind<D: Disk>(
     let from = octets.len();
     let size = from.saturating_add(n);
     octets.resize(size, 0)?;
-    read_into(disk, at, &mut octets[from..])?;
-    Ok(())
+    read_into(disk, at, &mut octets[from..])
 }
 
 /// The record at the front, and the number of its octets.

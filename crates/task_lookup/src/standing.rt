@@ -5,11 +5,11 @@ ghost use Rattle.std.specs.Option.{option_copied};
 ghost use Rattle.cluster_defs.specs.RecordAnswers.{record_in};
 ghost use Rattle.task_lookup.specs.Standings.{stands};
 
-use crate::distinct::push_if;
 use cluster_types::message::Ids;
 use cluster_types::record::{Record, Records};
 use cluster_types::sequence::Sequence;
 use cluster_types::text::Text;
+use jupyter_header::distinct::push_if;
 use std::alloc::{AllocError, Global};
 
 /// How an id may stand.

@@ -3,10 +3,10 @@
 use crate::distinct::once;
 use crate::list::RecordList;
 use crate::standing::{Standing, ids_that};
-use cluster_types::message::{Ids, Message};
-use cluster_types::octets::Octets;
+use cluster_types::message::Ids;
 use cluster_types::record::{Record, Records};
 use cluster_types::sequence::Sequence;
+use cluster_types::shared_message::SharedMessage;
 use cluster_types::text::Text;
 use cluster_types::verdict::{Cause, Verdict};
 use std::alloc::{AllocError, Global};
@@ -20,15 +20,16 @@ fn ids(alloc: Global, names: &[&str]) -> Result<Ids, AllocError> {
     Ok(list)
 }
 
-fn outcome(alloc: Global) -> Result<Message, AllocError> {
-    Ok(Message {
-        target: Octets::new(alloc, b"")?,
-        header: Octets::new(alloc, b"{}")?,
-        parent: Octets::new(alloc, b"{}")?,
-        metadata: Octets::new(alloc, b"{}")?,
-        content: Octets::new(alloc, b"{\"status\":\"ok\"}")?,
-        buffers: Sequence::new(alloc),
-    })
+fn outcome(alloc: Global) -> Result<SharedMessage, AllocError> {
+    SharedMessage::new(
+        alloc,
+        b"",
+        b"{}",
+        b"{}",
+        b"{}",
+        b"{\"status\":\"ok\"}",
+        Sequence::new(alloc),
+    )
 }
 
 fn settled(alloc: Global, name: &str, number: u64, purged: bool) -> Result<Record, AllocError> {
@@ -85,39 +86,32 @@ fn are(ids: &Ids, names: &str) -> bool {
 fn list_takes_the_next_records(rt: HostRuntime) -> Result<(), Fail> {
     let alloc = rt.alloc();
     let mut list = table(alloc)?;
-    assert_eq!(rt; list.count(), 3);
-    assert!(rt; !list.push(running(alloc, "d", 5)?)?);
-    assert!(rt; !list.push(running(alloc, "b", 4)?)?);
-    assert!(rt; list.push(running(alloc, "d", 4)?)?);
+    for (name, number, is_taken) in [("d", 5, false), ("b", 4, false), ("d", 4, true)] {
+        let record = running(alloc, name, number)?;
+        assert_eq!(rt; list.push(record)?, is_taken);
+    }
     assert_eq!(rt; list.count(), 4);
     Ok(())
 }
 
 #[test]
-fn each_once(rt: HostRuntime) -> Result<(), Fail> {
+fn ids_by_their_records(rt: HostRuntime) -> Result<(), Fail> {
     let alloc = rt.alloc();
     let list = ids(alloc, &["b", "a", "b", "c", "a"])?;
     assert!(rt; are(&once(alloc, &list)?, "b a c "));
-    Ok(())
-}
-
-#[test]
-fn unknown_and_gone(rt: HostRuntime) -> Result<(), Fail> {
-    let alloc = rt.alloc();
     let table = table(alloc)?;
     let list = ids(alloc, &["z", "c", "b", "a"])?;
-    assert!(rt; are(&ids_that(alloc, &table, Standing::Unknown, &list)?, "z "));
-    assert!(rt; are(&ids_that(alloc, &table, Standing::Gone, &list)?, "z c "));
-    Ok(())
-}
-
-#[test]
-fn purged_and_settled(rt: HostRuntime) -> Result<(), Fail> {
-    let alloc = rt.alloc();
-    let table = table(alloc)?;
-    let list = ids(alloc, &["z", "c", "b", "a"])?;
-    assert!(rt; are(&ids_that(alloc, &table, Standing::Purged, &list)?, "c "));
-    assert!(rt; are(&ids_that(alloc, &table, Standing::Inflight, &list)?, "z b "));
-    assert!(rt; are(&ids_that(alloc, &table, Standing::Settled, &list)?, "c a "));
+    for (standing, names) in [
+        (Standing::Unknown, "z "),
+        (Standing::Gone, "z c "),
+        (Standing::Purged, "c "),
+        (Standing::Inflight, "z b "),
+        (Standing::Settled, "c a "),
+    ] {
+        assert!(rt;
+            are(&ids_that(alloc, &table, standing, &list)?, names),
+            "at {names}"
+        );
+    }
     Ok(())
 }

@@ -10,7 +10,8 @@ use Rattle.zmtp_frames.specs.declared.frame.Stage.TheVariants.{Between, Sizing, 
 use Rattle.zmtp_frames.specs.declared.frame.Begun.{Begun}
 use Rattle.zmtp_frames.specs.declared.fault.FrameFault.{FrameFault}
 use Rattle.zmtp_frames.specs.declared.fault.FrameFault.TheVariants.{BadSignature, BadVersion, BadMechanism, BadFlags, FrameTooLong}
-use Rattle.zmtp_frames.specs.Stream.{Reading, start, up, step, listed, after, frames, frame, begun, sized, whole_at, head_of, flagged, are_flags, size_width, body_limit}
+use Rattle.cluster_types.specs.Limits.{body_limit}
+use Rattle.zmtp_frames.specs.Stream.{Reading, start, up, step, listed, reading_after, frames, frame, begun, sized, whole_at, head_of, flagged, are_flags, size_width}
 use Rattle.zmtp_frames.specs.Grammar.{IsFrame, AreFrames, IsUnfinished, IsPlaced, IsReadingOf, number_from, place_after}
 use Rattle.zmtp_frames.proofs.Whole.{place_append}
 
@@ -214,11 +215,11 @@ one_octet place octets x (Sizing head left size) p body list k = sizing place oc
 one_octet place octets x (Filling head size left) p body list k = filling place octets x p left size head body list k
 one_octet place octets x (Ended fault b) p body list k = ended place octets x p fault b body list k
 
-all_octets : (place : ℕ) (octets more : List ℕ) (r : Reading) (list : List Frame) → IsReadingOf place octets r list → IsReadingOf place (octets ++ more) (after r more) (list ++ frames r more)
+all_octets : (place : ℕ) (octets more : List ℕ) (r : Reading) (list : List Frame) → IsReadingOf place octets r list → IsReadingOf place (octets ++ more) (reading_after r more) (list ++ frames r more)
 all_octets place octets [] r list k = rw (append-nil octets, append-nil list) k
 all_octets place octets (x ∷ xs) r list k =
     let n = all_octets place (octets ++ x ∷ []) xs (step r x).0 (list ++ listed (step r x).1) (one_octet place octets x r.stage r.place r.body list k) in
     rw (← append_assoc octets (x ∷ []) xs, ← append_assoc list (listed (step r x).1) (frames (step r x).0 xs)) n
 
-pub all_read : (place : ℕ) (octets : List ℕ) → IsReadingOf place octets (after (start place) octets) (frames (start place) octets)
+pub all_read : (place : ℕ) (octets : List ℕ) → IsReadingOf place octets (reading_after (start place) octets) (frames (start place) octets)
 all_read place octets = all_octets place [] octets (start place) [] (record { front = []; rest = []; parts = refl; are = refl; left = (refl, refl); placed = refl })

@@ -6,7 +6,7 @@ use Rattle.octet_fields.specs.Reading.{str8_at, blob_at}
 use Rattle.zmtp_frames.specs.declared.frame.Frame.{Frame}
 use Rattle.zmtp_frames.specs.declared.fault.FrameFault.TheVariants.{BadSignature, BadVersion, BadMechanism, BadFlags, FrameTooLong}
 use Rattle.zmtp_frames.specs.declared.command.Command.TheVariants.{Ready, Error, Other}
-use Rattle.zmtp_frames.specs.Stream.{start, after, frames, begun_at, fault_at}
+use Rattle.zmtp_frames.specs.Stream.{start, reading_after, frames, begun_at, fault_at}
 use Rattle.zmtp_frames.specs.Greeting.{zeros, null_mechanism, own_greeting, greeting_fault}
 use Rattle.zmtp_frames.specs.Command.{command_of, property_at}
 use Rattle.zmtp_frames.specs.Written.{written, written_property, own_ready, written_error}
@@ -81,50 +81,50 @@ flags_of_frames : frames (start 64) (1 ∷ 0 ∷ 4 ∷ 1 ∷ 9 ∷ 6 ∷ 0 ∷ 0
 flags_of_frames = refl
 
 -- what is known of a frame that isn't whole
-nothing_begun : begun_at (after (start 0) (0 ∷ 1 ∷ 7 ∷ [])).stage ≡ None
+nothing_begun : begun_at (reading_after (start 0) (0 ∷ 1 ∷ 7 ∷ [])).stage ≡ None
 nothing_begun = refl
 
-flags_came : begun_at (after (start 0) (0 ∷ 1 ∷ 7 ∷ 1 ∷ [])).stage ≡ Some (record { at = 3; more = true; command = false; size = None })
+flags_came : begun_at (reading_after (start 0) (0 ∷ 1 ∷ 7 ∷ 1 ∷ [])).stage ≡ Some (record { at = 3; more = true; command = false; size = None })
 flags_came = refl
 
-seven_of_eight : begun_at (after (start 0) (2 ∷ 0 ∷ 0 ∷ 0 ∷ 0 ∷ 0 ∷ 0 ∷ 1 ∷ [])).stage ≡ Some (record { at = 0; more = false; command = false; size = None })
+seven_of_eight : begun_at (reading_after (start 0) (2 ∷ 0 ∷ 0 ∷ 0 ∷ 0 ∷ 0 ∷ 0 ∷ 1 ∷ [])).stage ≡ Some (record { at = 0; more = false; command = false; size = None })
 seven_of_eight = refl
 
-size_came : begun_at (after (start 0) (2 ∷ 0 ∷ 0 ∷ 0 ∷ 0 ∷ 0 ∷ 0 ∷ 1 ∷ 2 ∷ 5 ∷ [])).stage ≡ Some (record { at = 0; more = false; command = false; size = Some 258 })
+size_came : begun_at (reading_after (start 0) (2 ∷ 0 ∷ 0 ∷ 0 ∷ 0 ∷ 0 ∷ 0 ∷ 1 ∷ 2 ∷ 5 ∷ [])).stage ≡ Some (record { at = 0; more = false; command = false; size = Some 258 })
 size_came = refl
 
 -- a reserved bit, and COMMAND with MORE
-reserved_bit : fault_at (after (start 0) (0 ∷ 1 ∷ 7 ∷ 8 ∷ [])).stage ≡ Some (BadFlags 3)
+reserved_bit : fault_at (reading_after (start 0) (0 ∷ 1 ∷ 7 ∷ 8 ∷ [])).stage ≡ Some (BadFlags 3)
 reserved_bit = refl
 
-highest_bit : fault_at (after (start 0) (128 ∷ [])).stage ≡ Some (BadFlags 0)
+highest_bit : fault_at (reading_after (start 0) (128 ∷ [])).stage ≡ Some (BadFlags 0)
 highest_bit = refl
 
-command_with_more : fault_at (after (start 0) (5 ∷ [])).stage ≡ Some (BadFlags 0)
+command_with_more : fault_at (reading_after (start 0) (5 ∷ [])).stage ≡ Some (BadFlags 0)
 command_with_more = refl
 
-long_command_with_more : begun_at (after (start 0) (7 ∷ 0 ∷ [])).stage ≡ Some (record { at = 0; more = true; command = true; size = None })
+long_command_with_more : begun_at (reading_after (start 0) (7 ∷ 0 ∷ [])).stage ≡ Some (record { at = 0; more = true; command = true; size = None })
 long_command_with_more = refl
 
-long_command : fault_at (after (start 0) (6 ∷ [])).stage ≡ None
+long_command : fault_at (reading_after (start 0) (6 ∷ [])).stage ≡ None
 long_command = refl
 
 -- 16,777,217 octets are too many, and 16,777,216 are not
-one_too_many : fault_at (after (start 7) (2 ∷ 0 ∷ 0 ∷ 0 ∷ 0 ∷ 1 ∷ 0 ∷ 0 ∷ 1 ∷ [])).stage ≡ Some (FrameTooLong 7)
+one_too_many : fault_at (reading_after (start 7) (2 ∷ 0 ∷ 0 ∷ 0 ∷ 0 ∷ 1 ∷ 0 ∷ 0 ∷ 1 ∷ [])).stage ≡ Some (FrameTooLong 7)
 one_too_many = refl
 
-too_long_begun : begun_at (after (start 7) (2 ∷ 0 ∷ 0 ∷ 0 ∷ 0 ∷ 1 ∷ 0 ∷ 0 ∷ 1 ∷ 3 ∷ [])).stage
+too_long_begun : begun_at (reading_after (start 7) (2 ∷ 0 ∷ 0 ∷ 0 ∷ 0 ∷ 1 ∷ 0 ∷ 0 ∷ 1 ∷ 3 ∷ [])).stage
     ≡ Some (record { at = 7; more = false; command = false; size = Some 16777217 })
 too_long_begun = refl
 
-longest : fault_at (after (start 7) (2 ∷ 0 ∷ 0 ∷ 0 ∷ 0 ∷ 1 ∷ 0 ∷ 0 ∷ 0 ∷ [])).stage ≡ None
+longest : fault_at (reading_after (start 7) (2 ∷ 0 ∷ 0 ∷ 0 ∷ 0 ∷ 1 ∷ 0 ∷ 0 ∷ 0 ∷ [])).stage ≡ None
 longest = refl
 
-greatest_size : fault_at (after (start 0) (2 ∷ 255 ∷ 255 ∷ 255 ∷ 255 ∷ 255 ∷ 255 ∷ 255 ∷ 255 ∷ [])).stage ≡ Some (FrameTooLong 0)
+greatest_size : fault_at (reading_after (start 0) (2 ∷ 255 ∷ 255 ∷ 255 ∷ 255 ∷ 255 ∷ 255 ∷ 255 ∷ 255 ∷ [])).stage ≡ Some (FrameTooLong 0)
 greatest_size = refl
 
 -- a fault stays, whatever follows
-fault_stays : after (start 0) (8 ∷ 0 ∷ 0 ∷ []) ≡ after (start 0) (8 ∷ [])
+fault_stays : reading_after (start 0) (8 ∷ 0 ∷ 0 ∷ []) ≡ reading_after (start 0) (8 ∷ [])
 fault_stays = refl
 
 -- a place stays at the end of its type

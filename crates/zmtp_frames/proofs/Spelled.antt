@@ -5,7 +5,7 @@ use Rattle.std.specs.Int.{w64, from_be_bytes}
 use Rattle.std.proofs.lemmas.Nat.{from_be_bytes-to_be_bytes_8}
 use Rattle.octet_fields.specs.Spelling.{be64}
 use Rattle.zmtp_frames.specs.declared.frame.Frame.{Frame}
-use Rattle.zmtp_frames.specs.Stream.{body_limit}
+use Rattle.cluster_types.specs.Limits.{body_limit}
 use Rattle.zmtp_frames.specs.Grammar.{IsFrame, number_from}
 use Rattle.zmtp_frames.specs.Written.{written, more_flag}
 

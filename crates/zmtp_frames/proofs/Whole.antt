@@ -8,7 +8,7 @@ use Rattle.zmtp_frames.specs.declared.frame.Head.{Head}
 use Rattle.zmtp_frames.specs.declared.frame.Frame.{Frame}
 use Rattle.zmtp_frames.specs.declared.frame.Stage.{Stage}
 use Rattle.zmtp_frames.specs.declared.frame.Stage.TheVariants.{Sizing, Filling}
-use Rattle.zmtp_frames.specs.Stream.{Reading, start, up, step, listed, after, frames, frame, sized, whole_at, head_of, are_flags, size_width}
+use Rattle.zmtp_frames.specs.Stream.{Reading, start, up, step, listed, reading_after, frames, frame, sized, whole_at, head_of, are_flags, size_width}
 use Rattle.zmtp_frames.specs.Grammar.{IsFrame, AreFrames, number_from, place_after}
 use Rattle.zmtp_frames.proofs.Pieces.{after_append, frames_append}
 
@@ -19,7 +19,7 @@ not_zero : (n : ℕ) → 0 < n → (n == 0) ≡ false
 not_zero n lt = grind (arith, nat_tests)
 
 pub record Gives (r : Reading) (xs : List ℕ) (new : Reading) (list : List Frame) : Type 0 where
-  pub state : after r xs ≡ new
+  pub state : reading_after r xs ≡ new
   pub given : frames r xs ≡ list
 
 abbrev at_size : ℕ → Head → ℕ → ℕ → Reading
@@ -37,7 +37,7 @@ size_read place head n x (y ∷ ys) =
     let one : step (at_size place head (length (x ∷ y ∷ ys)) n) x ≡ (at_size (up place) head (length (y ∷ ys)) (256 * n + x), None) = rw (more, less) refl in
     let rest = size_read (up place) head (256 * n + x) y ys in
     record {
-      state = ap (λ (p : Reading × Option Frame). after p.0 (y ∷ ys)) one ∙ rest.state;
+      state = ap (λ (p : Reading × Option Frame). reading_after p.0 (y ∷ ys)) one ∙ rest.state;
       given = ap (λ (p : Reading × Option Frame). listed p.1 ++ frames p.0 (y ∷ ys)) one ∙ rest.given;
     }
 
@@ -50,13 +50,13 @@ body_read place head size body x (y ∷ ys) =
     let one : step (at_body place head size (length (x ∷ y ∷ ys)) body) x ≡ (at_body (up place) head size (length (y ∷ ys)) (body ++ x ∷ []), None) = rw (more, less) refl in
     let rest = body_read (up place) head size (body ++ x ∷ []) y ys in
     record {
-      state = ap (λ (p : Reading × Option Frame). after p.0 (y ∷ ys)) one ∙ rest.state;
+      state = ap (λ (p : Reading × Option Frame). reading_after p.0 (y ∷ ys)) one ∙ rest.state;
       given = ap (λ (p : Reading × Option Frame). listed p.1 ++ frames p.0 (y ∷ ys)) one ∙ rest.given ∙ ap (λ (b : List ℕ). frame head b ∷ []) (append_assoc body (x ∷ []) (y ∷ ys));
     }
 
 -- what stands behind the size
 behind_size : (place : ℕ) (head : Head) (body : List ℕ) → length body ≤ 16777216
-    → (after (record { place = place; stage = sized head (length body); body = [] }) body ≡ start (place_after place body)) × (listed (whole_at head (length body)) ++ frames (record { place = place; stage = sized head (length body); body = [] }) body ≡ frame head body ∷ [])
+    → (reading_after (record { place = place; stage = sized head (length body); body = [] }) body ≡ start (place_after place body)) × (listed (whole_at head (length body)) ++ frames (record { place = place; stage = sized head (length body); body = [] }) body ≡ frame head body ∷ [])
 behind_size place head [] le = (refl, refl)
 behind_size place head (x ∷ xs) le =
     let small : nat_lt 16777216 (length (x ∷ xs)) ≡ false = le-ltb _ _ le in
@@ -64,7 +64,7 @@ behind_size place head (x ∷ xs) le =
     let is : sized head (length (x ∷ xs)) ≡ Filling head (length (x ∷ xs)) (length (x ∷ xs)) = rw (small, some) refl in
     let none : whole_at head (length (x ∷ xs)) ≡ None = rw some refl in
     let b = body_read place head (length (x ∷ xs)) [] x xs in (
-      ap (λ (s : Stage). after (record { place = place; stage = s; body = [] }) (x ∷ xs)) is ∙ b.state,
+      ap (λ (s : Stage). reading_after (record { place = place; stage = s; body = [] }) (x ∷ xs)) is ∙ b.state,
       ap (λ (o : Option Frame). listed o ++ frames (record { place = place; stage = sized head (length (x ∷ xs)); body = [] }) (x ∷ xs)) none ∙ ap (λ (s : Stage). frames (record { place = place; stage = s; body = [] }) (x ∷ xs)) is ∙ b.given,
     )
 
@@ -86,12 +86,12 @@ whole_frame at flags (x ∷ xs) body allowed width value limit =
     let b = behind_size (place_after (up at) (x ∷ xs)) head body limit in
     let sized_is : record { place = place_after (up at) (x ∷ xs); stage = sized head (number_from 0 (x ∷ xs)); body = [] } ≡ record { place = place_after (up at) (x ∷ xs); stage = sized head (length body); body = [] }
     = ap (λ (n : ℕ). record { place = place_after (up at) (x ∷ xs); stage = sized head n; body = [] }) value in
-    let state : after (at_size (up at) head (length (x ∷ xs)) 0) (x ∷ xs) ≡ record { place = place_after (up at) (x ∷ xs); stage = sized head (length body); body = [] } = s.state ∙ sized_is in
+    let state : reading_after (at_size (up at) head (length (x ∷ xs)) 0) (x ∷ xs) ≡ record { place = place_after (up at) (x ∷ xs); stage = sized head (length body); body = [] } = s.state ∙ sized_is in
     record {
-      state = ap (λ (p : Reading × Option Frame). after p.0 ((x ∷ xs) ++ body)) begun ∙ after_append (at_size (up at) head (length (x ∷ xs)) 0) (x ∷ xs) body
-          ∙ ap (λ (r : Reading). after r body) state ∙ b.0 ∙ ap start (sym (place_append (up at) (x ∷ xs) body));
+      state = ap (λ (p : Reading × Option Frame). reading_after p.0 ((x ∷ xs) ++ body)) begun ∙ after_append (at_size (up at) head (length (x ∷ xs)) 0) (x ∷ xs) body
+          ∙ ap (λ (r : Reading). reading_after r body) state ∙ b.0 ∙ ap start (sym (place_append (up at) (x ∷ xs) body));
       given = ap (λ (p : Reading × Option Frame). listed p.1 ++ frames p.0 ((x ∷ xs) ++ body)) begun ∙ frames_append (at_size (up at) head (length (x ∷ xs)) 0) (x ∷ xs) body
-          ∙ ap (λ (fs : List Frame). fs ++ frames (after (at_size (up at) head (length (x ∷ xs)) 0) (x ∷ xs)) body) (s.given ∙ ap (λ (n : ℕ). listed (whole_at head n)) value)
+          ∙ ap (λ (fs : List Frame). fs ++ frames (reading_after (at_size (up at) head (length (x ∷ xs)) 0) (x ∷ xs)) body) (s.given ∙ ap (λ (n : ℕ). listed (whole_at head n)) value)
           ∙ ap (λ (r : Reading). listed (whole_at head (length body)) ++ frames r body) state ∙ b.1;
     }
 
@@ -108,9 +108,9 @@ are_read place octets [] e = rw e (record { state = refl; given = refl })
 are_read place octets (f ∷ fs) (front, rest, parts, at, is, more) =
     let one = spelled_frame front f is in
     let later = are_read (place_after place front) rest fs more in
-    let state : after (start place) front ≡ start (place_after place front) = subst (λ (n : ℕ). after (start n) front ≡ start (place_after n front)) at one.state in
+    let state : reading_after (start place) front ≡ start (place_after place front) = subst (λ (n : ℕ). reading_after (start n) front ≡ start (place_after n front)) at one.state in
     let given : frames (start place) front ≡ f ∷ [] = subst (λ (n : ℕ). frames (start n) front ≡ f ∷ []) at one.given in
     rw parts (record {
-      state = after_append (start place) front rest ∙ ap (λ (r : Reading). after r rest) state ∙ later.state ∙ ap start (sym (place_append place front rest));
-      given = frames_append (start place) front rest ∙ ap (λ (xs : List Frame). xs ++ frames (after (start place) front) rest) given ∙ ap (λ (r : Reading). f ∷ frames r rest) state ∙ ap (λ (xs : List Frame). f ∷ xs) later.given;
+      state = after_append (start place) front rest ∙ ap (λ (r : Reading). reading_after r rest) state ∙ later.state ∙ ap start (sym (place_append place front rest));
+      given = frames_append (start place) front rest ∙ ap (λ (xs : List Frame). xs ++ frames (reading_after (start place) front) rest) given ∙ ap (λ (r : Reading). f ∷ frames r rest) state ∙ ap (λ (xs : List Frame). f ∷ xs) later.given;
     })

@@ -29,8 +29,8 @@ property_at octets = do
   Ok (record { name = name.0; value = value.0 }, value.1)
 
 -- the first property of this name
-abbrev pub named : List ℕ → List Property → Option Property
-named name list = find (λ p. same_name name p.name) list
+abbrev pub property_named : List ℕ → List Property → Option Property
+property_named name list = find (λ p. same_name name p.name) list
 
 -- these properties and one more, whose name has an octet at least and didn't come before
 abbrev pub with_property : List Property → Property → Option (List Property)
@@ -72,7 +72,7 @@ props_with p identity = record { socket_type = p.value; identity = identity }
 -- what READY says: a socket type, and maybe an identity
 abbrev pub props_of : List Property → Option Props
 props_of list =
-    option_and_then (λ p. option_map (props_with p) (identity_of (named (codes "Identity") list))) (named (codes "Socket-Type") list)
+    option_and_then (λ p. option_map (props_with p) (identity_of (property_named (codes "Identity") list))) (property_named (codes "Socket-Type") list)
 
 abbrev pub ready_of : List ℕ → Option Props
 ready_of octets = option_and_then props_of (metadata octets)

@@ -4,7 +4,8 @@ use Rattle.zmtp_frames.specs.declared.frame.Frame.{Frame}
 use Rattle.zmtp_frames.specs.declared.frame.Stage.{Stage}
 use Rattle.zmtp_frames.specs.declared.frame.Stage.TheVariants.{Between, Sizing, Filling, Ended}
 use Rattle.zmtp_frames.specs.declared.fault.FrameFault.TheVariants.{BadFlags, FrameTooLong}
-use Rattle.zmtp_frames.specs.Stream.{Reading, are_flags, size_width, body_limit, head_of, begun, up}
+use Rattle.cluster_types.specs.Limits.{body_limit}
+use Rattle.zmtp_frames.specs.Stream.{Reading, are_flags, size_width, head_of, begun, up}
 
 -- a number behind others, the highest octet first
 abbrev pub number_from : ℕ → List ℕ → ℕ

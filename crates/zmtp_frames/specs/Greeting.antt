@@ -1,8 +1,9 @@
 -- The greeting (RFC 23, Greeting): a signature of ff, eight octets of padding and 7f; the version, major and minor;
 -- 20 octets of mechanism; as-server; and a filler of 31 octets.
-use Rattle.std.specs.Prelude.{ℕ, zero, suc, ◌+◌, nat_lt, ◌==◌, List, [], ◌∷◌, ◌++◌, take, drop, codes, slice_index, Option, Some, None, if◌then◌else◌, option_map}
+use Rattle.std.specs.Prelude.{ℕ, zero, suc, nat_lt, ◌==◌, List, [], ◌∷◌, ◌++◌, take, drop, codes, slice_index, Option, Some, if◌then◌else◌, option_map}
 use Rattle.zmtp_frames.specs.declared.fault.FrameFault.{FrameFault}
 use Rattle.zmtp_frames.specs.declared.fault.FrameFault.TheVariants.{BadSignature, BadVersion, BadMechanism}
+use Rattle.octet_fields.specs.Difference.{difference}
 
 abbrev pub zeros : ℕ → List ℕ
 zeros zero = []
@@ -10,12 +11,6 @@ zeros (suc n) = 0 ∷ zeros n
 
 abbrev pub null_mechanism : List ℕ
 null_mechanism = codes "NULL" ++ zeros 16
-
--- the place of the first octet that differs
-abbrev pub difference : ℕ → List ℕ → List ℕ → Option ℕ
-difference place [] octets = None
-difference place (x ∷ xs) [] = None
-difference place (x ∷ xs) (y ∷ ys) = if x == y then difference (place + 1) xs ys else Some place
 
 -- the first fault of 64 octets as a greeting
 abbrev pub greeting_fault : List ℕ → Option FrameFault

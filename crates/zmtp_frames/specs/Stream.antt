@@ -1,5 +1,6 @@
 -- A stream of frames (RFC 23, Framing), octet by octet: a frame is flags, size and body.
 use Rattle.std.specs.Prelude.{◌≡◌, ℕ, ◌+◌, ◌-◌, ◌*◌, ◌/◌, ◌%◌, ◌^◌, ◌<◌, ◌≤◌, nat_lt, ◌==◌, min, List, [], ◌∷◌, ◌++◌, Option, Some, None, Bool, not, ◌&&◌, if◌then◌else◌}
+use Rattle.cluster_types.specs.Limits.{body_limit}
 use Rattle.zmtp_frames.specs.declared.frame.Head.{Head}
 use Rattle.zmtp_frames.specs.declared.frame.Frame.{Frame}
 use Rattle.zmtp_frames.specs.declared.frame.Begun.{Begun}
@@ -39,10 +40,6 @@ begun head size = record { at = head.at; more = head.more; command = head.comman
 abbrev pub frame : Head → List ℕ → Frame
 frame head body = record { at = head.at; more = head.more; command = head.command; body = body }
 
--- the most octets of a body
-abbrev pub body_limit : ℕ
-body_limit = 16777216
-
 -- the stage behind a flags octet
 abbrev pub flagged : ℕ → ℕ → Stage
 flagged at flags =
@@ -79,9 +76,9 @@ listed None = []
 listed (Some f) = f ∷ []
 
 -- what is known after these octets
-abbrev pub after : Reading → List ℕ → Reading
-after r [] = r
-after r (x ∷ xs) = after (step r x).0 xs
+abbrev pub reading_after : Reading → List ℕ → Reading
+reading_after r [] = r
+reading_after r (x ∷ xs) = reading_after (step r x).0 xs
 
 -- the frames that these octets end
 abbrev pub frames : Reading → List ℕ → List Frame

@@ -4,8 +4,7 @@ ghost use Rattle.std.specs.Prelude.{option_map};
 ghost use Rattle.std.specs.Option.{option_copied};
 ghost use Rattle.zmtp_frames.specs.Command.{Gives, command_of, command_named, ready_of, error_of, identity_of, props_with, props_of};
 
-use crate::metadata::{Property, named, read_metadata};
-use cluster_types::copying::TryCopy;
+use crate::metadata::{Property, property_named, read_metadata};
 use cluster_types::octets::Octets;
 use octet_fields::reading::str8;
 use octet_fields::stop::Stop;
@@ -67,7 +66,7 @@ fn read_identity(property: Option<&Property>) -> Result<Option<Octets>, CommandE
             if property.value.as_slice().len() > 255 {
                 return Err(CommandError::BadCommand);
             }
-            Ok(Some(property.value.copy()?))
+            Ok(Some(property.value.clone()?))
         }
     }
 }
@@ -77,7 +76,7 @@ fn props_from(socket_type: &Property, identity: Option<&Property>) -> Result<Pro
     ensures { Gives (λ x. x) result (option_map (props_with socket_type.now) (identity_of (option_copied identity.entry))) }
 {
     let identity = read_identity(identity)?;
-    let socket_type = socket_type.value.copy()?;
+    let socket_type = socket_type.value.clone()?;
     Ok(Props {
         socket_type,
         identity,
@@ -88,10 +87,10 @@ fn props_from(socket_type: &Property, identity: Option<&Property>) -> Result<Pro
 fn read_props(list: &[Property]) -> Result<Props, CommandError>
     ensures { Gives (λ x. x) result (props_of list.now) }
 {
-    match named(b"Socket-Type", list) {
+    match property_named(b"Socket-Type", list) {
         None => Err(CommandError::BadCommand),
         Some(socket_type) => {
-            let props = props_from(socket_type, named(b"Identity", list))?;
+            let props = props_from(socket_type, property_named(b"Identity", list))?;
             Ok(props)
         }
     }

@@ -1,8 +1,47 @@
 //! Frames, and what stands between them.
 
+ghost use Rattle.std.specs.Prelude.{◌≡◌};
+
 use crate::fault::FrameFault;
-use cluster_types::octets::Octets;
 use cluster_types::sequence::Sequence;
+use std::marker::Model;
+
+/// The octets of a body, in memory of their own, so that a reader that has to can take them back.
+#[derive(Debug, Drop)]
+pub struct Body {
+    octets: Vec<u8>,
+}
+
+impl Model for Body {
+    ghost use Rattle.std.specs.Prelude.{List, ℕ};
+
+    ghost Value = { List ℕ };
+
+    ghost view = { λ b. b.octets.items };
+}
+
+impl Body {
+    /// These octets, which takes no memory.
+    pub fn from_vec(octets: Vec<u8>) -> Body
+        ensures { result ≡ octets.items }
+    {
+        Body { octets }
+    }
+
+    /// The octets as a `Vec`, which takes no memory.
+    pub fn into_vec(self) -> Vec<u8>
+        ensures { result.items ≡ self }
+    {
+        let Body { octets } = self;
+        octets
+    }
+
+    pub fn as_slice(&self) -> &[u8]
+        ensures { result.now ≡ self.now }
+    {
+        self.octets.as_slice()
+    }
+}
 
 /// What a flags octet says, and its place.
 #[derive(Clone, Copy, Debug, PartialEq, Eq)]
@@ -18,7 +57,7 @@ pub struct Frame {
     pub at: u64,
     pub more: bool,
     pub command: bool,
-    pub body: Octets,
+    pub body: Body,
 }
 
 pub type FrameList = Sequence<Frame>;

@@ -1,7 +1,8 @@
 //! The greeting.
 
 ghost use Rattle.std.specs.Prelude.{◌≡◌, ◌≤◌, length, OnOk, IfErr, Some, None};
-ghost use Rattle.zmtp_frames.specs.Greeting.{difference, greeting_fault, null_mechanism, own_greeting};
+ghost use Rattle.octet_fields.specs.Difference.{difference};
+ghost use Rattle.zmtp_frames.specs.Greeting.{greeting_fault, null_mechanism, own_greeting};
 
 use crate::fault::FrameFault;
 

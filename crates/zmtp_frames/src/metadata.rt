@@ -3,7 +3,7 @@
 ghost use Rattle.std.specs.Prelude.{◌≡◌, ◌++◌, ◌∷◌, [], OnOk};
 ghost use Rattle.std.specs.Option.{option_copied};
 ghost use Rattle.octet_fields.specs.Reading.{IsRead};
-ghost use Rattle.zmtp_frames.specs.Command.{Gives, AreNamesOf, property_at, metadata_step, metadata, named};
+ghost use Rattle.zmtp_frames.specs.Command.{Gives, AreNamesOf, property_at, metadata_step, metadata, property_named};
 
 use crate::command::CommandError;
 use crate::names::Names;
@@ -89,8 +89,8 @@ pub fn read_metadata(alloc: Global, octets: &[u8]) -> Result<PropertyList, Comma
 }
 
 /// The property of this name.
-pub fn named<'a>(name: &[u8], list: &'a [Property]) -> Option<&'a Property>
-    ensures { option_copied result ≡ named name.now list.now }
+pub fn property_named<'a>(name: &[u8], list: &'a [Property]) -> Option<&'a Property>
+    ensures { option_copied result ≡ property_named name.now list.now }
 {
     list.iter()
         .find(|p| name.eq_ignore_ascii_case(p.name.as_slice()))

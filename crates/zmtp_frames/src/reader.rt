@@ -1,16 +1,13 @@
 //! A reader of frames that is fed in any pieces.
 
 ghost use Rattle.std.specs.Prelude.{◌≡◌, IfOk, OnOk, OnErr, ◌<◌, ◌≤◌, ◌++◌, List, ℕ, [], take, length};
-ghost use Rattle.zmtp_frames.specs.Stream.{start, step, after, frames, begun_at, fault_at, listed, flagged, sized, IsSound, begun, first_body};
+ghost use Rattle.zmtp_frames.specs.Stream.{start, step, reading_after, frames, begun_at, fault_at, listed, flagged, sized, IsSound, begun, first_body};
 
 use crate::fault::FrameFault;
-use crate::frame::{Begun, Fed, Frame, FrameList, Head, Stage};
-use cluster_types::octets::Octets;
+use crate::frame::{Begun, Body, Fed, Frame, FrameList, Head, Stage};
+use cluster_types::limits::BODY_OCTETS;
 use std::alloc::{AllocError, Global};
 use std::marker::Model;
-
-/// The most octets of a body.
-const BODY_LIMIT: u64 = 16_777_216;
 
 /// The frame with this head that isn't whole.
 fn begun_by(head: Head, size: Option<u64>) -> Begun
@@ -50,7 +47,7 @@ fn sized_by(head: Head, size: u64) -> Stage
     ensures is { result ≡ sized head size }
     ensures sound { IsSound result [] }
 {
-    if size > BODY_LIMIT {
+    if size > BODY_OCTETS {
         return Stage::Ended {
             fault: FrameFault::FrameTooLong(head.at),
             begun: begun_by(head, Some(size)),
@@ -157,7 +154,7 @@ impl FrameReader {
                     at: head.at,
                     more: head.more,
                     command: head.command,
-                    body: Octets::from_vec(Vec::new(*self.body.allocator())),
+                    body: Body::from_vec(Vec::new(*self.body.allocator())),
                 });
             }
             return None;
@@ -192,7 +189,7 @@ impl FrameReader {
                 at: head.at,
                 more: head.more,
                 command: head.command,
-                body: Octets::from_vec(body),
+                body: Body::from_vec(body),
             }));
         }
         self.stage = Stage::Filling {
@@ -250,7 +247,7 @@ impl FrameReader {
     /// the reader's.
     fn octets(&mut self, piece: &[u8], whole: &mut Vec<Frame>) -> Result<(), AllocError>
         requires { whole.old.items ≡ [] }
-        ensures after { OnOk result (self.new ≡ after self.old piece.now) }
+        ensures after { OnOk result (self.new ≡ reading_after self.old piece.now) }
         ensures frames { OnOk result (whole.new.items ≡ frames self.old piece.now) }
         ensures kept { take (length self.old.body) (first_body whole.new.items self.new.body) ≡ self.old.body }
     {
@@ -262,7 +259,7 @@ impl FrameReader {
 
     /// Takes the next piece of the stream. Where memory is wanting, the reader is as it was before the call.
     pub fn feed(&mut self, piece: &[u8]) -> Result<Fed, AllocError>
-        ensures after { OnOk result (self.new ≡ after self.old piece.now) }
+        ensures after { OnOk result (self.new ≡ reading_after self.old piece.now) }
         ensures frames { IfOk result (λ fed. fed.frames ≡ frames self.old piece.now) }
         ensures begun { IfOk result (λ fed. fed.begun ≡ begun_at self.new.stage) }
         ensures fault { IfOk result (λ fed. fed.fault ≡ fault_at self.new.stage) }

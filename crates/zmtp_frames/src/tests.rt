@@ -54,19 +54,19 @@ fn is_identity(given: &Option<Octets>, identity: Option<&[u8]>) -> bool {
 }
 
 #[test]
-fn greetings(rt: HostRuntime) -> Result<(), Fail> {
-    assert_eq!(rt; read_greeting(&greeting()), Ok(()));
-    assert_eq!(rt; read_greeting(&greeting_of_libzmq()), Ok(()));
-    let mut wrong = greeting();
-    wrong[0] = 0xfe;
-    assert_eq!(rt; read_greeting(&wrong), Err(FrameFault::BadSignature(0)));
-    let mut older = greeting();
-    older[10] = 2;
-    assert_eq!(rt; read_greeting(&older), Err(FrameFault::BadVersion(10)));
-    let mut longer = greeting();
-    longer[16] = b'X';
-    assert_eq!(rt; read_greeting(&longer), Err(FrameFault::BadMechanism(16)));
-    Ok(())
+fn greetings(rt: HostRuntime) {
+    assert!(rt; read_greeting(&greeting()).is_ok() && read_greeting(&greeting_of_libzmq()).is_ok());
+    for (place, octet, fault) in [
+        (0, 0xfe, FrameFault::BadSignature(0)),
+        (10, 2, FrameFault::BadVersion(10)),
+        (16, b'X', FrameFault::BadMechanism(16)),
+    ] {
+        let mut wrong = greeting();
+        if let Some(it) = wrong.get_mut(place) {
+            *it = octet;
+        }
+        assert_eq!(rt; read_greeting(&wrong), Err(fault));
+    }
 }
 
 #[test]
@@ -90,70 +90,51 @@ fn stream_cut_at_every_octet(rt: HostRuntime) -> Result<(), Fail> {
     for octet in STREAM {
         count = count.saturating_add(reader.feed(&[*octet])?.frames.len());
     }
-    assert_eq!(rt; count, 2);
-    assert_eq!(rt; reader.fault(), Some(FrameFault::BadFlags(77)));
+    assert!(rt; count == 2 && reader.fault() == Some(FrameFault::BadFlags(77)));
     let begun = reader.begun().ok_or("nothing begun")?;
     assert_eq!(rt; (begun.at, begun.size), (77, None));
     Ok(())
 }
 
 #[test]
-fn size_that_came(rt: HostRuntime) -> Result<(), Fail> {
-    let mut reader = FrameReader::new(rt.alloc());
-    let fed = reader.feed(b"\x02\x00\x00\x00\x00\x01\x00\x00\x00")?;
-    let begun = fed.begun.ok_or("nothing begun")?;
-    assert_eq!(rt; begun.size, Some(16_777_216));
-    assert_eq!(rt; fed.fault, None);
-    let mut longer = FrameReader::new(rt.alloc());
-    let fed = longer.feed(b"\x02\x00\x00\x00\x00\x01\x00\x00\x01")?;
-    assert_eq!(rt; fed.fault, Some(FrameFault::FrameTooLong(0)));
+fn sizes(rt: HostRuntime) -> Result<(), Fail> {
+    for (last, fault) in [(0, None), (1, Some(FrameFault::FrameTooLong(0)))] {
+        let mut reader = FrameReader::new(rt.alloc());
+        let fed = reader.feed(&[2, 0, 0, 0, 0, 1, 0, 0, last])?;
+        assert_eq!(rt; fed.fault, fault);
+        if last == 0 {
+            let begun = fed.begun.ok_or("nothing begun")?;
+            assert_eq!(rt; begun.size, Some(16_777_216));
+        }
+    }
+    for (count, more, front) in [
+        (255, true, b"x\x01\xff".as_slice()),
+        (
+            256,
+            false,
+            b"x\x02\x00\x00\x00\x00\x00\x00\x01\x00".as_slice(),
+        ),
+    ] {
+        let octets = frame_of(rt.alloc(), more, &[7; 256][..count])?;
+        assert!(rt; octets.len() == front.len().saturating_add(count) && octets.starts_with(front));
+    }
     Ok(())
 }
 
 #[test]
-fn both_sizes(rt: HostRuntime) -> Result<(), Fail> {
-    let short = frame_of(rt.alloc(), true, &[7; 255])?;
-    assert_eq!(rt; short.len(), 258);
-    assert_eq!(rt; &short[..3], b"x\x01\xff".as_slice());
-    let long = frame_of(rt.alloc(), false, &[7; 256])?;
-    assert_eq!(rt; long.len(), 266);
-    assert_eq!(rt;
-        &long[..10],
-        b"x\x02\x00\x00\x00\x00\x00\x00\x01\x00".as_slice()
-    );
-    Ok(())
-}
-
-#[test]
-fn own_ready(rt: HostRuntime) -> Result<(), Fail> {
+fn commands(rt: HostRuntime) -> Result<(), Fail> {
     let alloc = rt.alloc();
     let mut octets = Vec::new(alloc);
     write_ready(&mut octets)?;
     assert_eq!(rt; octets.len(), 30);
     assert_eq!(rt; &octets[..2], b"\x04\x1c".as_slice());
-    let command = read_command(alloc, &octets[2..])?;
-    assert!(rt; is_ready(&command, b"ROUTER", None));
-    Ok(())
-}
-
-#[test]
-fn dealer(rt: HostRuntime) -> Result<(), Fail> {
-    let alloc = rt.alloc();
-    let command = read_command(alloc, DEALER)?;
-    assert!(rt; is_ready(&command, b"DEALER", Some(b"e")));
-    Ok(())
-}
-
-#[test]
-fn other_commands(rt: HostRuntime) -> Result<(), Fail> {
-    let alloc = rt.alloc();
-    assert!(rt;
-        matches!(
-            read_command(alloc, b"\x05READY"),
-            Err(CommandError::BadCommand)
-        )
-    );
-    assert!(rt; matches!(read_command(alloc, b"\x00"), Err(CommandError::BadCommand)));
+    let own = read_command(alloc, &octets[2..])?;
+    assert!(rt; is_ready(&own, b"ROUTER", None));
+    let dealer = read_command(alloc, DEALER)?;
+    assert!(rt; is_ready(&dealer, b"DEALER", Some(b"e")));
+    for text in [b"\x05READY".as_slice(), b"\x00".as_slice()] {
+        assert!(rt; matches!(read_command(alloc, text), Err(CommandError::BadCommand)));
+    }
     assert!(rt; matches!(read_command(alloc, b"\x04PING"), Ok(Command::Other)));
     let mut octets = Vec::new(alloc);
     write_command(&mut octets, b"\x05ERROR\x04busy")?;

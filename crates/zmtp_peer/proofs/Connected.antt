@@ -13,7 +13,7 @@ use Rattle.zmtp_frames.specs.declared.fault.FrameFault.{FrameFault}
 use Rattle.zmtp_frames.specs.declared.command.Props.{Props}
 use Rattle.zmtp_frames.specs.declared.command.Command.{Command}
 use Rattle.zmtp_frames.specs.declared.command.Command.TheVariants.{Ready, Error, Other}
-use Rattle.zmtp_frames.specs.Stream.{Reading, start, step, step_at, after, frames, begun_at, fault_at, sized, whole_at, frame, up}
+use Rattle.zmtp_frames.specs.Stream.{Reading, start, step, step_at, reading_after, frames, begun_at, fault_at, sized, whole_at, frame, up}
 use Rattle.zmtp_frames.specs.Stream as stream
 use Rattle.zmtp_frames.specs.Greeting.{greeting_fault}
 use Rattle.zmtp_frames.specs.Command.{command_of}
@@ -40,14 +40,14 @@ ungrouped_more : (parts : List (List ℕ)) (fs : List Frame) (f : Frame) → ung
 ungrouped_more parts [] f = refl
 ungrouped_more parts (g ∷ gs) f = ungrouped_more (parts_after Traffic parts (Some g)) gs f
 
-frames_more : (first r next : Reading) (rest : List ℕ) (x : ℕ) (o : Option Frame) → r ≡ after first rest → step r x ≡ (next, o) → frames first (rest ++ x ∷ []) ≡ frames first rest ++ stream.listed o
+frames_more : (first r next : Reading) (rest : List ℕ) (x : ℕ) (o : Option Frame) → r ≡ reading_after first rest → step r x ≡ (next, o) → frames first (rest ++ x ∷ []) ≡ frames first rest ++ stream.listed o
 frames_more first r next rest x o is does =
     frames_append first rest (x ∷ [])
     ∙ ap (λ (s : Reading). frames first rest ++ frames s (x ∷ [])) (sym is)
     ∙ ap (λ (s : Reading × Option Frame). frames first rest ++ (stream.listed s.1 ++ [])) does
     ∙ ap (λ (fs : List Frame). frames first rest ++ fs) (append-nil (stream.listed o))
 
-after_more : (first r next : Reading) (rest : List ℕ) (x : ℕ) (o : Option Frame) → r ≡ after first rest → step r x ≡ (next, o) → next ≡ after first (rest ++ x ∷ [])
+after_more : (first r next : Reading) (rest : List ℕ) (x : ℕ) (o : Option Frame) → r ≡ reading_after first rest → step r x ≡ (next, o) → next ≡ reading_after first (rest ++ x ∷ [])
 after_more first r next rest x o is does =
     sym (after_append first rest (x ∷ []) ∙ ap (λ (s : Reading). (step s x).0) (sym is) ∙ ap (λ (s : Reading × Option Frame). s.0) does)
 
@@ -111,7 +111,7 @@ pub record IsHandshake (octets : List ℕ) (t : Talk) (send : List ℕ) (id : Op
   pub frames-are : frames (start 64) rest ≡ []
   pub command : begun_fault Handshake [] (begun_at t.reader.stage) ≡ None
   pub parts-are : t.parts ≡ []
-  pub reader-is : t.reader ≡ after (start 64) rest
+  pub reader-is : t.reader ≡ reading_after (start 64) rest
   pub sends : send ≡ own_ready
   pub identity-is : id ≡ None
   pub messages-are : ms ≡ []

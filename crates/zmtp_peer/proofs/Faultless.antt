@@ -10,7 +10,8 @@ use Rattle.zmtp_frames.specs.declared.frame.Stage.TheVariants as stages
 use Rattle.zmtp_frames.specs.declared.command.Props.{Props}
 use Rattle.zmtp_frames.specs.declared.command.Command.{Command}
 use Rattle.zmtp_frames.specs.declared.command.Command.TheVariants.{Ready}
-use Rattle.zmtp_frames.specs.Stream.{Reading, start, up, step, begun, begun_at, fault_at, frame, sized, whole_at, head_of, are_flags, size_width, body_limit}
+use Rattle.cluster_types.specs.Limits.{body_limit}
+use Rattle.zmtp_frames.specs.Stream.{Reading, start, up, step, begun, begun_at, fault_at, frame, sized, whole_at, head_of, are_flags, size_width}
 use Rattle.zmtp_frames.specs.Grammar.{IsFrame, AreFrames, number_from, place_after}
 use Rattle.zmtp_frames.specs.Greeting.{greeting_fault}
 use Rattle.zmtp_frames.specs.Command.{command_of}

@@ -4,13 +4,14 @@ use Rattle.std.specs.Option.{unwrap_or}
 use Rattle.zmtp_frames.specs.declared.frame.Frame.{Frame}
 use Rattle.zmtp_frames.specs.declared.command.Props.{Props}
 use Rattle.zmtp_frames.specs.declared.command.Command.TheVariants.{Ready}
-use Rattle.zmtp_frames.specs.Stream.{start, after, frames}
+use Rattle.zmtp_frames.specs.Stream.{start, reading_after, frames}
 use Rattle.zmtp_frames.specs.Grammar.{AreFrames}
 use Rattle.zmtp_frames.specs.Greeting.{greeting_fault}
 use Rattle.zmtp_frames.specs.Command.{command_of}
 use Rattle.zmtp_frames.specs.Written.{own_ready}
 use Rattle.zmtp_peer.specs.declared.phase.Phase.TheVariants.{Traffic}
-use Rattle.zmtp_peer.specs.PeerStream.{Talk, parts_after, message_of, listed, is_served, frame_limit, message_limit}
+use Rattle.cluster_types.specs.Limits.{message_limit, most_frames}
+use Rattle.zmtp_peer.specs.PeerStream.{Talk, parts_after, message_of, listed, is_served}
 use Rattle.zmtp_peer.specs.Message.{body_octets}
 
 -- the messages that frames are, behind the bodies of one that isn't whole: frames with MORE, then one without;
@@ -42,12 +43,12 @@ pub record IsConnection (octets : List ℕ) (t : Talk) (send : List ℕ) (identi
   pub identity-is : identity ≡ Some (unwrap_or props.identity [])
   pub messages-are : messages ≡ grouped [] others
   pub parts-are : t.parts ≡ ungrouped [] others
-  pub reader-is : t.reader ≡ after (start 64) rest
+  pub reader-is : t.reader ≡ reading_after (start 64) rest
 
 -- a frame that may stand behind the bodies of a message that isn't whole: a command behind none, and else one within the limits
 abbrev pub FollowsAs : Bool → List (List ℕ) → List ℕ → Type 0
 FollowsAs true parts body = parts ≡ []
-FollowsAs false parts body = (length parts < frame_limit) × (body_octets parts + length body ≤ message_limit)
+FollowsAs false parts body = (length parts < most_frames) × (body_octets parts + length body ≤ message_limit)
 
 abbrev pub MayFollow : List (List ℕ) → List Frame → Type 0
 MayFollow parts [] = Unit {0}

@@ -1,6 +1,7 @@
 -- What a peer's stream gives (RFC 23): a greeting, a handshake by the NULL mechanism, then traffic, octet by octet.
 use Rattle.std.specs.Prelude.{ℕ, ◌+◌, nat_lt, ◌==◌, List, [], ◌∷◌, ◌++◌, length, codes, bytes_eq, Option, Some, None, Bool, ◌||◌, if◌then◌else◌}
 use Rattle.std.specs.Option.{unwrap_or}
+use Rattle.cluster_types.specs.Limits.{most_frames, message_limit}
 use Rattle.zmtp_frames.specs.declared.frame.Frame.{Frame}
 use Rattle.zmtp_frames.specs.declared.frame.Begun.{Begun}
 use Rattle.zmtp_frames.specs.declared.fault.FrameFault.{FrameFault}
@@ -30,13 +31,6 @@ pub record Talk : Type 0 where
 abbrev pub begins : Talk
 begins = record { phase = Greeting; greeting = []; reader = start 64; parts = [] }
 
--- the most frames of a message, and the most octets of its bodies
-abbrev pub frame_limit : ℕ
-frame_limit = 64
-
-abbrev pub message_limit : ℕ
-message_limit = 33554432
-
 -- ---- faults
 
 -- a size with which a message has too many octets
@@ -50,7 +44,7 @@ abbrev pub begun_fault : Phase → List (List ℕ) → Option Begun → Option P
 begun_fault Handshake parts (Some b) = if b.command then None else Some (NoReady b.at)
 begun_fault Traffic parts (Some b) =
     if b.command then if length parts == 0 then None else Some (BadCommand b.at)
-    else if nat_lt (length parts) frame_limit then size_fault b.at parts b.size
+    else if nat_lt (length parts) most_frames then size_fault b.at parts b.size
     else Some (MessageTooLong b.at)
 begun_fault _ parts _ = None
 

@@ -2,14 +2,12 @@
 
 ghost use Rattle.std.specs.Prelude.{◌≡◌, ◌+◌, ◌++◌, ◌∷◌, [], length, nat_lt, OnOk};
 ghost use Rattle.zmtp_peer.specs.Message.{body_octets};
-ghost use Rattle.zmtp_peer.specs.PeerStream.{message_limit};
+ghost use Rattle.cluster_types.specs.Limits.{message_limit};
 
+use cluster_types::limits::MESSAGE_OCTETS;
 use edges::frames::Frames;
 use std::alloc::{AllocError, Global};
 use std::marker::Model;
-
-/// The most octets of the bodies of a message.
-const MESSAGE_LIMIT: u64 = 33_554_432;
 
 /// The bodies that came of a message, which contracts see as a list, and how many octets they have together.
 #[derive(Drop)]
@@ -50,7 +48,7 @@ impl Parts {
     pub fn passes_with(&self, size: u64) -> bool
         ensures { result ≡ nat_lt message_limit (body_octets self.now + size) }
     {
-        self.octets.saturating_add(size) > MESSAGE_LIMIT
+        self.octets.saturating_add(size) > MESSAGE_OCTETS
     }
 
     /// Adds a body.

@@ -11,6 +11,7 @@ use crate::fault::PeerFault;
 use crate::parts::Parts;
 use crate::phase::{FramesList, Gave, Heard, PeerFed, Phase};
 use crate::writing::error_octets;
+use cluster_types::limits::MOST_FRAMES;
 use cluster_types::octets::Octets;
 use edges::frames::Frames;
 use std::alloc::{AllocError, Global};
@@ -21,9 +22,6 @@ use zmtp_frames::frame::{Begun, Frame};
 use zmtp_frames::greeting::{greeting, read_greeting};
 use zmtp_frames::reader::FrameReader;
 use zmtp_frames::writing::write_ready;
-
-/// The most frames of a message.
-const FRAME_LIMIT: usize = 64;
 
 /// The fault that a size shows.
 fn fault_of_size(at: u64, parts: &Parts, size: Option<u64>) -> Option<PeerFault>
@@ -49,7 +47,7 @@ fn fault_in_traffic(parts: &Parts, begun: Begun) -> Option<PeerFault>
         }
         return Some(PeerFault::BadCommand(begun.at));
     }
-    if parts.len() < FRAME_LIMIT {
+    if parts.len() < MOST_FRAMES {
         return fault_of_size(begun.at, parts, begun.size);
     }
     Some(PeerFault::MessageTooLong(begun.at))
@@ -85,12 +83,12 @@ fn ended(phase: Phase, frame: Option<FrameFault>, fault: Option<PeerFault>) -> P
 }
 
 /// What a frame does that gives nothing.
-fn quiet_in(alloc: Global, phase: Phase) -> Heard
+fn quiet_in(phase: Phase) -> Heard
     ensures { result ≡ quiet phase }
 {
     Heard {
         phase,
-        send: Octets::from_vec(Vec::new(alloc)),
+        send: Octets::empty(),
         ready: None,
         message: None,
     }
@@ -104,12 +102,12 @@ fn is_served_type(socket_type: &[u8]) -> bool
 }
 
 /// The identity, which is empty where none is given.
-fn identity_or_empty(alloc: Global, given: Option<Octets>) -> Octets
+fn identity_or_empty(given: Option<Octets>) -> Octets
     ensures { result ≡ unwrap_or given [] }
 {
     match given {
         Some(identity) => identity,
-        None => Octets::from_vec(Vec::new(alloc)),
+        None => Octets::empty(),
     }
 }
 
@@ -118,20 +116,20 @@ fn shake(alloc: Global, at: u64, command: Command) -> Result<Heard, AllocError>
     ensures { IfOk result (λ h. h ≡ shaken at (Some command)) }
 {
     match command {
-        Command::Other => Ok(quiet_in(alloc, Phase::Ended(PeerFault::NoReady(at)))),
-        Command::Error(_reason) => Ok(quiet_in(alloc, Phase::Ended(PeerFault::PeerError(at)))),
+        Command::Other => Ok(quiet_in(Phase::Ended(PeerFault::NoReady(at)))),
+        Command::Error(_reason) => Ok(quiet_in(Phase::Ended(PeerFault::PeerError(at)))),
         Command::Ready(props) => {
             if is_served_type(props.socket_type.as_slice()) {
                 return Ok(Heard {
                     phase: Phase::Traffic,
-                    send: Octets::from_vec(Vec::new(alloc)),
-                    ready: Some(identity_or_empty(alloc, props.identity)),
+                    send: Octets::empty(),
+                    ready: Some(identity_or_empty(props.identity)),
                     message: None,
                 });
             }
             Ok(Heard {
                 phase: Phase::Ended(PeerFault::BadSocketType(at)),
-                send: Octets::from_vec(error_octets(alloc, "Socket-Type")?),
+                send: Octets::from_vec(error_octets(alloc, "Socket-Type")?)?,
                 ready: None,
                 message: None,
             })
@@ -148,10 +146,9 @@ fn hear_first(alloc: Global, frame: &Frame) -> Result<Heard, AllocError>
             let heard = shake(alloc, frame.at, command)?;
             Ok(heard)
         }
-        Err(CommandError::BadCommand) => Ok(quiet_in(
-            alloc,
-            Phase::Ended(PeerFault::BadCommand(frame.at)),
-        )),
+        Err(CommandError::BadCommand) => Ok(quiet_in(Phase::Ended(PeerFault::BadCommand(
+            frame.at,
+        )))),
         Err(CommandError::OutOfMemory) => Err(AllocError),
     }
 }
@@ -186,7 +183,7 @@ fn hear_frame(
     ensures heard { IfOk result (λ h. h ≡ heard phase parts.old frame) }
 {
     let Some(frame) = frame else {
-        return Ok(quiet_in(alloc, phase));
+        return Ok(quiet_in(phase));
     };
     match phase {
         Phase::Handshake => {
@@ -197,12 +194,12 @@ fn hear_frame(
             let message = hear_message(alloc, parts, &frame)?;
             Ok(Heard {
                 phase,
-                send: Octets::from_vec(Vec::new(alloc)),
+                send: Octets::empty(),
                 ready: None,
                 message,
             })
         }
-        _ => Ok(quiet_in(alloc, phase)),
+        _ => Ok(quiet_in(phase)),
     }
 }
 
@@ -307,7 +304,7 @@ impl Peer {
             }
         }
         Ok(PeerFed {
-            send: Octets::from_vec(send),
+            send: Octets::from_vec(send)?,
             ready,
             messages,
             fault: self.fault(),
@@ -325,7 +322,7 @@ impl Peer {
                 Ok(gave)
             }
             Phase::Ended(_) => Ok(Gave {
-                send: Octets::from_vec(Vec::new(*self.greeting.allocator())),
+                send: Octets::empty(),
                 ready: None,
                 message: None,
             }),
@@ -368,7 +365,7 @@ impl Peer {
             self.phase = Phase::Greeting;
         }
         Ok(Gave {
-            send: Octets::from_vec(send),
+            send: Octets::from_vec(send)?,
             ready: None,
             message: None,
         })

@@ -43,12 +43,6 @@ fn fed_all(alloc: Global, octets: &[u8]) -> Result<PeerFed, AllocError> {
     peer.feed(octets)
 }
 
-/// The fault of a connection with these octets behind the greeting.
-fn fault_behind(alloc: Global, octets: &[u8]) -> Result<Option<PeerFault>, AllocError> {
-    let whole = connection(alloc, octets, b"")?;
-    Ok(fed_all(alloc, whole.as_slice())?.fault)
-}
-
 /// Whether these messages are the one of `ab` and an empty frame.
 fn is_ab(messages: &FramesList) -> bool {
     match messages.get(0) {
@@ -96,26 +90,27 @@ fn cut_at_every_octet(rt: HostRuntime) -> Result<(), Fail> {
 }
 
 #[test]
-fn greeting_is_sent_at_once(rt: HostRuntime) -> Result<(), Fail> {
-    let peer = Peer::new(rt.alloc());
-    let greeting = peer.greeting();
-    assert_eq!(rt;
-        &greeting[..12],
-        b"\xff\0\0\0\0\0\0\0\0\x7f\x03\0".as_slice()
-    );
-    assert_eq!(rt;
-        &greeting[12..32],
-        b"NULL\0\0\0\0\0\0\0\0\0\0\0\0\0\0\0\0".as_slice()
-    );
-    Ok(())
-}
-
-#[test]
-fn req_is_refused(rt: HostRuntime) -> Result<(), Fail> {
-    let octets = connection(rt.alloc(), REQ, b"")?;
-    let fed = fed_all(rt.alloc(), octets.as_slice())?;
-    assert_eq!(rt; fed.fault, Some(PeerFault::BadSocketType(64)));
-    assert!(rt; fed.ready.is_none());
+fn handshakes(rt: HostRuntime) -> Result<(), Fail> {
+    let alloc = rt.alloc();
+    for (behind, fault) in [
+        (b"\x00".as_slice(), PeerFault::NoReady(64)),
+        (
+            b"\x08".as_slice(),
+            PeerFault::Frame(FrameFault::BadFlags(64)),
+        ),
+        (b"\x04\x05\x04PING".as_slice(), PeerFault::NoReady(64)),
+        (b"\x04\x06\x05READY".as_slice(), PeerFault::BadCommand(64)),
+        (
+            b"\x04\x0b\x05ERROR\x04busy".as_slice(),
+            PeerFault::PeerError(64),
+        ),
+    ] {
+        let octets = connection(alloc, behind, b"")?;
+        assert_eq!(rt; fed_all(alloc, octets.as_slice())?.fault, Some(fault));
+    }
+    let octets = connection(alloc, REQ, b"")?;
+    let fed = fed_all(alloc, octets.as_slice())?;
+    assert!(rt; fed.fault == Some(PeerFault::BadSocketType(64)) && fed.ready.is_none());
     assert_eq!(rt;
         fed.send.as_slice().get(30..),
         Some(b"\x04\x12\x05ERROR\x0bSocket-Type".as_slice())
@@ -124,30 +119,12 @@ fn req_is_refused(rt: HostRuntime) -> Result<(), Fail> {
 }
 
 #[test]
-fn faults_of_the_handshake(rt: HostRuntime) -> Result<(), Fail> {
-    let alloc = rt.alloc();
-    assert_eq!(rt; fault_behind(alloc, b"\x00")?, Some(PeerFault::NoReady(64)));
+fn greetings(rt: HostRuntime) -> Result<(), Fail> {
+    let own = Peer::new(rt.alloc()).greeting();
     assert_eq!(rt;
-        fault_behind(alloc, b"\x08")?,
-        Some(PeerFault::Frame(FrameFault::BadFlags(64)))
+        &own[..32],
+        b"\xff\0\0\0\0\0\0\0\0\x7f\x03\0NULL\0\0\0\0\0\0\0\0\0\0\0\0\0\0\0\0".as_slice()
     );
-    assert_eq!(rt;
-        fault_behind(alloc, b"\x04\x05\x04PING")?,
-        Some(PeerFault::NoReady(64))
-    );
-    assert_eq!(rt;
-        fault_behind(alloc, b"\x04\x06\x05READY")?,
-        Some(PeerFault::BadCommand(64))
-    );
-    assert_eq!(rt;
-        fault_behind(alloc, b"\x04\x0b\x05ERROR\x04busy")?,
-        Some(PeerFault::PeerError(64))
-    );
-    Ok(())
-}
-
-#[test]
-fn faults_of_the_greeting(rt: HostRuntime) -> Result<(), Fail> {
     let mut greeting = *GREETING;
     greeting[9] = 0x7e;
     let fed = fed_all(rt.alloc(), &greeting)?;

@@ -8,8 +8,8 @@ use Rattle.std.proofs.lemmas.Result.{err_from_is_err_and}
 use Rattle.arith_eval.specs.declared.error.ArithError.{ArithError}
 use Rattle.arith_eval.specs.Names.{value_in}
 use Rattle.arith_eval.specs.Value.{Outcome, value_of_program, Evaluates}
-use Rattle.arith_eval.specs.Machine.{at_rest, play}
-use Rattle.arith_eval.proofs.Plays.{plays, stops}
+use Rattle.arith_eval.specs.Machine.{at_rest}
+use Rattle.arith_eval.proofs.Plays.{play, plays, stops}
 use Rattle.arith_eval.proofs.run.run.Goals as goal
 
 pub returns-in_err-step : goal.returns-in_err-step

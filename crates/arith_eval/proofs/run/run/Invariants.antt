@@ -1,6 +1,7 @@
 use Rattle.std.proofs.Common.{◌≡◌, ◌≤◌, drop}
 use Rattle.arith_eval.specs.Names.{value_in}
-use Rattle.arith_eval.specs.Machine.{at_rest, play}
+use Rattle.arith_eval.specs.Machine.{at_rest}
+use Rattle.arith_eval.proofs.Plays.{play}
 use Rattle.arith_eval.proofs.run.run.Given as goal
 
 abbrev pub invariant-loop-instruction : goal.invariant-loop-instruction

@@ -1,7 +1,6 @@
-use Rattle.std.proofs.Common.{rules, ◌≡◌, ◌<◌, length, Bool, true, false, sym, ap, ◌∙◌, refl, subst, arith}
+use Rattle.std.proofs.Common.{sym, ◌∙◌, refl, arith}
 use Rattle.std.proofs.lemmas.Bool.{false_from_ne_true}
-use Rattle.cluster_defs.specs.Words.{same_lists}
-use Rattle.cluster_state.proofs.Known.{same_length, same_step, same_end}
+use Rattle.cluster_state.proofs.Known.{same_length, same_step}
 use Rattle.cluster_state.proofs.acceptance.same_buffers.Goals as goal
 
 pub returns-then-a-b : goal.returns-then-a-b

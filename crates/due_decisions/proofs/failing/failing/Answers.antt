@@ -11,5 +11,5 @@ returns-then-rests c =
     let now = c.args.now in
     let t = c.args.task.now in
     c.failing_request.ensures ∙ ap (λ a. failing_as (among ts live now a) [] (Some (request_as c.request.result.now))) (sym c.attempts.ensures)
-    ∙ ap (failing_as (among ts live now t.attempts) []) (sym c.request.ensures)
+    ∙ ap (failing_as (among ts live now t.attempts) []) (sym c.request.ensures.value)
     ∙ ap (λ b. cond b (failing_as (among ts live now t.attempts) t.row.id t.request) None) c.if-rests.ensures

@@ -4,7 +4,7 @@ use Rattle.std.proofs.lemmas.List.{with_items_is}
 use Rattle.cluster_defs.specs.Engines.{lists_number}
 use Rattle.cluster_state.specs.Seen.{open_places}
 use Rattle.due_decisions.specs.declared.rooms.Room.{Room}
-use Rattle.due_decisions.specs.Table.{has_room, tally}
+use Rattle.due_decisions.specs.Table.{leaves_room, tally}
 use Rattle.due_decisions.proofs.Counted.{tally_all}
 use Rattle.due_decisions.proofs.rooms.rooms_in.Goals as goal
 
@@ -15,6 +15,6 @@ returns c =
     let base : List Room = c.in_ok-rooms.rooms.items in
     let whole = with_items_is c.in_ok-rooms.rooms c.note_all.new.rooms (omega (arith, c.note_all.auto.rooms, c.deref_mut.ensures.len)) in
     let counted = c.in_ok-note_all.ensures ∙ ap (map (tally c.as_slice.result.now c.unsettled.result.now)) c.deref_mut.ensures.value in
-    c.keep_open.ensures ∙ ap (filter (λ r. has_room c.args.hwm r.load))
+    c.keep_open.ensures ∙ ap (filter (λ r. leaves_room c.args.hwm r.load))
     (whole ∙ counted ∙ ap (λ xs. map (tally xs c.unsettled.result.now) base) c.as_slice.ensures ∙ ap (λ ps. map (tally ts ps) base) c.unsettled.ensures
     ∙ ap (map (tally ts (open_places ts))) c.in_ok-rooms.ensures ∙ tally_all ts ns)

@@ -46,5 +46,5 @@ returns g c =
     ∙ ap (find (λ n. not (list_any (λ m. nat_eq m n) (map (λ e. e.0) live)))) c.as_slice-2.ensures ∙ missing_same live targets in
     let rows = c.as_slice-6.ensures.value ∙ c.in_ok-rows.ensures in
     let text = c.in_ok-text.ensures c.args.verbose (ids_where waits_in records) records c.as_slice-5.result.now c.in_ok-unassigned.ensures rows in
-    let content = c.from_vec.ensures ∙ ap (λ v. v.items) c.into_bytes.ensures.value ∙ text ∙ ap (λ z. queue_content c.args.verbose (ids_where waits_in records) (map (queue_in records) z)) asked in
+    let content = c.in_ok-from_string.ensures ∙ text ∙ ap (λ z. queue_content c.args.verbose (ids_where waits_in records) (map (queue_in records) z)) asked in
     c.plain.ensures ∙ ap plain content ∙ ap (queues_in records live targets c.args.verbose) missing

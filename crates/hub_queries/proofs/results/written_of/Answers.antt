@@ -3,7 +3,7 @@ use Rattle.std.specs.Option.{option_and_then, option_to_list}
 use Rattle.std.proofs.lemmas.List.{take_more}
 use Rattle.message_defs.specs.Texts.{Settled}
 use Rattle.cluster_defs.specs.RecordAnswers.{record_in, left_in}
-use Rattle.hub_queries.specs.Results.{written}
+use Rattle.hub_queries.specs.Results.{written_results}
 use Rattle.hub_queries.proofs.Parts.{filter_map_more, filter_map_short}
 use Rattle.hub_queries.proofs.results.written_of.Goals as goal
 
@@ -21,5 +21,5 @@ loop-id-preserved g c =
     let long : length front ≡ at = length-take-le at ids (omega arith) in
     let short : length (filter_map left front) + 1 < 2 ^ 64 = omega (arith, filter_map_short left front, long) in
     c.in_ok-add_found.ensures (filter_map left front) short c.loop-id.invariant
-    ∙ ap (λ o. written (filter_map left front ++ option_to_list (option_and_then left_in o))) c.find.ensures
-    ∙ ap written (sym (filter_map_more left front id) ∙ ap (filter_map left) (sym one))
+    ∙ ap (λ o. written_results (filter_map left front ++ option_to_list (option_and_then left_in o))) c.find.ensures
+    ∙ ap written_results (sym (filter_map_more left front id) ∙ ap (filter_map left) (sym one))

@@ -9,7 +9,7 @@ returns-then-len-from-lt5-clause-err c =
     let frames = c.args.frames.now in
     let from = c.args.from in
     let short : length (drop from frames) < 5 = omega (arith, length-drop from frames) in
-    inr (too_few c.args.key.now c.args.target (drop from frames) short)
+    inr (too_few c.args.key.now c.args.target.now (drop from frames) short)
 
 pub returns-then-not-is_signature-clause-err : goal.returns-then-not-is_signature-clause-err
 returns-then-not-is_signature-clause-err c =
@@ -27,4 +27,4 @@ returns-then-not-is_signature-clause-err c =
     let fifth = c.part-content.ensures.first (from + 5) (omega arith) in
     let all : drop from frames ≡ given ∷ header ∷ parent ∷ metadata ∷ content ∷ drop (from + 5) frames = cc (first, second, third, fourth, fifth) in
     let other : bytes_eq given (signature c.args.key.now header parent metadata content) ≡ false = cc (c.is_signature.ensures) in
-    inr (ap (message_in c.args.key.now c.args.target) all ∙ not_signed c.args.key.now c.args.target given header parent metadata content (drop (from + 5) frames) other ∙ ap (λ g. Err (BadSignature g)) (sym c.in_ok-new.ensures))
+    inr (ap (message_in c.args.key.now c.args.target.now) all ∙ not_signed c.args.key.now c.args.target.now given header parent metadata content (drop (from + 5) frames) other ∙ ap (λ g. Err (BadSignature g)) (sym c.in_ok-new.ensures))

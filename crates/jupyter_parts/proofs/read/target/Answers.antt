@@ -1,5 +1,5 @@
-use Rattle.std.proofs.Common.{◌≡◌, ◌+◌, ℕ, List, [], take, drop, find, unwrap_or, IfOk, ap, sym, subst, refl, ◌∙◌, true}
-use Rattle.jupyter_parts.specs.Signed.{is_target, target_of}
+use Rattle.std.proofs.Common.{◌≡◌, ◌+◌, [], take, drop, find, unwrap_or, ap, sym, refl, ◌∙◌, true}
+use Rattle.jupyter_parts.specs.Signed.{is_target}
 use Rattle.jupyter_parts.proofs.Places.{found}
 use Rattle.jupyter_parts.proofs.read.target.Goals as goal
 
@@ -10,6 +10,4 @@ returns-then-is_target c =
     let frame = c.part-frame.result.now in
     let yes : is_target frame ≡ true = sym c.is_target.ensures ∙ c.if-is_target.true in
     let first = c.part-frame.ensures.within (place + 1) c.args.end refl c.loop-place-test.true in
-    let is : target_of before ≡ frame = ap (λ o. unwrap_or o []) (c.loop-place.invariant ∙ ap (find is_target) first ∙ found frame (drop (place + 1) before) yes) in
-    let P : List ℕ → Type 0 = λ t. IfOk c.new.result (λ o. o ≡ t) in
-    subst P (sym is) c.new.ensures
+    sym (ap (λ o. unwrap_or o []) (c.loop-place.invariant ∙ ap (find is_target) first ∙ found frame (drop (place + 1) before) yes))

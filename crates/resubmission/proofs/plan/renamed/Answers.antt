@@ -20,9 +20,9 @@ loop-place-preserved c =
     let long : length front ≡ place = length-take-le place ids (omega arith) in
     let number : c.args.last + place + 1 ≡ first + length front = omega (arith, long) in
     let made : c.in_ok-new.new ≡ resubmit_id (first + length front) = c.in_ok-new.ensures ∙ ap resubmit_id number in
-    let kept : c.in_ok-copy.field-0 ≡ id = c.in_ok-copy.ensures in
+    let kept : c.in_ok-clone.field-0 ≡ id = c.in_ok-clone.ensures.cases in
     ap (map copy_of) c.in_ok-push.ensures.ok ∙ map-append copy_of c.loop-place.renamed _
-    ∙ ap (λ z. z ++ record { old = c.in_ok-copy.field-0; new = c.in_ok-new.new } ∷ []) c.loop-place.invariant
+    ∙ ap (λ z. z ++ record { old = c.in_ok-clone.field-0; new = c.in_ok-new.new } ∷ []) c.loop-place.invariant
     ∙ ap (λ z. copies_from first front ++ record { old = z; new = c.in_ok-new.new } ∷ []) kept
     ∙ ap (λ z. copies_from first front ++ record { old = id; new = z } ∷ []) made
     ∙ sym (copies_more first front id) ∙ ap (copies_from first) (sym one)

@@ -1,5 +1,4 @@
 use Rattle.tape.proofs.Loops.{goes_on}
-use Rattle.std.proofs.Common.{◌≡◌, subst}
 use Rattle.tape.proofs.reading.frames.Goals as goal
 
 pub loop-turn-preserved : goal.loop-turn-preserved

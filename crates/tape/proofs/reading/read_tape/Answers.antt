@@ -1,6 +1,3 @@
-use Rattle.std.proofs.Common.{◌≡◌, ℕ, List, [], length, drop, arith, sym, ap, subst, ◌∙◌}
-use Rattle.std.proofs.lemmas.List.{drop_all}
-use Rattle.tape.specs.Tape.{NoRecord}
 use Rattle.tape.proofs.Places.{none_past}
 use Rattle.tape.proofs.reading.read_tape.Goals as goal
 

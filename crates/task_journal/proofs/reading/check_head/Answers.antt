@@ -1,5 +1,6 @@
 use Rattle.std.proofs.Common.{◌≡◌, ◌≤◌, ℕ, List, length, refl, sym, ap, ◌∙◌, arith}
-use Rattle.task_journal.specs.Journal.{difference, head}
+use Rattle.octet_fields.specs.Difference.{difference}
+use Rattle.task_journal.specs.Journal.{head}
 use Rattle.task_journal.proofs.Loops.{difference_take}
 use Rattle.task_journal.proofs.reading.check_head.Goals as goal
 

@@ -1,5 +1,5 @@
 use Rattle.std.proofs.Common.{◌≡◌, drop}
-use Rattle.task_journal.specs.Journal.{difference}
+use Rattle.octet_fields.specs.Difference.{difference}
 use Rattle.task_journal.proofs.reading.difference_of.Given as goal
 
 abbrev pub invariant-loop-i : goal.invariant-loop-i

@@ -1,5 +1,5 @@
 use Rattle.std.proofs.Common.{◌≡◌, drop, ◌+◌}
-use Rattle.zmtp_frames.specs.Greeting.{difference}
+use Rattle.octet_fields.specs.Difference.{difference}
 use Rattle.zmtp_frames.proofs.greeting.difference_of.Given as goal
 
 abbrev pub invariant-loop-place : goal.invariant-loop-place

@@ -1,7 +1,7 @@
 use Rattle.std.proofs.Common.{◌∙◌, ap, reverse, length, arith}
 use Rattle.cluster_state.specs.Plain.{Plain}
 use Rattle.cluster_state.specs.Stands.{plain}
-use Rattle.cluster_core.specs.Steps.{Stands}
+use Rattle.cluster_core.specs.Steps.{IsReadOff}
 use Rattle.cluster_core.proofs.Plans.{applied_in, room_in, only_some}
 use Rattle.cluster_core.proofs.machine.Core.apply.Goals as goal
 
@@ -18,7 +18,7 @@ invariant_of-self c =
       a.stands.time,
       c.live-self-inside.ensures ∙ ap (λ (p : Plain). length p.connections) a.stands.data_are,
       a.stops,
-      only_some (λ k. Stands (reverse c.add_step.new.entries.items) (plain k.state) k.place) c.plan.inside.known a.stands,
+      only_some (λ k. IsReadOff (reverse c.add_step.new.entries.items) (plain k.state) k.place) c.plan.inside.known a.stands,
     )
 
 pub returns-clause-history : goal.returns-clause-history

@@ -1,6 +1,6 @@
 use Rattle.std.proofs.Common.{sym, subst}
 use Rattle.cluster_state.specs.Stands.{plain}
-use Rattle.cluster_core.specs.Steps.{CoreView, Stands}
+use Rattle.cluster_core.specs.Steps.{CoreView, IsReadOff}
 use Rattle.cluster_core.proofs.Plans.{only_some}
 use Rattle.cluster_core.proofs.machine.Core.keep_known.Goals as goal
 
@@ -11,5 +11,5 @@ invariant_of-self c = (
   c.self.invariant.2,
   c.self.invariant.3,
   c.self.invariant.4,
-  only_some _ _ (subst (λ (core : CoreView). Stands core.history (plain c.args.known.state) c.args.known.place) (sym c.self.view_is) c.requires),
+  only_some _ _ (subst (λ (core : CoreView). IsReadOff core.history (plain c.args.known.state) c.args.known.place) (sym c.self.view_is) c.requires),
 )

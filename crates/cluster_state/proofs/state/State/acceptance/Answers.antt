@@ -1,4 +1,4 @@
-use Rattle.std.proofs.Common.{◌≡◌, false, sym, ap, ◌∙◌, subst, Some, None}
+use Rattle.std.proofs.Common.{◌≡◌, false, sym, ap, ◌∙◌}
 use Rattle.std.specs.Option.{option_copied}
 use Rattle.cluster_defs.specs.declared.acceptance.Acceptance.TheVariants.{Again}
 use Rattle.cluster_state.specs.Stands.{plain}

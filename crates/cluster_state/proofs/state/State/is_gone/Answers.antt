@@ -1,4 +1,4 @@
-use Rattle.std.proofs.Common.{◌≡◌, sym, ap, ◌∙◌}
+use Rattle.std.proofs.Common.{sym, ap, ◌∙◌}
 use Rattle.std.specs.Option.{option_copied}
 use Rattle.cluster_state.specs.Stands.{plain}
 use Rattle.cluster_state.proofs.Purging.{gone_seen, gone_none}

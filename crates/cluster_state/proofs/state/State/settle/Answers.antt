@@ -1,4 +1,4 @@
-use Rattle.std.proofs.Common.{◌≡◌, ap, ◌∙◌, subst, Some, None, Option}
+use Rattle.std.proofs.Common.{ap, ◌∙◌, subst, Option}
 use Rattle.cluster_state.specs.declared.entries.Settling.{Settling}
 use Rattle.cluster_state.specs.Seen.{seen_in}
 use Rattle.cluster_state.specs.Stands.{plain}

@@ -1,8 +1,8 @@
-use Rattle.std.proofs.Common.{rules, ◌≡◌, ◌+◌, ◌++◌, List, length, true, false, sym, ap, ◌∙◌, subst, Some, None, Option}
+use Rattle.std.proofs.Common.{◌+◌, ◌++◌, List, length, sym, ap, ◌∙◌, Option}
 use Rattle.std.specs.Option.{is_some}
 use Rattle.cluster_defs.specs.Words.{Id, once}
 use Rattle.cluster_defs.specs.Purges.{Copy, copies_from, resubmitted}
-use Rattle.cluster_state.specs.Plain.{Plain, facts_in, may_copy, copies_in, copied_out}
+use Rattle.cluster_state.specs.Plain.{facts_in, may_copy, copies_in, copied_out}
 use Rattle.cluster_state.specs.Stands.{plain}
 use Rattle.cluster_state.proofs.Copying.{refused, accepted}
 use Rattle.cluster_state.proofs.state.State.take_resubmit.Goals as goal

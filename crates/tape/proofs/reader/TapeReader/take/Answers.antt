@@ -1,4 +1,4 @@
-use Rattle.std.proofs.Common.{◌≡◌, length, take, arith, ap, ◌∙◌, sym, refl}
+use Rattle.std.proofs.Common.{length, take, ap, ◌∙◌, sym}
 use Rattle.tape.specs.Tape.{Tape}
 use Rattle.tape.proofs.Chunk.{stays_all, stays_none}
 use Rattle.tape.proofs.reader.TapeReader.take.Goals as goal

@@ -1,5 +1,4 @@
-use Rattle.std.proofs.Common.{◌≡◌, length, ap, ◌∙◌, arith}
-use Rattle.tape.specs.Tape.{place_after}
+use Rattle.std.proofs.Common.{arith}
 use Rattle.tape.proofs.Chunk.{Taking, is_some, waits, ends_short, ends_bad, ends_record, nothing_short}
 use Rattle.tape.proofs.reader.TapeReader.take_open.Goals as goal
 

@@ -1,7 +1,0 @@
-use Rattle.std.proofs.Common.{reverse, take}
-use Rattle.cluster_state.specs.Stands.{plain}
-use Rattle.cluster_core.specs.Steps.{Stands}
-use Rattle.cluster_core.proofs.intake.rebuilt.Given as goal
-
-abbrev pub invariant-loop-entry : goal.invariant-loop-entry
-invariant-loop-entry l = Stands (reverse (take l.entry-index l.entries)) (plain l.known.state) l.known.place

@@ -1,6 +1,0 @@
-use Rattle.cluster_state.specs.Stands.{plain}
-use Rattle.cluster_outs.proofs.Telling.{rows_sound}
-use Rattle.cluster_outs.proofs.rows.Rows.new.Goals as goal
-
-pub invariant_of-result : goal.invariant_of-result
-invariant_of-result c = record { sound = rows_sound (plain c.args.state.now) c.requires }
