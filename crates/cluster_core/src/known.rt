@@ -25,6 +25,7 @@ use cluster_types::config::Channel;
 use cluster_types::entry::{Entry, Input};
 use cluster_types::event::Event;
 use cluster_types::shared_message::SharedMessage;
+use json::Scratch;
 use std::alloc::{AllocError, Global};
 
 /// What a message means on a channel.
@@ -32,11 +33,12 @@ fn understood(
     alloc: Global,
     channel: Channel,
     message: &SharedMessage,
+    scratch: &mut Scratch,
 ) -> Result<Meaning, AllocError>
     ensures event { IfOk result (λ m. m.event ≡ understood (event_of channel message.now)) }
     ensures kind { IfOk result (λ m. m.msg_type ≡ told_type m.event (message_type message.now)) }
 {
-    match understand(alloc, channel, message) {
+    match understand(alloc, channel, message, scratch) {
         Ok(understood) => Ok(Meaning {
             event: Some(understood.event),
             msg_type: understood.msg_type,
@@ -56,7 +58,12 @@ fn channel_of(state: &State, conn: u32) -> Option<Channel>
 }
 
 /// What the message of an input means.
-pub fn meaning_of_input(alloc: Global, state: &State, input: &Input) -> Result<Meaning, AllocError>
+pub fn meaning_of_input(
+    alloc: Global,
+    state: &State,
+    input: &Input,
+    scratch: &mut Scratch,
+) -> Result<Meaning, AllocError>
     ensures event { IfOk result (λ m. m.event ≡ event_in (facts_in (plain state.now)) (Entry.Input input.now)) }
     ensures kind { IfOk result (λ m. m.msg_type ≡ told_type m.event (type_on (Entry.Input input.now))) }
 {
@@ -68,7 +75,7 @@ pub fn meaning_of_input(alloc: Global, state: &State, input: &Input) -> Result<M
             message,
         } => match channel_of(state, *conn) {
             Some(channel) => {
-                let meaning = understood(alloc, channel, message)?;
+                let meaning = understood(alloc, channel, message, scratch)?;
                 Ok(meaning)
             }
             None => Meaning::none(alloc),
@@ -97,12 +104,17 @@ pub fn may_take(state: &State, input: &Input, event: &Option<Event>) -> bool
 }
 
 /// What the message of an entry means.
-fn event_of_entry(alloc: Global, state: &State, entry: &Entry) -> Result<Option<Event>, AllocError>
+fn event_of_entry(
+    alloc: Global,
+    state: &State,
+    entry: &Entry,
+    scratch: &mut Scratch,
+) -> Result<Option<Event>, AllocError>
     ensures { IfOk result (λ e. e ≡ event_in (facts_in (plain state.now)) entry.now) }
 {
     match entry {
         Entry::Input(input) => {
-            let meaning = meaning_of_input(alloc, state, input)?;
+            let meaning = meaning_of_input(alloc, state, input, scratch)?;
             Ok(meaning.event)
         }
         _ => Ok(None),
@@ -152,13 +164,13 @@ impl Known {
     }
 
     /// Takes an entry with what its message means.
-    fn take(&mut self, entry: &Entry) -> Result<(), AllocError>
+    fn take(&mut self, entry: &Entry, scratch: &mut Scratch) -> Result<(), AllocError>
         requires time { InTime entry.now }
         requires now { self.old.state.moment ≤ last_moment }
         ensures data { OnOk result (plain self.new.state ≡ plain_after (facts_in (plain self.old.state)) entry.now (event_in (facts_in (plain self.old.state)) entry.now) (plain self.old.state)) }
         ensures place { OnOk result (self.new.place ≡ entry_place entry.now self.old.place) }
     {
-        let event = event_of_entry(self.state.allocator(), &self.state, entry)?;
+        let event = event_of_entry(self.state.allocator(), &self.state, entry, scratch)?;
         self.state.take(entry, &event)?;
         self.place = next_place(self.place, entry)?;
         Ok(())
@@ -171,9 +183,10 @@ pub fn rebuilt(alloc: Global, entries: &[Entry]) -> Result<Known, AllocError>
     requires time { AllInTime (reverse entries.now) }
     ensures { IfOk result (λ k. IsReadOff (reverse entries.now) (plain k.state) k.place) }
 {
+    let mut scratch = Scratch::new(alloc);
     let mut known = Known::new(alloc);
     for entry in entries {
-        known.take(entry)?;
+        known.take(entry, &mut scratch)?;
     }
     Ok(known)
 }

@@ -21,6 +21,7 @@ use cluster_types::config::Channel;
 use cluster_types::entry::{Entries, Entry, Input};
 use cluster_types::event::Event;
 use cluster_types::out::Outs;
+use json::Scratch;
 use load_schemes::chooser::Chooser;
 use std::alloc::{AllocError, Global};
 use std::marker::Model;
@@ -45,6 +46,8 @@ pub struct Core {
     live: usize,
     /// Whether a shutdown was asked since the last Open.
     stops: bool,
+    /// Room for the texts of messages while they are read.
+    scratch: Scratch,
 }
 
 impl Model for Core {
@@ -72,6 +75,7 @@ impl Core {
             known: None,
             live: 0,
             stops: false,
+            scratch: Scratch::new(alloc),
         }
     }
 
@@ -142,7 +146,8 @@ impl Core {
         ensures kind { IfOk result (λ m. m.msg_type ≡ told_type m.event (type_on (Entry.Input input.now))) }
     {
         let known = self.take_known()?;
-        let meaning = meaning_of_input(self.allocator(), &known.state, input)?;
+        let alloc = self.allocator();
+        let meaning = meaning_of_input(alloc, &known.state, input, &mut self.scratch)?;
         self.keep_known(known);
         Ok(meaning)
     }

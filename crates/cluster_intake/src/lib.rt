@@ -27,6 +27,7 @@ use jupyter_header::hub::read_content;
 use jupyter_header::kinds::{is_leave, is_reply, is_request, request_of};
 use jupyter_header::reply::read_reply;
 use jupyter_header::submit::{plain_dependency, read_submit};
+use json::Scratch;
 use message_defs::content::{HubContent, SubmitMeta};
 use message_defs::fault::{Field, ReadError};
 use message_defs::header::Header;
@@ -63,10 +64,15 @@ fn event_of_content(content: HubContent) -> Event
 }
 
 /// What a content asks for, or that it is bad.
-fn request_event(alloc: Global, request: Request, content: &[u8]) -> Result<Event, AllocError>
+fn request_event(
+    alloc: Global,
+    request: Request,
+    content: &[u8],
+    scratch: &mut Scratch,
+) -> Result<Event, AllocError>
     ensures { IfOk result (λ e. e ≡ request_event (read_content request content.now)) }
 {
-    match read_content(alloc, request, content) {
+    match read_content(alloc, request, content, scratch) {
         Ok(content) => Ok(event_of_content(content)),
         Err(ReadError::OutOfMemory) => Err(AllocError),
         Err(fault) => {
@@ -87,12 +93,17 @@ fn hub_request(found: Option<Request>) -> Option<Request>
 }
 
 /// What a message to the hub asks for.
-fn hub_event(alloc: Global, msg_type: &Text, content: &[u8]) -> Result<Event, AllocError>
+fn hub_event(
+    alloc: Global,
+    msg_type: &Text,
+    content: &[u8],
+    scratch: &mut Scratch,
+) -> Result<Event, AllocError>
     ensures { IfOk result (λ e. e ≡ hub_event content.now (hub_request (request_of msg_type.now))) }
 {
     match hub_request(request_of(msg_type.as_str())) {
         None => Ok(Event::Ask(Query::Unknown)),
-        Some(request) => request_event(alloc, request, content),
+        Some(request) => request_event(alloc, request, content, scratch),
     }
 }
 
@@ -114,10 +125,15 @@ fn submission(header: Header, meta: SubmitMeta) -> Submission
 }
 
 /// The task that a request with this metadata submits, or that the metadata is bad.
-fn submitted(alloc: Global, header: Header, metadata: &[u8]) -> Result<Event, AllocError>
+fn submitted(
+    alloc: Global,
+    header: Header,
+    metadata: &[u8],
+    scratch: &mut Scratch,
+) -> Result<Event, AllocError>
     ensures { IfOk result (λ e. e ≡ submitted header (read_submit metadata.now)) }
 {
-    match read_submit(alloc, metadata) {
+    match read_submit(alloc, metadata, scratch) {
         Ok(meta) => Ok(Event::Submit(submission(header, meta))),
         Err(ReadError::OutOfMemory) => Err(AllocError),
         Err(fault) => {
@@ -128,14 +144,19 @@ fn submitted(alloc: Global, header: Header, metadata: &[u8]) -> Result<Event, Al
 }
 
 /// What a message on the channel of tasks asks for.
-fn task_event(alloc: Global, header: Header, metadata: &[u8]) -> Result<Event, IntakeError>
+fn task_event(
+    alloc: Global,
+    header: Header,
+    metadata: &[u8],
+    scratch: &mut Scratch,
+) -> Result<Event, IntakeError>
     ensures ok { IfOk result (λ e. task_event header metadata.now ≡ Ok e) }
     ensures err { IfErr result (λ e. (e ≡ IntakeError.OutOfMemory) ⊎ (taken_in (task_event header metadata.now) ≡ Err e)) }
 {
     if !is_request(&header.msg_type) {
         return Err(IntakeError::Junk(Reason::BadType));
     }
-    let event = submitted(alloc, header, metadata)?;
+    let event = submitted(alloc, header, metadata, scratch)?;
     Ok(event)
 }
 
@@ -168,11 +189,15 @@ fn mux_event(alloc: Global, header: Header, target: &[u8]) -> Result<Event, Inta
 }
 
 /// The echo of a heartbeat.
-fn echo_event(alloc: Global, content: &[u8]) -> Result<Event, IntakeError>
+fn echo_event(
+    alloc: Global,
+    content: &[u8],
+    scratch: &mut Scratch,
+) -> Result<Event, IntakeError>
     ensures ok { IfOk result (λ e. echo_event (read_content Request.Beat content.now) ≡ Ok e) }
     ensures err { IfErr result (λ e. (e ≡ IntakeError.OutOfMemory) ⊎ (taken_in (echo_event (read_content Request.Beat content.now)) ≡ Err e)) }
 {
-    match read_content(alloc, Request::Beat, content) {
+    match read_content(alloc, Request::Beat, content, scratch) {
         Ok(content) => Ok(event_of_content(content)),
         Err(ReadError::OutOfMemory) => Err(IntakeError::OutOfMemory),
         Err(_) => Err(IntakeError::Junk(Reason::BadReply)),
@@ -180,13 +205,18 @@ fn echo_event(alloc: Global, content: &[u8]) -> Result<Event, IntakeError>
 }
 
 /// The reply to a task.
-fn replied(alloc: Global, header: Header, message: &SharedMessage) -> Result<Event, IntakeError>
+fn replied(
+    alloc: Global,
+    header: Header,
+    message: &SharedMessage,
+    scratch: &mut Scratch,
+) -> Result<Event, IntakeError>
     ensures ok { IfOk result (λ e. replied header (read_reply message.now.parent message.now.metadata message.now.content) ≡ Ok e) }
     ensures err { IfErr result (λ e. (e ≡ IntakeError.OutOfMemory) ⊎ (taken_in (replied header (read_reply message.now.parent message.now.metadata message.now.content)) ≡ Err e)) }
 {
     let parent = message.parent();
     let metadata = message.metadata();
-    match read_reply(alloc, parent, metadata, message.content()) {
+    match read_reply(alloc, parent, metadata, message.content(), scratch) {
         Ok(meta) => Ok(Event::Reply {
             task: meta.task,
             header_id: header.msg_id,
@@ -199,7 +229,12 @@ fn replied(alloc: Global, header: Header, message: &SharedMessage) -> Result<Eve
 }
 
 /// A message of an engine that is neither a registration nor an echo.
-fn reply_event(alloc: Global, header: Header, message: &SharedMessage) -> Result<Event, IntakeError>
+fn reply_event(
+    alloc: Global,
+    header: Header,
+    message: &SharedMessage,
+    scratch: &mut Scratch,
+) -> Result<Event, IntakeError>
     ensures ok { IfOk result (λ e. reply_event header message.now ≡ Ok e) }
     ensures err { IfErr result (λ e. (e ≡ IntakeError.OutOfMemory) ⊎ (taken_in (reply_event header message.now) ≡ Err e)) }
 {
@@ -209,7 +244,7 @@ fn reply_event(alloc: Global, header: Header, message: &SharedMessage) -> Result
     if !is_reply(&header.msg_type) {
         return Err(IntakeError::Junk(Reason::BadType));
     }
-    replied(alloc, header, message)
+    replied(alloc, header, message, scratch)
 }
 
 /// Whether a message registers an engine.
@@ -231,19 +266,20 @@ fn engine_event(
     alloc: Global,
     header: Header,
     message: &SharedMessage,
+    scratch: &mut Scratch,
 ) -> Result<Event, IntakeError>
     ensures ok { IfOk result (λ e. engine_event header message.now ≡ Ok e) }
     ensures err { IfErr result (λ e. (e ≡ IntakeError.OutOfMemory) ⊎ (taken_in (engine_event header message.now) ≡ Err e)) }
 {
     let request = request_of(header.msg_type.as_str());
     if is_registration(request) {
-        let event = request_event(alloc, Request::Registration, message.content())?;
+        let event = request_event(alloc, Request::Registration, message.content(), scratch)?;
         return Ok(event);
     }
     if is_echo(request) {
-        return echo_event(alloc, message.content());
+        return echo_event(alloc, message.content(), scratch);
     }
-    reply_event(alloc, header, message)
+    reply_event(alloc, header, message, scratch)
 }
 
 /// What a message with this header means.
@@ -252,15 +288,16 @@ fn event_under(
     channel: Channel,
     message: &SharedMessage,
     header: Header,
+    scratch: &mut Scratch,
 ) -> Result<Event, IntakeError>
     ensures ok { IfOk result (λ e. event_under channel message.now (Ok header) ≡ Ok e) }
     ensures err { IfErr result (λ e. (e ≡ IntakeError.OutOfMemory) ⊎ (taken_in (event_under channel message.now (Ok header)) ≡ Err e)) }
 {
     let event = match channel {
-        Channel::Hub => hub_event(alloc, &header.msg_type, message.content())?,
-        Channel::Task => task_event(alloc, header, message.metadata())?,
+        Channel::Hub => hub_event(alloc, &header.msg_type, message.content(), scratch)?,
+        Channel::Task => task_event(alloc, header, message.metadata(), scratch)?,
         Channel::Mux => mux_event(alloc, header, message.target())?,
-        Channel::Engine => engine_event(alloc, header, message)?,
+        Channel::Engine => engine_event(alloc, header, message, scratch)?,
     };
     Ok(event)
 }
@@ -271,29 +308,32 @@ fn understood_under(
     channel: Channel,
     message: &SharedMessage,
     header: Header,
+    scratch: &mut Scratch,
 ) -> Result<Understood, IntakeError>
     ensures ok { IfOk result (λ u. event_under channel message.now (Ok header) ≡ Ok u.event) }
     ensures kind { IfOk result (λ u. u.msg_type ≡ header.msg_type) }
     ensures err { IfErr result (λ e. (e ≡ IntakeError.OutOfMemory) ⊎ (taken_in (event_under channel message.now (Ok header)) ≡ Err e)) }
 {
     let msg_type = header.msg_type.clone()?;
-    let event = event_under(alloc, channel, message, header)?;
+    let event = event_under(alloc, channel, message, header, scratch)?;
     Ok(Understood { event, msg_type })
 }
 
-/// What a message on a channel means, and its type, or why it means nothing. The header is read once for both.
+/// What a message on a channel means, and its type, or why it means nothing. The header is read once for both. Texts with escapes stand in
+/// `scratch` while they are read, which is of use to keep from message to message.
 #[tactic(auto, unfolding(message_defs::specs::Event::event_of))]
 pub fn understand(
     alloc: Global,
     channel: Channel,
     message: &SharedMessage,
+    scratch: &mut Scratch,
 ) -> Result<Understood, IntakeError>
     ensures ok { IfOk result (λ u. event_of channel message.now ≡ Ok u.event) }
     ensures kind { IfOk result (λ u. u.msg_type ≡ message_type message.now) }
     ensures err { IfErr result (λ e. (e ≡ IntakeError.OutOfMemory) ⊎ (taken_in (event_of channel message.now) ≡ Err e)) }
 {
-    match read_header(alloc, message.header()) {
-        Ok(header) => understood_under(alloc, channel, message, header),
+    match read_header(alloc, message.header(), scratch) {
+        Ok(header) => understood_under(alloc, channel, message, header, scratch),
         Err(ReadError::OutOfMemory) => Err(IntakeError::OutOfMemory),
         Err(_) => Err(IntakeError::Junk(Reason::BadHeader)),
     }
@@ -308,6 +348,7 @@ pub fn event_of(
     ensures ok { IfOk result (λ e. event_of channel message.now ≡ Ok e) }
     ensures err { IfErr result (λ e. (e ≡ IntakeError.OutOfMemory) ⊎ (taken_in (event_of channel message.now) ≡ Err e)) }
 {
-    let understood = understand(alloc, channel, message)?;
+    let mut scratch = Scratch::new(alloc);
+    let understood = understand(alloc, channel, message, &mut scratch)?;
     Ok(understood.event)
 }

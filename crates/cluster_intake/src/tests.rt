@@ -6,6 +6,7 @@ use cluster_types::config::Channel;
 use cluster_types::event::{Event, Query, Reason};
 use cluster_types::sequence::Sequence;
 use cluster_types::shared_message::SharedMessage;
+use json::Scratch;
 use std::alloc::{AllocError, Global};
 use std::test::Fail;
 
@@ -115,7 +116,8 @@ fn tells_events(rt: HostRuntime) -> Result<(), Fail> {
 /// Whether a message to the hub with this header is a request of an unknown type, of this one.
 fn is_unknown(alloc: Global, header: &str, kind: &str) -> Result<bool, AllocError> {
     let message = message_of(alloc, header, "{}", "{}", "{}")?;
-    match understand(alloc, Channel::Hub, &message) {
+    let mut scratch = Scratch::new(alloc);
+    match understand(alloc, Channel::Hub, &message, &mut scratch) {
         Ok(understood) => Ok(
             matches!(understood.event, Event::Ask(Query::Unknown))
                 && understood.msg_type.as_str() == kind,

@@ -1,6 +1,9 @@
 //! Requests for tasks: which are accepted, and what they make.
 
-ghost use Rattle.std.specs.Prelude.{◌≡◌, ◌+◌, ◌++◌, ◌∷◌, ◌||◌, ◌&&◌, not, [], map, filter, length, is_none, IfOk, OnOk, Some, None, option_map, bytes_eq, take};
+ghost use Rattle.std.specs.Prelude.{◌≡◌, ◌+◌, ◌++◌, ◌∷◌, ◌||◌, ◌&&◌, not, [], map, filter, length, is_none, is_some, IfOk, OnOk, Some, None, option_map, bytes_eq, take, ℕ, List};
+ghost use Rattle.std.specs.BTreeMap.{get_by};
+ghost use Rattle.std.specs.Cmp.Lexicographic.{slice_cmp};
+ghost use Rattle.std.specs.Ordering.{nat_cmp};
 ghost use Rattle.std.specs.Option.{option_copied};
 ghost use Rattle.std.specs.List.{list_any};
 ghost use Rattle.cluster_defs.specs.Words.{is_listed, same_lists, alike, begins_with};
@@ -29,6 +32,7 @@ use cluster_types::octets::Octets;
 use cluster_types::shared_message::SharedMessage;
 use cluster_types::text::Text;
 use std::alloc::{AllocError, Global};
+use std::collections::BTreeMap;
 
 /// The live connection of a number.
 pub fn connection_on(live: &[Connection], conn: u32) -> Option<&Connection>
@@ -99,13 +103,34 @@ fn is_same(direct: bool, submission: &Submission, message: &SharedMessage, task:
         && same_buffers(made.buffers().as_slice(), message.buffers().as_slice())
 }
 
-/// The numbers of the engines whose uuid is listed.
+/// The texts of a list as a set.
+fn set_of<'a>(alloc: Global, texts: &'a [Text]) -> Result<BTreeMap<&'a str, ()>, AllocError>
+    ensures { IfOk result (λ set. (q : List ℕ) → is_some (get_by (λ k. slice_cmp nat_cmp q k.now) set) ≡ is_listed q texts.now) }
+{
+    let mut set = BTreeMap::new(alloc);
+    for text in texts {
+        set.insert(text.as_str(), ())?;
+    }
+    Ok(set)
+}
+
+fn is_in(set: &BTreeMap<&str, ()>, text: &Text) -> bool
+    ensures { result ≡ is_some (get_by (λ k. slice_cmp nat_cmp text.now k.now) set.now) }
+{
+    set.contains_key(text.as_str())
+}
+
+/// The numbers of the engines whose uuid is listed. Each engine is looked up once among the uuids.
 pub fn targets_of(alloc: Global, live: &[Engine], uuids: &[Text]) -> Result<Engines, AllocError>
     ensures { IfOk result (λ t. t ≡ targets_of live.now uuids.now) }
 {
     let mut targets = Engines::new(alloc);
+    if uuids.is_empty() {
+        return Ok(targets);
+    }
+    let listed = set_of(alloc, uuids)?;
     for engine in live {
-        if is_listed(&engine.uuid, uuids) {
+        if is_in(&listed, &engine.uuid) {
             targets.push(engine.number)?;
         }
     }

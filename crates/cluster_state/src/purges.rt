@@ -1,8 +1,8 @@
 //! Purges and resubmissions.
 
-ghost use Rattle.std.specs.Prelude.{◌≡◌, ◌≤◌, ◌+◌, ◌++◌, ◌∷◌, ◌||◌, ◌&&◌, not, [], filter, map, length, is_some, IfOk, OnOk, Some, None, true};
+ghost use Rattle.std.specs.Prelude.{◌≡◌, ◌≤◌, ◌+◌, ◌++◌, ◌∷◌, ◌||◌, ◌&&◌, not, [], filter, map, length, is_some, IfOk, OnOk, Some, None, true, if◌then◌else◌};
 ghost use Rattle.std.specs.List.{list_any};
-ghost use Rattle.cluster_defs.specs.Words.{is_listed};
+ghost use Rattle.cluster_defs.specs.Words.{is_listed, once};
 ghost use Rattle.cluster_defs.specs.Facts.{is_settled};
 ghost use Rattle.cluster_defs.specs.Purges.{purge_list, purged_by};
 ghost use Rattle.cluster_types.specs.declared.event.Event.{Event};
@@ -74,19 +74,6 @@ impl State {
         Ok(ids)
     }
 
-    /// The ids that a purge lists: with `all` every settled one that isn't purged.
-    fn purge_list(&self, all: bool, ids: &Ids) -> Result<Ids, AllocError>
-        ensures { IfOk result (λ list. list ≡ purge_list (facts_in (plain self.now)) all ids.now) }
-    {
-        if all {
-            let ids = self.all_that_may_go()?;
-            Ok(ids)
-        } else {
-            let ids = once(self.allocator(), ids)?;
-            Ok(ids)
-        }
-    }
-
     fn names_gone(&self, ids: &[Text]) -> bool
         ensures { result ≡ list_any (λ id. not (is_listed id (facts_in (plain self.now)).known) || (facts_in (plain self.now)).purged id) ids.now }
     {
@@ -106,16 +93,28 @@ impl State {
         !self.names_gone(ids) && !self.names_unsettled(ids)
     }
 
-    /// The ids that a purge drops, where it is accepted.
-    #[tactic(auto, using(crate::proofs::Purging::dropped_is))]
-    fn dropped(&self, all: bool, ids: &Ids) -> Result<Option<Ids>, AllocError>
-        ensures { IfOk result (λ o. o ≡ purged_by (facts_in (plain self.now)) (Some (Event.Purge all ids.now))) }
+    /// The listed ids, where all of them may be dropped.
+    fn dropped_of(&self, ids: &Ids) -> Result<Option<Ids>, AllocError>
+        ensures { IfOk result (λ o. o ≡ (if may_drop (facts_in (plain self.now)) (once ids.now) then Some (once ids.now) else None)) }
     {
-        let list = self.purge_list(all, ids)?;
+        let list = once(self.allocator(), ids)?;
         if self.may_drop(list.as_slice()) {
             Ok(Some(list))
         } else {
             Ok(None)
+        }
+    }
+
+    /// The ids that a purge drops, where it is accepted: with `all` every settled one that isn't purged, which always
+    /// may go.
+    #[tactic(auto, using(crate::proofs::Purging::dropped_is, crate::proofs::Purging::all_go))]
+    fn dropped(&self, all: bool, ids: &Ids) -> Result<Option<Ids>, AllocError>
+        ensures { IfOk result (λ o. o ≡ purged_by (facts_in (plain self.now)) (Some (Event.Purge all ids.now))) }
+    {
+        if all {
+            Ok(Some(self.all_that_may_go()?))
+        } else {
+            self.dropped_of(ids)
         }
     }
 

@@ -1,6 +1,6 @@
 //! Lists of frames.
 
-ghost use Rattle.std.specs.Prelude.{◌≡◌, ◌++◌, ◌∷◌, [], ◌<◌, ◌≤◌, length, ◌↔◌, IsTrue, OnOk, OnErr, Some, slice_get, slice_index_or};
+ghost use Rattle.std.specs.Prelude.{◌≡◌, ◌++◌, ◌∷◌, [], ◌<◌, ◌≤◌, length, ◌↔◌, IsTrue, IfOk, OnOk, OnErr, Some, slice_get, slice_index_or};
 ghost use Rattle.std.specs.Option.{option_copied};
 ghost use Rattle.edges.specs.Frames.{cut, start_at, AreEnds};
 
@@ -64,6 +64,16 @@ impl Frames {
             octets: Vec::new(alloc),
             ends: Vec::new(alloc),
         }
+    }
+
+    /// No frames, with room for so many and for all their octets, so that adding those takes no more memory.
+    pub fn with_capacity(alloc: Global, frames: usize, octets: usize) -> Result<Frames, AllocError>
+        ensures { IfOk result (λ f. f ≡ []) }
+    {
+        Ok(Frames {
+            octets: Vec::with_capacity(alloc, octets)?,
+            ends: Vec::with_capacity(alloc, frames)?,
+        })
     }
 
     /// Adds a frame at the end.

@@ -13,6 +13,7 @@ use cluster_types::out::{Out, Outs};
 use cluster_types::sequence::Sequence;
 use cluster_types::shared_message::SharedMessage;
 use cluster_types::text::Text;
+use json::Scratch;
 use jupyter_header::header::read_header;
 use jupyter_header::submit::plain_dependency;
 use std::alloc::{AllocError, Global};
@@ -33,7 +34,8 @@ fn sent(
     event: &Event,
 ) -> Result<Option<Outs>, AllocError> {
     let message = message(alloc, header)?;
-    let Ok(read) = read_header(alloc, message.header()) else {
+    let mut scratch = Scratch::new(alloc);
+    let Ok(read) = read_header(alloc, message.header(), &mut scratch) else {
         return Ok(None);
     };
     let slip = Slip {

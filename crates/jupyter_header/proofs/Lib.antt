@@ -2,3 +2,4 @@ pub mod Walk
 pub mod Short
 pub mod Commas
 pub mod Onces
+pub mod Borrowed

@@ -1,5 +1,5 @@
 -- One more id of a list without repeats.
-use Rattle.std.proofs.Common.{◌≡◌, ℕ, List, [], ◌∷◌, ◌++◌, Option, Some, is_some, cond, Bool, true, false, not, ◌||◌, if◌then◌else◌, bytes_eq, refl, sym, ap, subst, ◌∙◌, append-nil}
+use Rattle.std.proofs.Common.{◌≡◌, ℕ, List, [], ◌∷◌, ◌++◌, Option, Some, is_some, cond, Bool, true, false, not, ◌||◌, if◌then◌else◌, bytes_eq, refl, sym, ap, ◌∙◌, append-nil}
 use Rattle.std.specs.List.{list_any}
 use Rattle.std.proofs.lemmas.Slice.Eq.{bytes_eq-Decides}
 use Rattle.message_defs.specs.Submit.{with_new}
@@ -14,7 +14,7 @@ added found id true known = rw (sym known) refl
 added found id false known = rw (sym known) (append-nil found)
 
 -- a list and one more id
-listed_more : (xs : List (List ℕ)) (x q : List ℕ) → is_listed q (xs ++ x ∷ []) ≡ (is_listed q xs || bytes_eq x q)
+pub listed_more : (xs : List (List ℕ)) (x q : List ℕ) → is_listed q (xs ++ x ∷ []) ≡ (is_listed q xs || bytes_eq x q)
 listed_more [] x q = or_false (bytes_eq x q)
   where
     or_false : (b : Bool) → (b || false) ≡ b
@@ -27,7 +27,7 @@ listed_more (y ∷ xs) x q = ap (λ b. bytes_eq y q || b) (listed_more xs x q) �
     assoc false b c = refl
 
 -- an id is seen where it was, or is the new one
-seen_new : {X : Type 0} (b listed : Bool) (o : Option X) (w : X) → is_some o ≡ listed → is_some (cond b (Some w) o) ≡ (listed || b)
+pub seen_new : {X : Type 0} (b listed : Bool) (o : Option X) (w : X) → is_some o ≡ listed → is_some (cond b (Some w) o) ≡ (listed || b)
 seen_new true true o w h = refl
 seen_new true false o w h = refl
 seen_new false true o w h = h

@@ -2,19 +2,20 @@
 
 ghost use Rattle.std.specs.Prelude.{◌≡◌, ◌⊎◌, ◌≤◌, Ok, Err, Some, None, IfOk, IfErr, length, option_map, codes};
 ghost use Rattle.serde_json.specs.Find.{get};
-ghost use Rattle.serde_json.specs.View.{view};
+ghost use Rattle.jupyter_header.specs.Borrowed.{view};
 ghost use Rattle.message_defs.specs.Fields.{is_id, id_in, id_from, text_from, flag_from, whole_from};
 
 use cluster_types::text::Text;
 use message_defs::fault::ReadError;
-use serde_json::Value;
+use crate::values::{flag, get, is_null, text, whole};
+use json::Value;
 use std::alloc::{AllocError, Global};
 
 /// The id that a value is.
-pub fn id_in(value: &Value) -> Option<&str>
+pub fn id_in<'a>(value: &Value<'a>) -> Option<&'a str>
     ensures { option_map (λ s. s.now) result ≡ id_in (view value.now) }
 {
-    match value.as_str() {
+    match text(value) {
         Some(text) if 0 < text.len() && text.len() <= 255 => Some(text),
         _ => None,
     }
@@ -41,11 +42,11 @@ pub fn missing(alloc: Global, field: &str) -> ReadError
 }
 
 /// A field that has to be an id.
-pub fn id_field(alloc: Global, value: &Value, field: &str) -> Result<Text, ReadError>
+pub fn id_field(alloc: Global, value: &Value<'_>, field: &str) -> Result<Text, ReadError>
     ensures ok { IfOk result (λ t. id_from field.now (get field.now (view value.now)) ≡ Ok t) }
     ensures err { IfErr result (λ e. (e ≡ ReadError.OutOfMemory) ⊎ (id_from field.now (get field.now (view value.now)) ≡ Err e)) }
 {
-    let Some(found) = value.get(field) else {
+    let Some(found) = get(value, field) else {
         return Err(missing(alloc, field));
     };
     match id_in(found) {
@@ -55,17 +56,17 @@ pub fn id_field(alloc: Global, value: &Value, field: &str) -> Result<Text, ReadE
 }
 
 /// A field's text, or the empty one.
-pub fn text_field(alloc: Global, value: &Value, field: &str) -> Result<Text, AllocError>
+pub fn text_field(alloc: Global, value: &Value<'_>, field: &str) -> Result<Text, AllocError>
     ensures { IfOk result (λ t. t ≡ text_from (get field.now (view value.now))) }
 {
-    let text = value.get(field).and_then(Value::as_str).unwrap_or("");
-    Text::new(alloc, text)
+    let found = get(value, field).and_then(text).unwrap_or("");
+    Text::new(alloc, found)
 }
 
 /// A boolean field, which may be absent. A fault names the field `at_fault`.
 pub fn flag_field(
     alloc: Global,
-    value: &Value,
+    value: &Value<'_>,
     field: &str,
     default: bool,
     at_fault: &str,
@@ -73,28 +74,28 @@ pub fn flag_field(
     ensures ok { IfOk result (λ b. flag_from at_fault.now default (get field.now (view value.now)) ≡ Ok b) }
     ensures err { IfErr result (λ e. (e ≡ ReadError.OutOfMemory) ⊎ (flag_from at_fault.now default (get field.now (view value.now)) ≡ Err e)) }
 {
-    let Some(found) = value.get(field) else {
+    let Some(found) = get(value, field) else {
         return Ok(default);
     };
-    match found.as_bool() {
-        Some(flag) => Ok(flag),
+    match flag(found) {
+        Some(set) => Ok(set),
         None => Err(bad(alloc, at_fault)),
     }
 }
 
 /// A whole number up to a bound, which may be absent or null.
-pub fn whole_field(alloc: Global, value: &Value, field: &str, most: u64) -> Result<u64, ReadError>
+pub fn whole_field(alloc: Global, value: &Value<'_>, field: &str, most: u64) -> Result<u64, ReadError>
     ensures within { IfOk result (λ n. n ≤ most) }
     ensures ok { IfOk result (λ n. whole_from field.now most (get field.now (view value.now)) ≡ Ok n) }
     ensures err { IfErr result (λ e. (e ≡ ReadError.OutOfMemory) ⊎ (whole_from field.now most (get field.now (view value.now)) ≡ Err e)) }
 {
-    let Some(found) = value.get(field) else {
+    let Some(found) = get(value, field) else {
         return Ok(0);
     };
-    if found.is_null() {
+    if is_null(found) {
         return Ok(0);
     }
-    match found.as_u64() {
+    match whole(found) {
         Some(n) if n <= most => Ok(n),
         _ => Err(bad(alloc, field)),
     }

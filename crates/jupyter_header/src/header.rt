@@ -5,6 +5,7 @@ ghost use Rattle.message_defs.specs.Header.{read_header};
 
 use crate::fields::{id_field, text_field};
 use crate::object::read_object;
+use json::Scratch;
 use message_defs::fault::ReadError;
 use message_defs::header::Header;
 use std::alloc::Global;
@@ -13,11 +14,15 @@ use std::alloc::Global;
 ///
 /// The ids are `msg_id` and `msg_type`, in this order; `session` and `username` may be absent or anything.
 #[tactic(auto, unfolding(message_defs::specs::Header::read_header))]
-pub fn read_header(alloc: Global, octets: &[u8]) -> Result<Header, ReadError>
+pub fn read_header(
+    alloc: Global,
+    octets: &[u8],
+    scratch: &mut Scratch,
+) -> Result<Header, ReadError>
     ensures ok { IfOk result (λ h. read_header octets.now ≡ Ok h) }
     ensures err { IfErr result (λ e. (e ≡ ReadError.OutOfMemory) ⊎ (read_header octets.now ≡ Err e)) }
 {
-    let value = read_object(alloc, octets)?;
+    let value = read_object(alloc, octets, scratch)?;
     Ok(Header {
         msg_id: id_field(alloc, &value, "msg_id")?,
         msg_type: id_field(alloc, &value, "msg_type")?,

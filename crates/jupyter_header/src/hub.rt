@@ -2,24 +2,25 @@
 
 ghost use Rattle.std.specs.Prelude.{◌≡◌, ◌⊎◌, Ok, Err, Some, None, IfOk, IfErr, OnOk, IsSome, option_map, codes};
 ghost use Rattle.serde_json.specs.Find.{get, as_str, as_array};
-ghost use Rattle.serde_json.specs.View.{view, items_view};
+ghost use Rattle.jupyter_header.specs.Borrowed.{view, items_view};
 ghost use Rattle.message_defs.specs.Fields.{whole_in};
 ghost use Rattle.message_defs.specs.Hub.{request_of, queue_from, result_from, is_all, is_no_items, lists_none, none_listed, ids_or_all, purge_from, resubmit_from, join_from, number_from, pong_from, unread, content_from, read_content, read_hub};
 
 use crate::fields::{bad, flag_field, id_field, missing};
-use crate::kinds::request_of;
 use crate::lists::{id_list, ids_field, optional_engines};
+use crate::kinds::request_of;
 use crate::object::read_object;
+use crate::values::{get, is_null, items, text, whole};
 use cluster_types::message::Ids;
 use cluster_types::sequence::Sequence;
 use message_defs::content::HubContent;
 use message_defs::fault::ReadError;
 use message_defs::request::Request;
-use serde_json::Value;
+use json::{Scratch, Value};
 use std::alloc::Global;
 
 /// What a question about queues asks for.
-fn queue_content(alloc: Global, value: &Value) -> Result<HubContent, ReadError>
+fn queue_content(alloc: Global, value: &Value<'_>) -> Result<HubContent, ReadError>
     ensures ok { IfOk result (λ c. queue_from (view value.now) ≡ Ok c) }
     ensures err { IfErr result (λ e. (e ≡ ReadError.OutOfMemory) ⊎ (queue_from (view value.now) ≡ Err e)) }
 {
@@ -29,7 +30,7 @@ fn queue_content(alloc: Global, value: &Value) -> Result<HubContent, ReadError>
 }
 
 /// What a question about results asks for.
-fn result_content(alloc: Global, value: &Value) -> Result<HubContent, ReadError>
+fn result_content(alloc: Global, value: &Value<'_>) -> Result<HubContent, ReadError>
     ensures ok { IfOk result (λ c. result_from (view value.now) ≡ Ok c) }
     ensures err { IfErr result (λ e. (e ≡ ReadError.OutOfMemory) ⊎ (result_from (view value.now) ≡ Err e)) }
 {
@@ -39,21 +40,21 @@ fn result_content(alloc: Global, value: &Value) -> Result<HubContent, ReadError>
 }
 
 /// Whether a value is the word that asks for all settled ids.
-fn is_all(value: &Value) -> bool
+fn is_all(value: &Value<'_>) -> bool
     ensures { result ≡ is_all (as_str (view value.now)) }
 {
-    match value.as_str() {
+    match text(value) {
         Some(word) => word == "all",
         None => false,
     }
 }
 
 /// The listed ids, with true where the word `all` stands in their place.
-fn ids_or_all(alloc: Global, value: &Value) -> Result<(bool, Ids), ReadError>
+fn ids_or_all(alloc: Global, value: &Value<'_>) -> Result<(bool, Ids), ReadError>
     ensures ok { IfOk result (λ r. ids_or_all (get (codes "msg_ids") (view value.now)) ≡ Ok r) }
     ensures err { IfErr result (λ e. (e ≡ ReadError.OutOfMemory) ⊎ (ids_or_all (get (codes "msg_ids") (view value.now)) ≡ Err e)) }
 {
-    let Some(found) = value.get("msg_ids") else {
+    let Some(found) = get(value, "msg_ids") else {
         return Err(missing(alloc, "msg_ids"));
     };
     if is_all(found) {
@@ -66,38 +67,38 @@ fn ids_or_all(alloc: Global, value: &Value) -> Result<(bool, Ids), ReadError>
 }
 
 /// Whether there are no values.
-fn is_none(values: &[Value]) -> bool
+fn is_none(values: &[Value<'_>]) -> bool
     ensures { result ≡ is_no_items (items_view values.now) }
 {
     values.is_empty()
 }
 
 /// Whether a value is an empty list.
-fn lists_none(value: &Value) -> bool
+fn lists_none(value: &Value<'_>) -> bool
     ensures { result ≡ lists_none (as_array (view value.now)) }
 {
-    match value.as_array() {
-        Some(values) => is_none(values.as_slice()),
+    match items(value) {
+        Some(values) => is_none(values),
         None => false,
     }
 }
 
 /// A field that may only be absent, null or an empty list.
-fn none_listed(alloc: Global, value: &Value, field: &str) -> Result<(), ReadError>
+fn none_listed(alloc: Global, value: &Value<'_>, field: &str) -> Result<(), ReadError>
     ensures ok { OnOk result (none_listed field.now (get field.now (view value.now)) ≡ Ok tt) }
     ensures err { IfErr result (λ e. (e ≡ ReadError.OutOfMemory) ⊎ (none_listed field.now (get field.now (view value.now)) ≡ Err e)) }
 {
-    let Some(found) = value.get(field) else {
+    let Some(found) = get(value, field) else {
         return Ok(());
     };
-    if found.is_null() || lists_none(found) {
+    if is_null(found) || lists_none(found) {
         return Ok(());
     }
     Err(bad(alloc, field))
 }
 
 /// What a purge lists.
-fn purge_content(alloc: Global, value: &Value) -> Result<HubContent, ReadError>
+fn purge_content(alloc: Global, value: &Value<'_>) -> Result<HubContent, ReadError>
     ensures ok { IfOk result (λ c. purge_from (view value.now) ≡ Ok c) }
     ensures err { IfErr result (λ e. (e ≡ ReadError.OutOfMemory) ⊎ (purge_from (view value.now) ≡ Err e)) }
 {
@@ -107,7 +108,7 @@ fn purge_content(alloc: Global, value: &Value) -> Result<HubContent, ReadError>
 }
 
 /// What a resubmission lists.
-fn resubmit_content(alloc: Global, value: &Value) -> Result<HubContent, ReadError>
+fn resubmit_content(alloc: Global, value: &Value<'_>) -> Result<HubContent, ReadError>
     ensures ok { IfOk result (λ c. resubmit_from (view value.now) ≡ Ok c) }
     ensures err { IfErr result (λ e. (e ≡ ReadError.OutOfMemory) ⊎ (resubmit_from (view value.now) ≡ Err e)) }
 {
@@ -116,7 +117,7 @@ fn resubmit_content(alloc: Global, value: &Value) -> Result<HubContent, ReadErro
 }
 
 /// The engine that a registration names.
-fn join_content(alloc: Global, value: &Value) -> Result<HubContent, ReadError>
+fn join_content(alloc: Global, value: &Value<'_>) -> Result<HubContent, ReadError>
     ensures ok { IfOk result (λ c. join_from (view value.now) ≡ Ok c) }
     ensures err { IfErr result (λ e. (e ≡ ReadError.OutOfMemory) ⊎ (join_from (view value.now) ≡ Err e)) }
 {
@@ -125,21 +126,21 @@ fn join_content(alloc: Global, value: &Value) -> Result<HubContent, ReadError>
 }
 
 /// A whole number below 2^64, which has to be there.
-fn number_field(alloc: Global, value: &Value, field: &str) -> Result<u64, ReadError>
+fn number_field(alloc: Global, value: &Value<'_>, field: &str) -> Result<u64, ReadError>
     ensures ok { IfOk result (λ n. number_from field.now (get field.now (view value.now)) ≡ Ok n) }
     ensures err { IfErr result (λ e. (e ≡ ReadError.OutOfMemory) ⊎ (number_from field.now (get field.now (view value.now)) ≡ Err e)) }
 {
-    let Some(found) = value.get(field) else {
+    let Some(found) = get(value, field) else {
         return Err(missing(alloc, field));
     };
-    match found.as_u64() {
+    match whole(found) {
         Some(n) => Ok(n),
         None => Err(bad(alloc, field)),
     }
 }
 
 /// The beat that an echo names.
-fn pong_content(alloc: Global, value: &Value) -> Result<HubContent, ReadError>
+fn pong_content(alloc: Global, value: &Value<'_>) -> Result<HubContent, ReadError>
     ensures ok { IfOk result (λ c. pong_from (view value.now) ≡ Ok c) }
     ensures err { IfErr result (λ e. (e ≡ ReadError.OutOfMemory) ⊎ (pong_from (view value.now) ≡ Err e)) }
 {
@@ -160,7 +161,7 @@ fn unread(request: Request) -> Option<HubContent>
 }
 
 /// The content of a request by the object that it is.
-fn read_fields(alloc: Global, request: Request, value: &Value) -> Result<HubContent, ReadError>
+fn read_fields(alloc: Global, request: Request, value: &Value<'_>) -> Result<HubContent, ReadError>
     ensures ok { IfOk result (λ c. content_from request (view value.now) ≡ Ok c) }
     ensures err { IfErr result (λ e. (e ≡ ReadError.OutOfMemory) ⊎ (content_from request (view value.now) ≡ Err e)) }
 {
@@ -185,6 +186,7 @@ pub fn read_content(
     alloc: Global,
     request: Request,
     content: &[u8],
+    scratch: &mut Scratch,
 ) -> Result<HubContent, ReadError>
     ensures ok { IfOk result (λ c. read_content request content.now ≡ Ok c) }
     ensures err { IfErr result (λ e. (e ≡ ReadError.OutOfMemory) ⊎ (read_content request content.now ≡ Err e)) }
@@ -192,16 +194,21 @@ pub fn read_content(
     if let Some(known) = unread(request) {
         return Ok(known);
     }
-    let value = read_object(alloc, content)?;
+    let value = read_object(alloc, content, scratch)?;
     read_fields(alloc, request, &value)
 }
 
 /// The content of a message whose `msg_type` is that of a request.
-pub fn read_hub(alloc: Global, msg_type: &str, content: &[u8]) -> Result<HubContent, ReadError>
+pub fn read_hub(
+    alloc: Global,
+    msg_type: &str,
+    content: &[u8],
+    scratch: &mut Scratch,
+) -> Result<HubContent, ReadError>
     requires { IsSome (request_of msg_type.now) }
     ensures ok { IfOk result (λ c. read_hub msg_type.now content.now ≡ Some (Ok c)) }
     ensures err { IfErr result (λ e. (e ≡ ReadError.OutOfMemory) ⊎ (read_hub msg_type.now content.now ≡ Some (Err e))) }
 {
     let request = request_of(msg_type).unwrap();
-    read_content(alloc, request, content)
+    read_content(alloc, request, content, scratch)
 }

@@ -16,4 +16,5 @@ pub mod reply;
 pub mod submit;
 #[cfg(test)]
 mod tests;
+mod values;
 pub mod write;

@@ -2,44 +2,45 @@
 
 ghost use Rattle.std.specs.Prelude.{◌≡◌, ◌⊎◌, Ok, Err, IfOk, IfErr, option_map, option_and_then, codes};
 ghost use Rattle.serde_json.specs.Find.{get, as_str, as_bool};
-ghost use Rattle.serde_json.specs.View.{view};
+ghost use Rattle.jupyter_header.specs.Borrowed.{view};
 ghost use Rattle.message_defs.specs.Reply.{is_false, status_of, status_from, read_task, read_declined, read_status, read_reply};
 
 use crate::fields::{bad, id_field, missing};
 use crate::object::read_object;
+use crate::values::{flag, get, text};
 use cluster_types::text::Text;
 use message_defs::content::ReplyMeta;
 use message_defs::fault::ReadError;
-use serde_json::Value;
+use json::{Scratch, Value};
 use std::alloc::Global;
 
 /// The id of the task, from the header of the request.
 #[tactic(auto, unfolding(message_defs::specs::Reply::read_task))]
-fn read_task(alloc: Global, parent: &[u8]) -> Result<Text, ReadError>
+fn read_task(alloc: Global, parent: &[u8], scratch: &mut Scratch) -> Result<Text, ReadError>
     ensures ok { IfOk result (λ t. read_task parent.now ≡ Ok t) }
     ensures err { IfErr result (λ e. (e ≡ ReadError.OutOfMemory) ⊎ (read_task parent.now ≡ Err e)) }
 {
-    let value = read_object(alloc, parent)?;
+    let value = read_object(alloc, parent, scratch)?;
     id_field(alloc, &value, "msg_id")
 }
 
 /// Whether `dependencies_met` is false.
-fn is_declined(value: &Value) -> bool
+fn is_declined(value: &Value<'_>) -> bool
     ensures { result ≡ is_false (option_and_then as_bool (get (codes "dependencies_met") (view value.now))) }
 {
     matches!(
-        value.get("dependencies_met").and_then(Value::as_bool),
+        get(value, "dependencies_met").and_then(flag),
         Some(false)
     )
 }
 
 /// Whether the engine declined the task.
 #[tactic(auto, unfolding(message_defs::specs::Reply::read_declined))]
-fn read_declined(alloc: Global, metadata: &[u8]) -> Result<bool, ReadError>
+fn read_declined(alloc: Global, metadata: &[u8], scratch: &mut Scratch) -> Result<bool, ReadError>
     ensures ok { IfOk result (λ b. read_declined metadata.now ≡ Ok b) }
     ensures err { IfErr result (λ e. (e ≡ ReadError.OutOfMemory) ⊎ (read_declined metadata.now ≡ Err e)) }
 {
-    let value = read_object(alloc, metadata)?;
+    let value = read_object(alloc, metadata, scratch)?;
     Ok(is_declined(&value))
 }
 
@@ -55,14 +56,14 @@ fn status_of(word: Option<&str>) -> Option<bool>
 }
 
 /// The status of a content.
-fn status_field(alloc: Global, value: &Value) -> Result<bool, ReadError>
+fn status_field(alloc: Global, value: &Value<'_>) -> Result<bool, ReadError>
     ensures ok { IfOk result (λ b. status_from (get (codes "status") (view value.now)) ≡ Ok b) }
     ensures err { IfErr result (λ e. (e ≡ ReadError.OutOfMemory) ⊎ (status_from (get (codes "status") (view value.now)) ≡ Err e)) }
 {
-    let Some(found) = value.get("status") else {
+    let Some(found) = get(value, "status") else {
         return Err(missing(alloc, "status"));
     };
-    match status_of(found.as_str()) {
+    match status_of(text(found)) {
         Some(ok) => Ok(ok),
         None => Err(bad(alloc, "status")),
     }
@@ -70,11 +71,11 @@ fn status_field(alloc: Global, value: &Value) -> Result<bool, ReadError>
 
 /// Whether the task ran without an error.
 #[tactic(auto, unfolding(message_defs::specs::Reply::read_status))]
-fn read_status(alloc: Global, content: &[u8]) -> Result<bool, ReadError>
+fn read_status(alloc: Global, content: &[u8], scratch: &mut Scratch) -> Result<bool, ReadError>
     ensures ok { IfOk result (λ b. read_status content.now ≡ Ok b) }
     ensures err { IfErr result (λ e. (e ≡ ReadError.OutOfMemory) ⊎ (read_status content.now ≡ Err e)) }
 {
-    let value = read_object(alloc, content)?;
+    let value = read_object(alloc, content, scratch)?;
     status_field(alloc, &value)
 }
 
@@ -84,12 +85,13 @@ pub fn read_reply(
     parent: &[u8],
     metadata: &[u8],
     content: &[u8],
+    scratch: &mut Scratch,
 ) -> Result<ReplyMeta, ReadError>
     ensures ok { IfOk result (λ m. read_reply parent.now metadata.now content.now ≡ Ok m) }
     ensures err { IfErr result (λ e. (e ≡ ReadError.OutOfMemory) ⊎ (read_reply parent.now metadata.now content.now ≡ Err e)) }
 {
-    let task = read_task(alloc, parent)?;
-    let declined = read_declined(alloc, metadata)?;
-    let ok = read_status(alloc, content)?;
+    let task = read_task(alloc, parent, scratch)?;
+    let declined = read_declined(alloc, metadata, scratch)?;
+    let ok = read_status(alloc, content, scratch)?;
     Ok(ReplyMeta { task, ok, declined })
 }

@@ -2,7 +2,7 @@
 
 ghost use Rattle.std.specs.Prelude.{◌≡◌, ◌⊎◌, ◌≤◌, ◌∷◌, [], Ok, Err, Some, None, IfOk, IfErr, length, codes};
 ghost use Rattle.serde_json.specs.Find.{get};
-ghost use Rattle.serde_json.specs.View.{view, items_view};
+ghost use Rattle.jupyter_header.specs.Borrowed.{view, items_view};
 ghost use Rattle.message_defs.specs.Fields.{whole_from};
 ghost use Rattle.message_defs.specs.Submit.{at_most_4096, listed_by, listed_from, plain_dependency, flagged_dependency, dependency_from, submit_from, read_submit};
 
@@ -11,13 +11,14 @@ use crate::fields::{bad, flag_field, id_in, whole_field};
 use crate::lists::{ids_of, optional_ids};
 use crate::object::read_object;
 use crate::points::whole_timeouts;
+use crate::values::{get, is_null, is_object, items, text};
 use cluster_types::event::Dep;
 use cluster_types::message::Ids;
 use cluster_types::sequence::Sequence;
 use cluster_types::text::Text;
 use message_defs::content::SubmitMeta;
 use message_defs::fault::ReadError;
-use serde_json::Value;
+use json::{Scratch, Value};
 use std::alloc::{AllocError, Global};
 
 /// The greatest number of ids that a dependency lists.
@@ -39,7 +40,7 @@ fn single(alloc: Global, id: &str) -> Result<Ids, AllocError>
 }
 
 /// The ids of a list that isn't too long.
-fn short_list(alloc: Global, values: &[Value]) -> Result<Option<Ids>, AllocError>
+fn short_list(alloc: Global, values: &[Value<'_>]) -> Result<Option<Ids>, AllocError>
     ensures { IfOk result (λ r. r ≡ at_most_4096 (items_view values.now)) }
 {
     if values.len() > MOST_IDS {
@@ -50,30 +51,30 @@ fn short_list(alloc: Global, values: &[Value]) -> Result<Option<Ids>, AllocError
 }
 
 /// The ids that a value lists.
-fn listed_by(alloc: Global, value: &Value) -> Result<Option<Ids>, AllocError>
+fn listed_by(alloc: Global, value: &Value<'_>) -> Result<Option<Ids>, AllocError>
     ensures { IfOk result (λ r. r ≡ listed_by (view value.now)) }
 {
-    if value.is_null() {
+    if is_null(value) {
         return Ok(Some(Sequence::new(alloc)));
     }
-    if value.is_string() {
+    if text(value).is_some() {
         let Some(id) = id_in(value) else {
             return Ok(None);
         };
         return Ok(Some(single(alloc, id)?));
     }
-    let Some(values) = value.as_array() else {
+    let Some(values) = items(value) else {
         return Ok(None);
     };
-    short_list(alloc, values.as_slice())
+    short_list(alloc, values)
 }
 
 /// The ids of a dependency that is written as an object, which may be absent. A fault names the dependency's field.
-fn listed_field(alloc: Global, value: &Value, field: &str) -> Result<Ids, ReadError>
+fn listed_field(alloc: Global, value: &Value<'_>, field: &str) -> Result<Ids, ReadError>
     ensures ok { IfOk result (λ ids. listed_from field.now (get (codes "dependencies") (view value.now)) ≡ Ok ids) }
     ensures err { IfErr result (λ e. (e ≡ ReadError.OutOfMemory) ⊎ (listed_from field.now (get (codes "dependencies") (view value.now)) ≡ Err e)) }
 {
-    let Some(found) = value.get("dependencies") else {
+    let Some(found) = get(value, "dependencies") else {
         return Ok(Sequence::new(alloc));
     };
     match listed_by(alloc, found)? {
@@ -83,7 +84,7 @@ fn listed_field(alloc: Global, value: &Value, field: &str) -> Result<Ids, ReadEr
 }
 
 /// A dependency that is written as an object. A fault of any of its parts names the dependency's field.
-fn flagged_dependency(alloc: Global, value: &Value, field: &str) -> Result<Dep, ReadError>
+fn flagged_dependency(alloc: Global, value: &Value<'_>, field: &str) -> Result<Dep, ReadError>
     ensures ok { IfOk result (λ d. flagged_dependency field.now (view value.now) ≡ Ok d) }
     ensures err { IfErr result (λ e. (e ≡ ReadError.OutOfMemory) ⊎ (flagged_dependency field.now (view value.now) ≡ Err e)) }
 {
@@ -112,14 +113,14 @@ pub fn plain_dependency(alloc: Global, ids: Ids) -> Result<Dep, AllocError>
 }
 
 /// A dependency, which may be absent.
-fn dependency_field(alloc: Global, value: &Value, field: &str) -> Result<Dep, ReadError>
+fn dependency_field(alloc: Global, value: &Value<'_>, field: &str) -> Result<Dep, ReadError>
     ensures ok { IfOk result (λ d. dependency_from field.now (get field.now (view value.now)) ≡ Ok d) }
     ensures err { IfErr result (λ e. (e ≡ ReadError.OutOfMemory) ⊎ (dependency_from field.now (get field.now (view value.now)) ≡ Err e)) }
 {
-    let Some(found) = value.get(field) else {
+    let Some(found) = get(value, field) else {
         return Ok(plain_dependency(alloc, Sequence::new(alloc))?);
     };
-    if found.is_object() {
+    if is_object(found) {
         return flagged_dependency(alloc, found, field);
     }
     match listed_by(alloc, found)? {
@@ -129,7 +130,7 @@ fn dependency_field(alloc: Global, value: &Value, field: &str) -> Result<Dep, Re
 }
 
 /// The number of retries.
-fn retries_field(alloc: Global, value: &Value) -> Result<u32, ReadError>
+fn retries_field(alloc: Global, value: &Value<'_>) -> Result<u32, ReadError>
     ensures ok { IfOk result (λ n. whole_from (codes "retries") 1000 (get (codes "retries") (view value.now)) ≡ Ok n) }
     ensures err { IfErr result (λ e. (e ≡ ReadError.OutOfMemory) ⊎ (whole_from (codes "retries") 1000 (get (codes "retries") (view value.now)) ≡ Err e)) }
 {
@@ -138,7 +139,7 @@ fn retries_field(alloc: Global, value: &Value) -> Result<u32, ReadError>
 }
 
 /// The fields of a task's metadata.
-fn submit_fields(alloc: Global, value: &Value) -> Result<SubmitMeta, ReadError>
+fn submit_fields(alloc: Global, value: &Value<'_>) -> Result<SubmitMeta, ReadError>
     ensures ok { IfOk result (λ m. submit_from (view value.now) ≡ Ok m) }
     ensures err { IfErr result (λ e. (e ≡ ReadError.OutOfMemory) ⊎ (submit_from (view value.now) ≡ Err e)) }
 {
@@ -161,11 +162,15 @@ fn submit_fields(alloc: Global, value: &Value) -> Result<SubmitMeta, ReadError>
 /// The fields are `after`, `follow`, `targets`, `timeout` and `retries`, in this order; each may be absent. A `.0`
 /// behind the digits of a timeout is read over.
 #[tactic(auto, unfolding(message_defs::specs::Submit::read_submit))]
-pub fn read_submit(alloc: Global, octets: &[u8]) -> Result<SubmitMeta, ReadError>
+pub fn read_submit(
+    alloc: Global,
+    octets: &[u8],
+    scratch: &mut Scratch,
+) -> Result<SubmitMeta, ReadError>
     ensures ok { IfOk result (λ m. read_submit octets.now ≡ Ok m) }
     ensures err { IfErr result (λ e. (e ≡ ReadError.OutOfMemory) ⊎ (read_submit octets.now ≡ Err e)) }
 {
     let whole = whole_timeouts(alloc, octets)?;
-    let value = read_object(alloc, whole.as_slice())?;
+    let value = read_object(alloc, whole.as_slice(), scratch)?;
     submit_fields(alloc, &value)
 }

@@ -9,6 +9,7 @@ use crate::submit::read_submit;
 use crate::write::{made_header, resubmit_header};
 use cluster_types::sequence::Sequence;
 use cluster_types::text::Text;
+use json::Scratch;
 use message_defs::content::HubContent;
 use message_defs::fault::ReadError;
 use message_defs::request::Request;
@@ -46,6 +47,7 @@ fn repeated(
 #[test]
 fn reads_headers(rt: HostRuntime) -> Result<(), Fail> {
     let alloc = rt.alloc();
+    let mut scratch = Scratch::new(alloc);
     for (text, kind, field) in [
         (b"{".as_slice(), "NotJson", ""),
         (b"[]".as_slice(), "NotObject", ""),
@@ -63,19 +65,24 @@ fn reads_headers(rt: HostRuntime) -> Result<(), Fail> {
             "",
         ),
         (
+            b"{\"msg_id\":\"a\",\"msg_type\":\"t\",\"x\":[1,-1e999]}".as_slice(),
+            "NotJson",
+            "",
+        ),
+        (
             b"{\"msg_id\":\"a\xff\",\"msg_type\":\"t\"}".as_slice(),
             "NotJson",
             "",
         ),
     ] {
         assert!(rt;
-            is_outcome(read_header(alloc, text), kind, field),
+            is_outcome(read_header(alloc, text, &mut scratch), kind, field),
             "at {text:?}"
         );
     }
     let text =
         b"{\"msg_id\":\"b\",\"msg_type\":\"t\",\"msg_id\":\"a\",\"session\":1,\"username\":\"u\"}";
-    let header = read_header(alloc, text)?;
+    let header = read_header(alloc, text, &mut scratch)?;
     assert_eq!(rt; header.msg_id.as_str(), "a");
     assert_eq!(rt; header.msg_type.as_str(), "t");
     assert_eq!(rt; header.session.as_str(), "");
@@ -86,6 +93,7 @@ fn reads_headers(rt: HostRuntime) -> Result<(), Fail> {
 #[test]
 fn keeps_to_limits(rt: HostRuntime) -> Result<(), Fail> {
     let alloc = rt.alloc();
+    let mut scratch = Scratch::new(alloc);
     for (times, kind) in [(255, "Ok"), (256, "BadField")] {
         let text = repeated(
             alloc,
@@ -94,7 +102,7 @@ fn keeps_to_limits(rt: HostRuntime) -> Result<(), Fail> {
             times,
             "\",\"msg_type\":\"t\"}",
         )?;
-        assert!(rt; is_outcome(read_header(alloc, text.as_bytes()), kind, "msg_id"));
+        assert!(rt; is_outcome(read_header(alloc, text.as_bytes(), &mut scratch), kind, "msg_id"));
     }
     for (times, kind) in [(126, "Ok"), (127, "NotJson")] {
         let front = repeated(alloc, "{\"x\":", "[", times, "")?;
@@ -105,11 +113,11 @@ fn keeps_to_limits(rt: HostRuntime) -> Result<(), Fail> {
             times,
             ",\"msg_id\":\"a\",\"msg_type\":\"t\"}",
         )?;
-        assert!(rt; is_outcome(read_header(alloc, text.as_bytes()), kind, ""));
+        assert!(rt; is_outcome(read_header(alloc, text.as_bytes(), &mut scratch), kind, ""));
     }
     for (times, kind) in [(4095, "Ok"), (4096, "BadField")] {
         let text = repeated(alloc, "{\"follow\":[\"b\"", ",\"a\"", times, "]}")?;
-        assert!(rt; is_outcome(read_submit(alloc, text.as_bytes()), kind, "follow"));
+        assert!(rt; is_outcome(read_submit(alloc, text.as_bytes(), &mut scratch), kind, "follow"));
     }
     Ok(())
 }
@@ -117,6 +125,7 @@ fn keeps_to_limits(rt: HostRuntime) -> Result<(), Fail> {
 #[test]
 fn metadata(rt: HostRuntime) -> Result<(), Fail> {
     let alloc = rt.alloc();
+    let mut scratch = Scratch::new(alloc);
     for (text, kind, field) in [
         ("{\"retries\":1001}", "BadField", "retries"),
         ("{\"retries\":1000}", "Ok", ""),
@@ -136,26 +145,31 @@ fn metadata(rt: HostRuntime) -> Result<(), Fail> {
         ("{\"targets\":\"a\"}", "BadField", "targets"),
     ] {
         assert!(rt;
-            is_outcome(read_submit(alloc, text.as_bytes()), kind, field),
+            is_outcome(read_submit(alloc, text.as_bytes(), &mut scratch), kind, field),
             "at {text}"
         );
     }
     let sent =
         b"{\"after\": [], \"follow\": [], \"timeout\": 0.0, \"targets\": [], \"retries\": 0}";
-    let meta = read_submit(alloc, sent)?;
+    let meta = read_submit(alloc, sent, &mut scratch)?;
     assert!(rt; meta.after.ids.is_empty() && meta.after.all && meta.after.success);
     assert!(rt; !meta.after.failure && meta.targets.is_empty());
     assert_eq!(rt; (meta.timeout, meta.retries), (0, 0));
     let meta = read_submit(
         alloc,
         b"{\"after\":[\"a\",\"b\",\"a\"],\"follow\":{\"dependencies\":\"c\",\"all\":false,\"success\":false,\"failure\":true},\"x\":{\"timeout\": 7.0},\"timeout\":5.0}",
+        &mut scratch,
     )?;
     assert_eq!(rt; meta.after.ids.len(), 2);
     assert_eq!(rt; meta.after.ids.get(1).map(Text::as_str), Some("b"));
     assert_eq!(rt; meta.follow.ids.get(0).map(Text::as_str), Some("c"));
     assert!(rt; !meta.follow.all && !meta.follow.success && meta.follow.failure);
     assert_eq!(rt; meta.timeout, 5);
-    let quoted = read_submit(alloc, b"{\"after\":\"\\\"timeout\\\":5.0,\"}")?;
+    let quoted = read_submit(
+        alloc,
+        b"{\"after\":\"\\\"timeout\\\":5.0,\"}",
+        &mut scratch,
+    )?;
     assert_eq!(rt;
         quoted.after.ids.get(0).map(Text::as_str),
         Some("\"timeout\":5.0,")
@@ -166,6 +180,7 @@ fn metadata(rt: HostRuntime) -> Result<(), Fail> {
 #[test]
 fn reads_replies(rt: HostRuntime) -> Result<(), Fail> {
     let alloc = rt.alloc();
+    let mut scratch = Scratch::new(alloc);
     let parent = b"{\"msg_id\":\"a\"}".as_slice();
     for (parent, metadata, content, kind, field) in [
         (b"{}".as_slice(), "{", "{}", "Missing", "msg_id"),
@@ -174,7 +189,8 @@ fn reads_replies(rt: HostRuntime) -> Result<(), Fail> {
         (parent, "{}", "{\"status\":\"done\"}", "BadField", "status"),
         (parent, "{}", "{\"status\":\"aborted\"}", "Ok", ""),
     ] {
-        let reading = read_reply(alloc, parent, metadata.as_bytes(), content.as_bytes());
+        let (metadata_octets, octets) = (metadata.as_bytes(), content.as_bytes());
+        let reading = read_reply(alloc, parent, metadata_octets, octets, &mut scratch);
         assert!(rt; is_outcome(reading, kind, field), "at {metadata} {content}");
     }
     let declined = read_reply(
@@ -182,6 +198,7 @@ fn reads_replies(rt: HostRuntime) -> Result<(), Fail> {
         parent,
         b"{\"dependencies_met\":false}",
         b"{\"status\":\"error\"}",
+        &mut scratch,
     )?;
     assert_eq!(rt; declined.task.as_str(), "a");
     assert!(rt; declined.declined && !declined.ok);
@@ -190,6 +207,7 @@ fn reads_replies(rt: HostRuntime) -> Result<(), Fail> {
         parent,
         b"{\"dependencies_met\":0}",
         b"{\"status\":\"ok\"}",
+        &mut scratch,
     )?;
     assert!(rt; !done.declined && done.ok);
     Ok(())
@@ -198,6 +216,7 @@ fn reads_replies(rt: HostRuntime) -> Result<(), Fail> {
 #[test]
 fn refuses_requests(rt: HostRuntime) -> Result<(), Fail> {
     let alloc = rt.alloc();
+    let mut scratch = Scratch::new(alloc);
     for (msg_type, content, kind, field) in [
         ("result_request", "{}", "Missing", "msg_ids"),
         ("result_request", "{\"msg_ids\":[\"a\"]}", "Ok", ""),
@@ -241,7 +260,7 @@ fn refuses_requests(rt: HostRuntime) -> Result<(), Fail> {
         ("beat_reply", "{\"beat\":1.0}", "BadField", "beat"),
     ] {
         let request = request_of(msg_type).ok_or("no request")?;
-        let reading = read_content(alloc, request, content.as_bytes());
+        let reading = read_content(alloc, request, content.as_bytes(), &mut scratch);
         assert!(rt; is_outcome(reading, kind, field), "at {msg_type} {content}");
     }
     Ok(())
@@ -251,18 +270,21 @@ fn refuses_requests(rt: HostRuntime) -> Result<(), Fail> {
 #[tactic(auto, unfolding(message_defs::specs::Hub::request_of))]
 fn reads_requests(rt: HostRuntime) -> Result<(), Fail> {
     let alloc = rt.alloc();
+    let mut scratch = Scratch::new(alloc);
     let purge = read_hub(
         alloc,
         "purge_request",
         b"{\"msg_ids\":\"all\",\"engine_ids\":[]}",
+        &mut scratch,
     )?;
     assert!(rt; matches!(&purge, HubContent::Purge { all: true, ids } if ids.is_empty()));
     let queue = b"{\"targets\":[4294967295],\"verbose\":true}";
-    let queue = read_content(alloc, Request::Queue, queue)?;
+    let queue = read_content(alloc, Request::Queue, queue, &mut scratch)?;
     assert!(rt;
         matches!(&queue, HubContent::Queue { targets, verbose: true } if targets.len() == 1)
     );
-    let pong = read_content(alloc, Request::Beat, b"{\"beat\":18446744073709551615}")?;
+    let pong = b"{\"beat\":18446744073709551615}";
+    let pong = read_content(alloc, Request::Beat, pong, &mut scratch)?;
     assert!(rt;
         matches!(
             pong,

@@ -9,6 +9,12 @@ use edges::frames::Frames;
 use hmac_sign::Key;
 use std::alloc::{AllocError, Global};
 
+/// The frames of a message with a target, but for its buffers.
+const FRAMES: usize = 7;
+
+/// The octets of the delimiter and of a signature.
+const SIGNED_OCTETS: usize = 73;
+
 /// Appends the delimiter.
 #[tactic(auto, unfolding(crate::specs::Signed::delimiter))]
 fn push_delimiter(frames: &mut Frames) -> Result<(), AllocError>
@@ -50,6 +56,28 @@ fn push_signed(
     Ok(())
 }
 
+/// No frames yet, with room for those of a message with these parts.
+fn room_for(
+    alloc: Global,
+    target: &[u8],
+    header: &[u8],
+    parent: &[u8],
+    metadata: &[u8],
+    content: &[u8],
+    buffers: &Buffers,
+) -> Result<Frames, AllocError>
+    ensures { IfOk result (λ f. f ≡ []) }
+{
+    let frames = buffers.len().saturating_add(FRAMES);
+    let octets = SIGNED_OCTETS
+        .saturating_add(target.len())
+        .saturating_add(header.len())
+        .saturating_add(parent.len())
+        .saturating_add(metadata.len())
+        .saturating_add(content.len());
+    Frames::with_capacity(alloc, frames, octets)
+}
+
 /// The frames of a message without identity frames.
 pub fn write_signed(
     alloc: Global,
@@ -62,7 +90,7 @@ pub fn write_signed(
 ) -> Result<Frames, AllocError>
     ensures { IfOk result (λ f. f ≡ signed_frames key.now header.now parent.now metadata.now content.now buffers.now) }
 {
-    let mut frames = Frames::new(alloc);
+    let mut frames = room_for(alloc, b"", header, parent, metadata, content, buffers)?;
     push_signed(&mut frames, key, header, parent, metadata, content, buffers)?;
     Ok(frames)
 }
@@ -74,7 +102,15 @@ pub fn write_parts(alloc: Global, message: &SharedMessage, key: &Key) -> Result<
     ensures value { IfOk result (λ f. f ≡ message_frames key.now message.now) }
     ensures signed { IfOk result (λ f. IsSigned key.now f message.now) }
 {
-    let mut frames = Frames::new(alloc);
+    let mut frames = room_for(
+        alloc,
+        message.target(),
+        message.header(),
+        message.parent(),
+        message.metadata(),
+        message.content(),
+        message.buffers(),
+    )?;
     if !message.target().is_empty() {
         frames.push(message.target())?;
     }

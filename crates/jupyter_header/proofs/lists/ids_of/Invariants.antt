@@ -1,5 +1,5 @@
 use Rattle.std.proofs.Common.{◌≡◌, ◌++◌, drop, option_map}
-use Rattle.serde_json.specs.View.{items_view}
+use Rattle.jupyter_header.specs.Borrowed.{items_view}
 use Rattle.message_defs.specs.Fields.{each_of, id_in}
 use Rattle.jupyter_header.proofs.lists.ids_of.Given as goal
 
