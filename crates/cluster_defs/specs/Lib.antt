@@ -4,6 +4,7 @@ pub mod Dependencies
 pub mod Engines
 pub mod Facts
 pub mod Histories
+pub mod Inputs
 pub mod Laws
 pub mod Lives
 pub mod Outcomes

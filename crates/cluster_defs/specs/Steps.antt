@@ -8,6 +8,7 @@ use Rattle.cluster_types.specs.declared.event.Event.TheVariants.{Reply}
 use Rattle.cluster_types.specs.declared.entry.Input.TheVariants.{Open, Up, Down, In, Beat, Time}
 use Rattle.cluster_types.specs.declared.entry.Entry.{Entry}
 use Rattle.cluster_types.specs.declared.entry.Entry.TheVariants.{Input, Hand, Settle, Lose}
+use Rattle.cluster_defs.specs.Inputs.{moment_of, word_of}
 use Rattle.cluster_defs.specs.declared.connection.Connection.{Connection}
 use Rattle.cluster_defs.specs.declared.engine.Engine.{Engine}
 use Rattle.cluster_defs.specs.Words.{Id, or_else}
@@ -62,12 +63,8 @@ now_after _ old = old
 
 -- the moment of the last input; a message that isn't kept leaves it, since nothing is decided before the next input
 abbrev pub moment_after : Facts → Entry → Option Event → ℕ
-moment_after f (Input (Open moment scheme hwm misses)) event = moment
-moment_after f (Input (Up conn channel moment word identity)) event = moment
-moment_after f (Input (Down conn moment word)) event = moment
 moment_after f (Input (In conn moment word message)) event = if changes f conn message event then moment else f.moment
-moment_after f (Input (Beat moment word)) event = moment
-moment_after f (Input (Time moment word)) event = moment
+moment_after f (Input input) event = moment_of input
 moment_after f _ event = f.moment
 
 -- one word after another: Knuth's MMIX generator, modulo 2 ^ 64
@@ -76,12 +73,8 @@ next_word word = (word * 6364136223846793005 + 1442695040888963407) % 1844674407
 
 -- the word of the first Hand after an input is the input's, each further one the next; after an Open it is 0
 abbrev pub word_after : Facts → Entry → Option Event → ℕ
-word_after f (Input (Open moment scheme hwm misses)) event = 0
-word_after f (Input (Up conn channel moment word identity)) event = word
-word_after f (Input (Down conn moment word)) event = word
 word_after f (Input (In conn moment word message)) event = if changes f conn message event then word else f.word
-word_after f (Input (Beat moment word)) event = word
-word_after f (Input (Time moment word)) event = word
+word_after f (Input input) event = word_of input
 word_after f (Hand id engine) event = next_word f.word
 word_after f _ event = f.word
 

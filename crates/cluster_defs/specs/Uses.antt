@@ -1,9 +1,10 @@
 -- Where engines were last used, and the word of the newest input, read off the list: what the facts keep otherwise.
 use Rattle.std.specs.Prelude.{◌≡◌, true, ℕ, suc, nat_lt, ◌==◌, List, [], ◌∷◌, length, Option, Some, None, Bool, false, not, ◌&&◌, if◌then◌else◌}
 use Rattle.std.specs.List.{list_all}
-use Rattle.cluster_types.specs.declared.entry.Input.TheVariants.{Open, Up, Down, In, Beat, Time}
+use Rattle.cluster_types.specs.declared.entry.Input.TheVariants.{In}
 use Rattle.cluster_types.specs.declared.entry.Entry.{Entry}
 use Rattle.cluster_types.specs.declared.entry.Entry.TheVariants.{Input, Hand}
+use Rattle.cluster_defs.specs.Inputs.{moment_of, word_of}
 use Rattle.cluster_defs.specs.Engines.{joined}
 use Rattle.cluster_defs.specs.Facts.{Facts, event_in, is_direct_id}
 use Rattle.cluster_defs.specs.Steps.{next_word}
@@ -32,22 +33,12 @@ Ascends f (n ∷ ns) = (list_all (λ m. nat_lt (f n) (f m)) ns ≡ true) × Asce
 -- the word that a Hand draws by, by the letter: the newest input's, whether it is kept or not, and the next after each Hand
 abbrev pub newest_word : History → ℕ
 newest_word [] = 0
-newest_word (Input (Open moment scheme hwm misses) ∷ older) = 0
-newest_word (Input (Up conn channel moment word identity) ∷ older) = word
-newest_word (Input (Down conn moment word) ∷ older) = word
-newest_word (Input (In conn moment word message) ∷ older) = word
-newest_word (Input (Beat moment word) ∷ older) = word
-newest_word (Input (Time moment word) ∷ older) = word
+newest_word (Input input ∷ older) = word_of input
 newest_word (Hand id engine ∷ older) = next_word (newest_word older)
 newest_word (_ ∷ older) = newest_word older
 
 -- the moment of the newest input, whether it is kept or not
 abbrev pub newest_moment : History → ℕ
 newest_moment [] = 0
-newest_moment (Input (Open moment scheme hwm misses) ∷ older) = moment
-newest_moment (Input (Up conn channel moment word identity) ∷ older) = moment
-newest_moment (Input (Down conn moment word) ∷ older) = moment
-newest_moment (Input (In conn moment word message) ∷ older) = moment
-newest_moment (Input (Beat moment word) ∷ older) = moment
-newest_moment (Input (Time moment word) ∷ older) = moment
+newest_moment (Input input ∷ older) = moment_of input
 newest_moment (_ ∷ older) = newest_moment older

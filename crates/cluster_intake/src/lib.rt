@@ -22,12 +22,12 @@ use cluster_types::sequence::Sequence;
 use cluster_types::shared_message::SharedMessage;
 use cluster_types::text::Text;
 use fault::IntakeError;
+use json::Scratch;
 use jupyter_header::header::read_header;
 use jupyter_header::hub::read_content;
 use jupyter_header::kinds::{is_leave, is_reply, is_request, request_of};
 use jupyter_header::reply::read_reply;
 use jupyter_header::submit::{plain_dependency, read_submit};
-use json::Scratch;
 use message_defs::content::{HubContent, SubmitMeta};
 use message_defs::fault::{Field, ReadError};
 use message_defs::header::Header;
@@ -189,11 +189,7 @@ fn mux_event(alloc: Global, header: Header, target: &[u8]) -> Result<Event, Inta
 }
 
 /// The echo of a heartbeat.
-fn echo_event(
-    alloc: Global,
-    content: &[u8],
-    scratch: &mut Scratch,
-) -> Result<Event, IntakeError>
+fn echo_event(alloc: Global, content: &[u8], scratch: &mut Scratch) -> Result<Event, IntakeError>
     ensures ok { IfOk result (λ e. echo_event (read_content Request.Beat content.now) ≡ Ok e) }
     ensures err { IfErr result (λ e. (e ≡ IntakeError.OutOfMemory) ⊎ (taken_in (echo_event (read_content Request.Beat content.now)) ≡ Err e)) }
 {

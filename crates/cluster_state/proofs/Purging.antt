@@ -68,7 +68,7 @@ all_go f ids =
     let list = purge_list f true ids in
     let p = λ (id : Id). is_settled f id && not (f.purged id) in
     let gone : list_any (λ id. not (is_listed id f.known) || f.purged id) list ≡ false =
-      none_kept _ p f.known f.known (λ id listed passes. (goes (is_settled f id) (f.purged id) (is_listed id f.known) listed passes).0) (λ id listed. listed) in
+    none_kept _ p f.known f.known (λ id listed passes. (goes (is_settled f id) (f.purged id) (is_listed id f.known) listed passes).0) (λ id listed. listed) in
     let unsettled : list_any (λ id. not (is_settled f id)) list ≡ false =
-      none_kept _ p f.known f.known (λ id listed passes. (goes (is_settled f id) (f.purged id) (is_listed id f.known) listed passes).1) (λ id listed. listed) in
+    none_kept _ p f.known f.known (λ id listed passes. (goes (is_settled f id) (f.purged id) (is_listed id f.known) listed passes).1) (λ id listed. listed) in
     dropped_is f list ∙ rw (gone, unsettled) refl

@@ -13,6 +13,7 @@ use Rattle.cluster_types.specs.declared.entry.Entry.TheVariants.{Input, Hand, Se
 use Rattle.cluster_types.specs.declared.verdict.Verdict.{Verdict}
 use Rattle.cluster_types.specs.declared.verdict.Cause.{Cause}
 use Rattle.cluster_types.specs.declared.verdict.Cause.TheVariants.{Reply}
+use Rattle.cluster_defs.specs.Inputs.{moment_of}
 use Rattle.cluster_defs.specs.declared.connection.Connection.{Connection}
 use Rattle.cluster_defs.specs.Words.{Id, is_listed}
 use Rattle.cluster_defs.specs.Connections.{with_connection, without_connection}
@@ -267,10 +268,5 @@ plain_after f (Lose engine) event p = engine_ended (Some engine) p
 
 -- the moment of an entry, where it has one, is before the year 10000
 abbrev pub InTime : Entry → Type 0
-InTime (Input (Open moment scheme hwm misses)) = moment ≤ last_moment
-InTime (Input (Up conn channel moment word identity)) = moment ≤ last_moment
-InTime (Input (Down conn moment word)) = moment ≤ last_moment
-InTime (Input (In conn moment word message)) = moment ≤ last_moment
-InTime (Input (Beat moment word)) = moment ≤ last_moment
-InTime (Input (Time moment word)) = moment ≤ last_moment
+InTime (Input input) = moment_of input ≤ last_moment
 InTime _ = ⊤

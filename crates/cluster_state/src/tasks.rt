@@ -47,15 +47,6 @@ fn place_of(places: &HashMap<String, usize>, id: &Text) -> Option<usize>
     places.get(id.as_str()).copied()
 }
 
-fn task_at(tasks: &[Task], place: Option<usize>) -> Option<&Task>
-    ensures { option_copied result ≡ option_and_then (slice_get tasks.now) place }
-{
-    match place {
-        Some(place) => tasks.get(place),
-        None => None,
-    }
-}
-
 fn hand_at(tasks: &mut [Task], place: usize, engine: u32)
     ensures { tasks.new ≡ at_place (handed_to engine) place tasks.old }
 {
@@ -265,11 +256,21 @@ impl Tasks {
         self.unsettled.as_slice()
     }
 
+    /// The task at a place.
+    pub fn at(&self, place: Option<usize>) -> Option<&Task>
+        ensures { option_copied result ≡ option_and_then (slice_get self.now) place }
+    {
+        match place {
+            Some(place) => self.tasks.get(place),
+            None => None,
+        }
+    }
+
     /// The task of an id.
     pub fn find(&self, id: &Text) -> Option<&Task>
         ensures { option_copied result ≡ seen_in self.now id.now }
     {
-        task_at(self.tasks.as_slice(), place_of(&self.places, id))
+        self.at(place_of(&self.places, id))
     }
 
     /// Adds a task, which isn't settled.

@@ -9,7 +9,6 @@ ghost use Rattle.due_decisions.specs.Table.{alone, direct_of, direct_in, ready, 
 
 use crate::dependencies::{is_met, is_met_on};
 use crate::failing::{is_excluded, is_target, rests};
-use crate::places::task_at;
 use crate::rooms::Room;
 use cluster_state::attempts::is_never;
 use cluster_state::task::Task;
@@ -55,7 +54,7 @@ fn direct_place(tasks: &Tasks) -> Option<usize>
 fn direct_task(tasks: &Tasks) -> Option<&Task>
     ensures { option_copied result ≡ find (λ t. is_some (ready_for (alone t) t.row.id)) tasks.now }
 {
-    task_at(tasks, direct_place(tasks))
+    tasks.at(direct_place(tasks))
 }
 
 /// The hand-out of a direct request without an attempt.
@@ -142,7 +141,7 @@ fn waiting_task<'a>(tasks: &'a Tasks, rooms: &[Room]) -> Option<&'a Task>
     if rooms.is_empty() {
         None
     } else {
-        task_at(tasks, waiting_place(tasks, rooms))
+        tasks.at(waiting_place(tasks, rooms))
     }
 }
 

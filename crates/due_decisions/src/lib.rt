@@ -6,7 +6,6 @@ pub mod due;
 mod failing;
 mod handing;
 mod losing;
-mod places;
 mod rooms;
 mod settling;
 #[cfg(test)]

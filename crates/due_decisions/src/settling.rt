@@ -7,7 +7,6 @@ ghost use Rattle.cluster_state.specs.Seen.{open_places, holds_at};
 ghost use Rattle.due_decisions.specs.Table.{alone, final_at, settle_of, settle_in, failing_in, fail_of, fail_in};
 
 use crate::failing::failing;
-use crate::places::task_at;
 use cluster_defs::attempt::Attempt;
 use cluster_defs::engine::Engine;
 use cluster_state::task::Task;
@@ -68,7 +67,7 @@ fn final_place(tasks: &Tasks) -> Option<usize>
 fn final_task(tasks: &Tasks) -> Option<&Task>
     ensures { option_copied result ≡ find final_at tasks.now }
 {
-    task_at(tasks, final_place(tasks))
+    tasks.at(final_place(tasks))
 }
 
 /// The settle of a task whose attempts are over.
@@ -120,7 +119,7 @@ fn failing_place(tasks: &Tasks, engines: &[Engine], now: u64) -> Option<usize>
 fn failing_task<'a>(tasks: &'a Tasks, engines: &[Engine], now: u64) -> Option<&'a Task>
     ensures { option_copied result ≡ find (λ t. is_some (failing_in tasks.now engines.now now t)) tasks.now }
 {
-    task_at(tasks, failing_place(tasks, engines, now))
+    tasks.at(failing_place(tasks, engines, now))
 }
 
 /// The settle of a task that fails without an attempt.

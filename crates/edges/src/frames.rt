@@ -103,6 +103,17 @@ impl Frames {
         self.len() == 0
     }
 
+    /// The frame at a place where there is one, counted from 0.
+    pub fn at(&self, place: usize) -> &[u8]
+        requires { place < length self.now }
+        ensures { result.now ≡ slice_index_or self.now place [] }
+    {
+        match self.get(place) {
+            Some(frame) => frame,
+            None => unreachable!(),
+        }
+    }
+
     /// The frame at a place, counted from 0.
     #[tactic(auto, using(crate::proofs::FramePlaces::cut_past))]
     pub fn get(&self, place: usize) -> Option<&[u8]>

@@ -5,10 +5,10 @@ ghost use Rattle.serde_json.specs.Find.{get};
 ghost use Rattle.jupyter_header.specs.Borrowed.{view};
 ghost use Rattle.message_defs.specs.Fields.{is_id, id_in, id_from, text_from, flag_from, whole_from};
 
-use cluster_types::text::Text;
-use message_defs::fault::ReadError;
 use crate::values::{flag, get, is_null, text, whole};
+use cluster_types::text::Text;
 use json::Value;
+use message_defs::fault::ReadError;
 use std::alloc::{AllocError, Global};
 
 /// The id that a value is.
@@ -84,7 +84,12 @@ pub fn flag_field(
 }
 
 /// A whole number up to a bound, which may be absent or null.
-pub fn whole_field(alloc: Global, value: &Value<'_>, field: &str, most: u64) -> Result<u64, ReadError>
+pub fn whole_field(
+    alloc: Global,
+    value: &Value<'_>,
+    field: &str,
+    most: u64,
+) -> Result<u64, ReadError>
     ensures within { IfOk result (λ n. n ≤ most) }
     ensures ok { IfOk result (λ n. whole_from field.now most (get field.now (view value.now)) ≡ Ok n) }
     ensures err { IfErr result (λ e. (e ≡ ReadError.OutOfMemory) ⊎ (whole_from field.now most (get field.now (view value.now)) ≡ Err e)) }

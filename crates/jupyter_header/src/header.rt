@@ -14,11 +14,7 @@ use std::alloc::Global;
 ///
 /// The ids are `msg_id` and `msg_type`, in this order; `session` and `username` may be absent or anything.
 #[tactic(auto, unfolding(message_defs::specs::Header::read_header))]
-pub fn read_header(
-    alloc: Global,
-    octets: &[u8],
-    scratch: &mut Scratch,
-) -> Result<Header, ReadError>
+pub fn read_header(alloc: Global, octets: &[u8], scratch: &mut Scratch) -> Result<Header, ReadError>
     ensures ok { IfOk result (λ h. read_header octets.now ≡ Ok h) }
     ensures err { IfErr result (λ e. (e ≡ ReadError.OutOfMemory) ⊎ (read_header octets.now ≡ Err e)) }
 {

@@ -7,16 +7,16 @@ ghost use Rattle.message_defs.specs.Fields.{whole_in};
 ghost use Rattle.message_defs.specs.Hub.{request_of, queue_from, result_from, is_all, is_no_items, lists_none, none_listed, ids_or_all, purge_from, resubmit_from, join_from, number_from, pong_from, unread, content_from, read_content, read_hub};
 
 use crate::fields::{bad, flag_field, id_field, missing};
-use crate::lists::{id_list, ids_field, optional_engines};
 use crate::kinds::request_of;
+use crate::lists::{id_list, ids_field, optional_engines};
 use crate::object::read_object;
 use crate::values::{get, is_null, items, text, whole};
 use cluster_types::message::Ids;
 use cluster_types::sequence::Sequence;
+use json::{Scratch, Value};
 use message_defs::content::HubContent;
 use message_defs::fault::ReadError;
 use message_defs::request::Request;
-use json::{Scratch, Value};
 use std::alloc::Global;
 
 /// What a question about queues asks for.

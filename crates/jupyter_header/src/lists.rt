@@ -11,8 +11,8 @@ use crate::values::{get, is_null, items, whole};
 use cluster_types::message::{Engines, Ids};
 use cluster_types::sequence::Sequence;
 use cluster_types::text::Text;
-use message_defs::fault::ReadError;
 use json::Value;
+use message_defs::fault::ReadError;
 use std::alloc::{AllocError, Global};
 
 /// The ids that the values are, where each is one.

@@ -9,9 +9,9 @@ use crate::fields::{bad, id_field, missing};
 use crate::object::read_object;
 use crate::values::{flag, get, text};
 use cluster_types::text::Text;
+use json::{Scratch, Value};
 use message_defs::content::ReplyMeta;
 use message_defs::fault::ReadError;
-use json::{Scratch, Value};
 use std::alloc::Global;
 
 /// The id of the task, from the header of the request.
@@ -28,10 +28,7 @@ fn read_task(alloc: Global, parent: &[u8], scratch: &mut Scratch) -> Result<Text
 fn is_declined(value: &Value<'_>) -> bool
     ensures { result ≡ is_false (option_and_then as_bool (get (codes "dependencies_met") (view value.now))) }
 {
-    matches!(
-        get(value, "dependencies_met").and_then(flag),
-        Some(false)
-    )
+    matches!(get(value, "dependencies_met").and_then(flag), Some(false))
 }
 
 /// Whether the engine declined the task.

@@ -16,9 +16,9 @@ use cluster_types::event::Dep;
 use cluster_types::message::Ids;
 use cluster_types::sequence::Sequence;
 use cluster_types::text::Text;
+use json::{Scratch, Value};
 use message_defs::content::SubmitMeta;
 use message_defs::fault::ReadError;
-use json::{Scratch, Value};
 use std::alloc::{AllocError, Global};
 
 /// The greatest number of ids that a dependency lists.

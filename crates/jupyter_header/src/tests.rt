@@ -102,7 +102,13 @@ fn keeps_to_limits(rt: HostRuntime) -> Result<(), Fail> {
             times,
             "\",\"msg_type\":\"t\"}",
         )?;
-        assert!(rt; is_outcome(read_header(alloc, text.as_bytes(), &mut scratch), kind, "msg_id"));
+        assert!(rt;
+            is_outcome(
+                read_header(alloc, text.as_bytes(), &mut scratch),
+                kind,
+                "msg_id"
+            )
+        );
     }
     for (times, kind) in [(126, "Ok"), (127, "NotJson")] {
         let front = repeated(alloc, "{\"x\":", "[", times, "")?;
@@ -117,7 +123,13 @@ fn keeps_to_limits(rt: HostRuntime) -> Result<(), Fail> {
     }
     for (times, kind) in [(4095, "Ok"), (4096, "BadField")] {
         let text = repeated(alloc, "{\"follow\":[\"b\"", ",\"a\"", times, "]}")?;
-        assert!(rt; is_outcome(read_submit(alloc, text.as_bytes(), &mut scratch), kind, "follow"));
+        assert!(rt;
+            is_outcome(
+                read_submit(alloc, text.as_bytes(), &mut scratch),
+                kind,
+                "follow"
+            )
+        );
     }
     Ok(())
 }
@@ -145,7 +157,11 @@ fn metadata(rt: HostRuntime) -> Result<(), Fail> {
         ("{\"targets\":\"a\"}", "BadField", "targets"),
     ] {
         assert!(rt;
-            is_outcome(read_submit(alloc, text.as_bytes(), &mut scratch), kind, field),
+            is_outcome(
+                read_submit(alloc, text.as_bytes(), &mut scratch),
+                kind,
+                field
+            ),
             "at {text}"
         );
     }
@@ -165,11 +181,7 @@ fn metadata(rt: HostRuntime) -> Result<(), Fail> {
     assert_eq!(rt; meta.follow.ids.get(0).map(Text::as_str), Some("c"));
     assert!(rt; !meta.follow.all && !meta.follow.success && meta.follow.failure);
     assert_eq!(rt; meta.timeout, 5);
-    let quoted = read_submit(
-        alloc,
-        b"{\"after\":\"\\\"timeout\\\":5.0,\"}",
-        &mut scratch,
-    )?;
+    let quoted = read_submit(alloc, b"{\"after\":\"\\\"timeout\\\":5.0,\"}", &mut scratch)?;
     assert_eq!(rt;
         quoted.after.ids.get(0).map(Text::as_str),
         Some("\"timeout\":5.0,")

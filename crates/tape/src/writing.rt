@@ -59,24 +59,13 @@ fn put_piece(into: &mut Vec<u8>, conn: u32, octets: &[u8]) -> Result<(), AllocEr
     Ok(())
 }
 
-/// The frame at a place.
-pub fn frame_at(frames: &Frames, place: usize) -> &[u8]
-    requires { place < length frames.now }
-    ensures { result.now ≡ slice_index_or frames.now place [] }
-{
-    match frames.get(place) {
-        Some(body) => body,
-        None => unreachable!(),
-    }
-}
-
 /// Appends frames one after another.
 fn put_frames(into: &mut Vec<u8>, frames: &Frames) -> Result<(), AllocError>
     requires { All FitsBlob frames.now }
     ensures { OnOk result (into.new.items ≡ into.old.items ++ flat_map blob frames.now) }
 {
     for place in 0..frames.len() {
-        put_blob(into, frame_at(frames, place))?;
+        put_blob(into, frames.at(place))?;
     }
     Ok(())
 }

@@ -11,7 +11,6 @@ use crate::sizes::size_of;
 use cluster_types::limits::{BODY_OCTETS, LAST_MOMENT, MESSAGE_OCTETS, TAPE_OCTETS};
 use edges::frames::Frames;
 use tape::record::{TapeKind, TapeRecord};
-use tape::writing::frame_at;
 
 /// The most connections that are up at once.
 const MOST_CONNECTIONS: usize = 1024;
@@ -46,7 +45,7 @@ fn are_short(frames: &Frames) -> bool
 {
     let mut short = true;
     for place in 0..frames.len() {
-        short = short && frame_at(frames, place).len() as u64 <= BODY_OCTETS;
+        short = short && frames.at(place).len() as u64 <= BODY_OCTETS;
     }
     short
 }
@@ -57,7 +56,7 @@ fn octets_of(frames: &Frames) -> u64
 {
     let mut size: u64 = 0;
     for place in 0..frames.len() {
-        size = size.saturating_add(frame_at(frames, place).len() as u64);
+        size = size.saturating_add(frames.at(place).len() as u64);
     }
     size
 }

@@ -20,7 +20,7 @@ use edges::frames::Frames;
 use hmac_sign::Key;
 use std::alloc::{AllocError, Global};
 use tape::record::{TapeKind, TapeRecord};
-use tape::writing::{frame_at, write_tape};
+use tape::writing::write_tape;
 use zmtp_frames::writing::write_ready;
 use zmtp_peer::writing::message_octets;
 
@@ -30,7 +30,7 @@ fn are_told(frames: &Frames) -> bool
 {
     let mut told = true;
     for place in 0..frames.len() {
-        told = told && frame_at(frames, place).len() <= FIELD_OCTETS;
+        told = told && frames.at(place).len() <= FIELD_OCTETS;
     }
     told
 }

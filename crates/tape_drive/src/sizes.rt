@@ -6,7 +6,6 @@ ghost use Rattle.tape_drive.specs.Sizes.{frame_size, frames_size, kind_size};
 
 use edges::frames::Frames;
 use tape::record::{TapeKind, TapeRecord};
-use tape::writing::frame_at;
 
 /// The octets of these and so many more, or the greatest number.
 fn size_with(octets: &[u8], more: u64) -> u64
@@ -21,7 +20,7 @@ fn frames_size(frames: &Frames) -> u64
 {
     let mut size: u64 = 0;
     for place in 0..frames.len() {
-        size = size.saturating_add(size_with(frame_at(frames, place), 4));
+        size = size.saturating_add(size_with(frames.at(place), 4));
     }
     size
 }

@@ -9,17 +9,6 @@ use octet_fields::writing::put_str8;
 use std::alloc::{AllocError, Global};
 use zmtp_frames::writing::{write_command, write_frame};
 
-/// The body of the frame at a place.
-fn frame_at(frames: &Frames, place: usize) -> &[u8]
-    requires { place < length frames.now }
-    ensures { result.now ≡ slice_index_or frames.now place [] }
-{
-    match frames.get(place) {
-        Some(body) => body,
-        None => unreachable!(),
-    }
-}
-
 /// The octets of one message: its frames in their written spelling, with MORE on all but the last.
 pub fn message_octets(alloc: Global, frames: &Frames) -> Result<Vec<u8>, AllocError>
     ensures { IfOk result (λ octets. octets.items ≡ message_written frames.now) }
@@ -27,7 +16,7 @@ pub fn message_octets(alloc: Global, frames: &Frames) -> Result<Vec<u8>, AllocEr
     let mut octets = Vec::new(alloc);
     let count = frames.len();
     for place in 0..count {
-        write_frame(&mut octets, count - place > 1, frame_at(frames, place))?;
+        write_frame(&mut octets, count - place > 1, frames.at(place))?;
     }
     Ok(octets)
 }

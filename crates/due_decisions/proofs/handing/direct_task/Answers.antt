@@ -9,5 +9,5 @@ use Rattle.due_decisions.proofs.handing.direct_task.Goals as goal
 
 pub returns : goal.returns
 returns c =
-    c.task_at.ensures ∙ ap (option_and_then (slice_get c.args.tasks.now)) c.direct_place.ensures
+    c.at.ensures ∙ ap (option_and_then (slice_get c.args.tasks.now)) c.direct_place.ensures
     ∙ find_open (λ t. is_some (ready_for (alone t) t.row.id)) (direct_closed) c.args.tasks.now

@@ -9,7 +9,7 @@ use Rattle.due_decisions.proofs.handing.waiting_task.Goals as goal
 
 pub returns-else-is_empty : goal.returns-else-is_empty
 returns-else-is_empty c =
-    c.task_at.ensures ∙ ap (option_and_then (slice_get c.args.tasks.now)) c.waiting_place.ensures
+    c.at.ensures ∙ ap (option_and_then (slice_get c.args.tasks.now)) c.waiting_place.ensures
     ∙ find_open (λ t. list_any (λ r. fits c.args.tasks.now t r.engine) c.args.rooms.now) (fits_closed c.args.tasks.now c.args.rooms.now) c.args.tasks.now
 
 pub returns-then-is_empty : goal.returns-then-is_empty

@@ -8,5 +8,5 @@ use Rattle.due_decisions.proofs.settling.failing_task.Goals as goal
 
 pub returns : goal.returns
 returns c =
-    c.task_at.ensures ∙ ap (option_and_then (slice_get c.args.tasks.now)) c.failing_place.ensures
+    c.at.ensures ∙ ap (option_and_then (slice_get c.args.tasks.now)) c.failing_place.ensures
     ∙ find_open (λ t. is_some (failing_in c.args.tasks.now c.args.engines.now c.args.now t)) (failing_closed c.args.tasks.now c.args.engines.now c.args.now) c.args.tasks.now

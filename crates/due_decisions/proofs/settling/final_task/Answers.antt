@@ -8,5 +8,5 @@ use Rattle.due_decisions.proofs.settling.final_task.Goals as goal
 
 pub returns : goal.returns
 returns c =
-    c.task_at.ensures ∙ ap (option_and_then (slice_get c.args.tasks.now)) c.final_place.ensures
+    c.at.ensures ∙ ap (option_and_then (slice_get c.args.tasks.now)) c.final_place.ensures
     ∙ find_open (final_at) (final_closed) c.args.tasks.now
