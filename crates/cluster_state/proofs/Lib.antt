@@ -16,3 +16,4 @@ pub mod Places
 pub mod Purging
 pub mod Steps
 pub mod Told
+pub mod Targets

@@ -1,6 +1,6 @@
 //! Requests for tasks: which are accepted, and what they make.
 
-ghost use Rattle.std.specs.Prelude.{◌≡◌, ◌+◌, ◌++◌, ◌∷◌, ◌||◌, ◌&&◌, not, [], map, filter, length, is_none, is_some, IfOk, OnOk, Some, None, option_map, bytes_eq, take, ℕ, List};
+ghost use Rattle.std.specs.Prelude.{◌≡◌, ◌+◌, ◌++◌, ◌∷◌, ◌||◌, ◌&&◌, not, [], map, filter, length, is_none, is_some, IfOk, OnOk, Some, None, option_map, bytes_eq, take, ℕ, List, if◌then◌else◌};
 ghost use Rattle.std.specs.BTreeMap.{get_by};
 ghost use Rattle.std.specs.Cmp.Lexicographic.{slice_cmp};
 ghost use Rattle.std.specs.Ordering.{nat_cmp};
@@ -120,6 +120,16 @@ fn is_in(set: &BTreeMap<&str, ()>, text: &Text) -> bool
     set.contains_key(text.as_str())
 }
 
+/// Puts a number at the end of a list, where it is wanted there.
+fn push_if(numbers: &mut Engines, wanted: bool, number: u32) -> Result<(), AllocError>
+    ensures { OnOk result (numbers.new ≡ numbers.old ++ (if wanted then number ∷ [] else [])) }
+{
+    if wanted {
+        numbers.push(number)?;
+    }
+    Ok(())
+}
+
 /// The numbers of the engines whose uuid is listed. Each engine is looked up once among the uuids.
 pub fn targets_of(alloc: Global, live: &[Engine], uuids: &[Text]) -> Result<Engines, AllocError>
     ensures { IfOk result (λ t. t ≡ targets_of live.now uuids.now) }
@@ -130,9 +140,7 @@ pub fn targets_of(alloc: Global, live: &[Engine], uuids: &[Text]) -> Result<Engi
     }
     let listed = set_of(alloc, uuids)?;
     for engine in live {
-        if is_in(&listed, &engine.uuid) {
-            targets.push(engine.number)?;
-        }
+        push_if(&mut targets, is_in(&listed, &engine.uuid), engine.number)?;
     }
     Ok(targets)
 }
