@@ -3,7 +3,7 @@
 ghost use Rattle.std.specs.Prelude.{◌≡◌, ◌≤◌, ◌+◌, ◌-◌, ◌^◌, ◌==◌, ◌↔◌, ℕ, min, length, if◌then◌else◌, IsErr};
 ghost use Rattle.disk_model.specs.Memory.{Calls, content_of, image_of, image_since_of};
 ghost use Rattle.disk_model.specs.Fuse.{Fused};
-ghost use Rattle.disk_model.specs.Laws.{reads_now, counts_now, only_now};
+ghost use Rattle.disk_model.specs.Laws.{reads_now, counts_now, widens, only_now};
 
 use crate::disk::{Disk, Failed};
 use crate::memory::MemDisk;
@@ -79,6 +79,8 @@ impl Disk for FuseDisk {
     ghost reads_now = { λ f told. reads_now f.disk.first f.disk.calls };
 
     ghost counts_now = { λ f t c le now. counts_now f.disk.first f.disk.calls t c now };
+
+    ghost widens = { λ f t u c earlier le since. widens f.disk.first f.disk.calls t u c earlier since };
 
     ghost only_now = { λ f c since. only_now f.disk.first f.disk.calls c since };
 

@@ -2,7 +2,7 @@
 
 ghost use Rattle.std.specs.Prelude.{◌≡◌, ◌≤◌, ◌<◌, ◌+◌, ◌-◌, ◌^◌, min, List, ℕ, [], ◌∷◌, ◌++◌, length, take, drop, IfOk, OnOk, OnErr};
 ghost use Rattle.disk_model.specs.Memory.{Calls, content_of, image_of, image_since_of};
-ghost use Rattle.disk_model.specs.Laws.{reads_now, counts_now, only_now};
+ghost use Rattle.disk_model.specs.Laws.{reads_now, counts_now, widens, only_now};
 
 use crate::call::Call;
 use crate::disk::{Disk, Failed};
@@ -124,6 +124,8 @@ impl Disk for MemDisk {
     ghost reads_now = { λ d told. reads_now d.first d.calls };
 
     ghost counts_now = { λ d t c le now. counts_now d.first d.calls t c now };
+
+    ghost widens = { λ d t u c earlier le since. widens d.first d.calls t u c earlier since };
 
     ghost only_now = { λ d c since. only_now d.first d.calls c since };
 

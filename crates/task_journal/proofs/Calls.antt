@@ -12,13 +12,14 @@ only_reads content image moment image_since faults old new same images time coun
   same = same;
   images = images;
   later = time.later;
+  keeps = time.keeps;
   since = λ t c le since. ⊎_elim (λ past. inl past) (λ now. inr (images c now)) (time.nothing_else t c le since);
   counted = counted;
 }
 
 -- no call
 pub none_reads : {D : Type 0} (content : D → List ℕ) (image : D → List ℕ → Type 0) (moment : D → ℕ) (image_since : D → ℕ → List ℕ → Type 0) (faults : D → ℕ) (old : D) → OnlyReads content image moment image_since faults old old
-none_reads content image moment image_since faults old = record { same = refl; images = λ c now. now; later = omega arith; since = λ t c le since. inl since; counted = omega arith }
+none_reads content image moment image_since faults old = record { same = refl; images = λ c now. now; later = omega arith; keeps = λ t c le since. since; since = λ t c le since. inl since; counted = omega arith }
 
 -- calls after other calls
 pub reads_joined : {D : Type 0} {content : D → List ℕ} {image : D → List ℕ → Type 0} {moment : D → ℕ} {image_since : D → ℕ → List ℕ → Type 0} {faults : D → ℕ} {old mid new : D}
@@ -27,6 +28,7 @@ reads_joined {moment = moment} {old = old} {mid = mid} first second = record {
   same = second.same ∙ first.same;
   images = λ c now. first.images c (second.images c now);
   later = omega (arith, first.later, second.later);
+  keeps = λ t c le since. second.keeps t c (omega (arith, le, first.later)) (first.keeps t c le since);
   since = λ t c le since. ⊎_elim (λ past. first.since t c le past) (λ now. inr (first.images c now)) (second.since t c (omega (arith, le, first.later)) since);
   counted = omega (arith, first.counted, second.counted);
 }

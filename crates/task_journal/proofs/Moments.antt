@@ -1,5 +1,5 @@
 -- How a run of calls goes on: what a crash may leave at each moment of it.
-use Rattle.std.proofs.Common.{inl, inr, ⊎_elim, ℕ, List, arith}
+use Rattle.std.proofs.Common.{◌≤◌, inl, inr, ⊎_elim, ℕ, List, arith}
 use Rattle.disk_model.specs.Crashes.{NoMore, Elapses, LeavesOnly}
 use Rattle.task_journal.specs.Reads.{OnlyReads}
 
@@ -8,11 +8,13 @@ pub record Going {D : Type 0} (moment : D → ℕ) (image : D → List ℕ → T
   pub leaves : LeavesOnly moment image_since old new P
   pub now : (c : List ℕ) → image new c → P c
 
-module _ {D : Type 0} (moment : D → ℕ) (image : D → List ℕ → Type 0) (image_since : D → ℕ → List ℕ → Type 0) where
+module _ {D : Type 0} (moment : D → ℕ) (image : D → List ℕ → Type 0) (image_since : D → ℕ → List ℕ → Type 0)
+    (counts : (disk : D) (t : ℕ) (c : List ℕ) → t ≤ moment disk → image disk c → image_since disk t c)
+    (widens : (disk : D) (t u : ℕ) (c : List ℕ) → t ≤ u → u ≤ moment disk → image_since disk u c → image_since disk t c) where
   -- before the first call
   pub starts : (old : D) (P : List ℕ → Type 0) → ((c : List ℕ) → image_since old (moment old) c → image old c) → ((c : List ℕ) → image old c → P c) → Going moment image image_since old old P
   starts old P only here = record {
-    leaves = record { later = omega arith; each = λ c since. here c (only c since); before = λ t c le since. inl since };
+    leaves = record { later = omega arith; each = λ c since. here c (only c since); keeps = λ t c le since. since; before = λ t c le since. inl since };
     now = here;
   }
 
@@ -22,7 +24,10 @@ module _ {D : Type 0} (moment : D → ℕ) (image : D → List ℕ → Type 0) (
     leaves = record {
       later = omega (arith, so_far.leaves.later, time.later);
       each = λ c since. ⊎_elim (so_far.leaves.each c) (here c) (time.nothing_else (moment old) c so_far.leaves.later since);
-      before = λ t c le since. ⊎_elim (so_far.leaves.before t c le) (λ now. inr (here c now)) (time.nothing_else t c (omega (arith, le, so_far.leaves.later)) since);
+      keeps = λ t c le since. time.keeps t c (omega (arith, le, so_far.leaves.later)) (so_far.leaves.keeps t c le since);
+      before = λ t c le since.
+          ⊎_elim (λ past. ⊎_elim (λ told. inl told) (λ now. inr (time.keeps (moment old) c so_far.leaves.later now)) (so_far.leaves.before t c le past))
+          (λ now. inr (counts new (moment old) c (omega (arith, so_far.leaves.later, time.later)) now)) (time.nothing_else t c (omega (arith, le, so_far.leaves.later)) since);
     };
     now = here;
   }
@@ -37,7 +42,10 @@ module _ {D : Type 0} (moment : D → ℕ) (image : D → List ℕ → Type 0) (
     leaves = record {
       later = omega (arith, so_far.leaves.later, only.later);
       each = λ c since. ⊎_elim (so_far.leaves.each c) (so_far.now c) (only.since (moment old) c so_far.leaves.later since);
-      before = λ t c le since. ⊎_elim (so_far.leaves.before t c le) (λ now. inr (so_far.now c now)) (only.since t c (omega (arith, le, so_far.leaves.later)) since);
+        keeps = λ t c le since. only.keeps t c (omega (arith, le, so_far.leaves.later)) (so_far.leaves.keeps t c le since);
+      before = λ t c le since.
+          ⊎_elim (λ past. ⊎_elim (λ told. inl told) (λ now. inr (only.keeps (moment old) c so_far.leaves.later now)) (so_far.leaves.before t c le past))
+          (λ now. inr (only.keeps (moment old) c so_far.leaves.later (counts mid (moment old) c so_far.leaves.later now))) (only.since t c (omega (arith, le, so_far.leaves.later)) since);
     };
     now = λ c now. so_far.now c (only.images c now);
   }
@@ -46,6 +54,9 @@ module _ {D : Type 0} (moment : D → ℕ) (image : D → List ℕ → Type 0) (
   pub joined : (old mid new : D) (P Q : List ℕ → Type 0) → Going moment image image_since old mid P → LeavesOnly moment image_since mid new Q → ((c : List ℕ) → Q c → P c) → LeavesOnly moment image_since old new P
   joined old mid new P Q so_far then within = record {
     later = omega (arith, so_far.leaves.later, then.later);
-    each = λ c since. ⊎_elim (so_far.leaves.each c) (within c) (then.before (moment old) c so_far.leaves.later since);
-    before = λ t c le since. ⊎_elim (so_far.leaves.before t c le) (λ q. inr (within c q)) (then.before t c (omega (arith, le, so_far.leaves.later)) since);
+    each = λ c since. ⊎_elim (so_far.leaves.each c) (λ now. within c (then.each c now)) (then.before (moment old) c so_far.leaves.later since);
+    keeps = λ t c le since. then.keeps t c (omega (arith, le, so_far.leaves.later)) (so_far.leaves.keeps t c le since);
+    before = λ t c le since.
+        ⊎_elim (λ past. ⊎_elim (λ told. inl told) (λ now. inr (then.keeps (moment old) c so_far.leaves.later now)) (so_far.leaves.before t c le past))
+        (λ now. inr (widens new (moment old) (moment mid) c so_far.leaves.later then.later now)) (then.before t c (omega (arith, le, so_far.leaves.later)) since);
   }

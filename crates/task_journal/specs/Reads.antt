@@ -7,5 +7,6 @@ pub record OnlyReads {D : Type 0} (content : D → List ℕ) (image : D → List
   pub same : content new ≡ content old
   pub images : NoMore (image old) (image new)
   pub later : moment old ≤ moment new
+  pub keeps : (t : ℕ) (c : List ℕ) → t ≤ moment old → image_since old t c → image_since new t c
   pub since : (t : ℕ) (c : List ℕ) → t ≤ moment old → image_since new t c → image_since old t c ⊎ image old c
   pub counted : faults old ≤ faults new

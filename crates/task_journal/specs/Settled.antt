@@ -1,7 +1,7 @@
 -- A journal on a disk: where it goes on, and what a crash may leave of it.
 use Rattle.std.specs.Prelude.{◌≡◌, ◌⊎◌, ℕ, ◌+◌, ◌^◌, ◌<◌, ◌≤◌, List, ◌++◌, length, Bool, Some}
 use Rattle.cluster_types.specs.declared.entry.Entry.{Entry}
-use Rattle.disk_model.specs.Crashes.{Only}
+use Rattle.disk_model.specs.Crashes.{Only, NoMore}
 use Rattle.task_journal.specs.declared.fault.OpenFault.{OpenFault}
 use Rattle.task_journal.specs.declared.fault.OpenFault.TheVariants.{NotAJournal, Damaged, DiskFault, OutOfMemory}
 use Rattle.task_journal.specs.Journal.{StandsFor, IsSame, place_in, journal}
@@ -29,6 +29,10 @@ Outcome entries batch octets = StandsFor octets entries ⊎ StandsFor octets (en
 -- the disk is as it may have been before, or stands for the same as it did when it was read
 abbrev pub Unharmed : (List ℕ → Type 0) → List ℕ → List ℕ → Type 0
 Unharmed image content octets = image octets ⊎ IsSame octets content
+
+-- at the end of a call: a crash leaves what it might have left before, or always what stands for the same
+abbrev pub Spared : (List ℕ → Type 0) → List ℕ → (List ℕ → Type 0) → Type 0
+Spared old content new = NoMore old new ⊎ ((c : List ℕ) → new c → IsSame c content)
 
 -- a fact where the octets themselves are refused
 abbrev pub OnRefusal : OpenFault → Type 0 → Type 0

@@ -5,7 +5,7 @@ ghost use Rattle.cluster_types.specs.declared.entry.Entry.{Entry as EntryType};
 ghost use Rattle.cluster_types.specs.Causes.{Rose};
 ghost use Rattle.disk_model.specs.Crashes.{Only, NoMore, LeavesOnly};
 ghost use Rattle.task_journal.specs.Journal.{StandsFor, Gives, Fails, IsSame, head, holding, journal};
-ghost use Rattle.task_journal.specs.Settled.{IsReady, Unharmed, OnRefusal};
+ghost use Rattle.task_journal.specs.Settled.{IsReady, Unharmed, Spared, OnRefusal};
 
 use crate::fault::OpenFault;
 use crate::found::{Found, Places};
@@ -51,6 +51,7 @@ fn prepare<D: Disk>(alloc: Global, disk: &mut D) -> Result<(Found, u64), OpenFau
     ensures made { D.tells → length (D.content disk.old) < 33 → OnOk result (D.content disk.new ≡ head ++ 0 ∷ 0 ∷ []) }
     ensures any_moment { D.tells → LeavesOnly D.moment D.image_since disk.old disk.new
         (Unharmed (D.image disk.old) (D.content disk.old)) }
+    ensures spared { D.tells → IsErr result → Spared (D.image disk.old) (D.content disk.old) (D.image disk.new) }
     ensures untouched { IfErr result (λ e. OnRefusal e (NoMore (D.image disk.old) (D.image disk.new))) }
     ensures later { D.faults disk.old ≤ D.faults disk.new }
     ensures cause { IsErrOf result OpenFault.DiskFault → Rose (D.faults disk.old) (D.faults disk.new) }
@@ -78,6 +79,8 @@ impl<D: Disk> Journal<D> {
         ensures durable { D.tells → IfOk result (λ x. Only (D.content x.0.disk) (D.image x.0.disk)) }
         ensures open { IfOk result (λ x. x.0.failed ≡ false) }
         ensures refused { D.tells → IfErr result (λ r. Fails r.why (journal (D.content disk))) }
+        // At a refusal a crash leaves what it might have left before, or always what stands for the same entries.
+        ensures spared { D.tells → IfErr result (λ r. Spared (D.image disk) (D.content disk) (D.image r.disk)) }
         ensures untouched { IfErr result (λ r. OnRefusal r.why (NoMore (D.image disk) (D.image r.disk))) }
         // A crash at any moment of the call leaves what it might have left before, or what stands for the same entries.
         ensures any_moment { D.tells → IfOk result (λ x.

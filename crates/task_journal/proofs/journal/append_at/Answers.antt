@@ -26,9 +26,9 @@ returns-in_err-write_at-clause-any_moment g c = λ told list es is_batch stands.
     let o = opened disk c.args.gate list ready.settled stands in
     let at : c.saturating_add-behind.result ≡ c.args.gate + 1 = omega (arith, ready.settled.room, c.saturating_add-behind.ensures) in
     let P = Outcome list es in
-    let begun = starts g.D.Disk.moment g.D.Disk.image g.D.Disk.image_since c.args.disk.now P (g.met.D.Disk.only_now c.args.disk.now) (λ f now. inl (subst (λ (z : List ℕ). StandsFor z list) (sym (ready.durable f now)) stands)) in
+    let begun = starts g.D.Disk.moment g.D.Disk.image g.D.Disk.image_since g.met.D.Disk.counts_now g.met.D.Disk.widens c.args.disk.now P (g.met.D.Disk.only_now c.args.disk.now) (λ f now. inl (subst (λ (z : List ℕ). StandsFor z list) (sym (ready.durable f now)) stands)) in
     let first = first_image disk c.args.gate list o c.saturating_add-behind.result (length c.args.octets.now) (g.D.Disk.image c.args.disk.now) (g.D.Disk.image c.write_at.new.self) at ready.durable c.write_at.ensures.images in
-    let behind = goes g.D.Disk.moment g.D.Disk.image g.D.Disk.image_since c.args.disk.now c.args.disk.now c.write_at.new.self P begun c.write_at.ensures.time (λ f now. inl (first f now)) in
+    let behind = goes g.D.Disk.moment g.D.Disk.image g.D.Disk.image_since g.met.D.Disk.counts_now g.met.D.Disk.widens c.args.disk.now c.args.disk.now c.write_at.new.self P begun c.write_at.ensures.time (λ f now. inl (first f now)) in
     behind.leaves
 
 pub returns-in_err-sync-clause-any_moment : goal.returns-in_err-sync-clause-any_moment
@@ -38,10 +38,10 @@ returns-in_err-sync-clause-any_moment g c = λ told list es is_batch stands.
     let o = opened disk c.args.gate list ready.settled stands in
     let at : c.saturating_add-behind.result ≡ c.args.gate + 1 = omega (arith, ready.settled.room, c.saturating_add-behind.ensures) in
     let P = Outcome list es in
-    let begun = starts g.D.Disk.moment g.D.Disk.image g.D.Disk.image_since c.args.disk.now P (g.met.D.Disk.only_now c.args.disk.now) (λ f now. inl (subst (λ (z : List ℕ). StandsFor z list) (sym (ready.durable f now)) stands)) in
+    let begun = starts g.D.Disk.moment g.D.Disk.image g.D.Disk.image_since g.met.D.Disk.counts_now g.met.D.Disk.widens c.args.disk.now P (g.met.D.Disk.only_now c.args.disk.now) (λ f now. inl (subst (λ (z : List ℕ). StandsFor z list) (sym (ready.durable f now)) stands)) in
     let first = first_image disk c.args.gate list o c.saturating_add-behind.result (length c.args.octets.now) (g.D.Disk.image c.args.disk.now) (g.D.Disk.image c.write_at.new.self) at ready.durable c.write_at.ensures.images in
-    let behind = goes g.D.Disk.moment g.D.Disk.image g.D.Disk.image_since c.args.disk.now c.args.disk.now c.write_at.new.self P begun c.write_at.ensures.time (λ f now. inl (first f now)) in
-    let kept = stays g.D.Disk.moment g.D.Disk.image g.D.Disk.image_since c.args.disk.now c.write_at.new.self c.sync.new.self P behind c.sync.ensures.time c.sync.ensures.images in
+    let behind = goes g.D.Disk.moment g.D.Disk.image g.D.Disk.image_since g.met.D.Disk.counts_now g.met.D.Disk.widens c.args.disk.now c.args.disk.now c.write_at.new.self P begun c.write_at.ensures.time (λ f now. inl (first f now)) in
+    let kept = stays g.D.Disk.moment g.D.Disk.image g.D.Disk.image_since g.met.D.Disk.counts_now g.met.D.Disk.widens c.args.disk.now c.write_at.new.self c.sync.new.self P behind c.sync.ensures.time c.sync.ensures.images in
     kept.leaves
 
 -- the second leaves them with the batch or without
@@ -52,14 +52,14 @@ returns-in_err-write_at-2-clause-any_moment g c = λ told list es is_batch stand
     let o = opened disk c.args.gate list ready.settled stands in
     let at : c.saturating_add-behind.result ≡ c.args.gate + 1 = omega (arith, ready.settled.room, c.saturating_add-behind.ensures) in
     let P = Outcome list es in
-    let begun = starts g.D.Disk.moment g.D.Disk.image g.D.Disk.image_since c.args.disk.now P (g.met.D.Disk.only_now c.args.disk.now) (λ f now. inl (subst (λ (z : List ℕ). StandsFor z list) (sym (ready.durable f now)) stands)) in
+    let begun = starts g.D.Disk.moment g.D.Disk.image g.D.Disk.image_since g.met.D.Disk.counts_now g.met.D.Disk.widens c.args.disk.now P (g.met.D.Disk.only_now c.args.disk.now) (λ f now. inl (subst (λ (z : List ℕ). StandsFor z list) (sym (ready.durable f now)) stands)) in
     let first = first_image disk c.args.gate list o c.saturating_add-behind.result (length c.args.octets.now) (g.D.Disk.image c.args.disk.now) (g.D.Disk.image c.write_at.new.self) at ready.durable c.write_at.ensures.images in
-    let behind = goes g.D.Disk.moment g.D.Disk.image g.D.Disk.image_since c.args.disk.now c.args.disk.now c.write_at.new.self P begun c.write_at.ensures.time (λ f now. inl (first f now)) in
-    let kept = stays g.D.Disk.moment g.D.Disk.image g.D.Disk.image_since c.args.disk.now c.write_at.new.self c.sync.new.self P behind c.sync.ensures.time c.sync.ensures.images in
+    let behind = goes g.D.Disk.moment g.D.Disk.image g.D.Disk.image_since g.met.D.Disk.counts_now g.met.D.Disk.widens c.args.disk.now c.args.disk.now c.write_at.new.self P begun c.write_at.ensures.time (λ f now. inl (first f now)) in
+    let kept = stays g.D.Disk.moment g.D.Disk.image g.D.Disk.image_since g.met.D.Disk.counts_now g.met.D.Disk.widens c.args.disk.now c.write_at.new.self c.sync.new.self P behind c.sync.ensures.time c.sync.ensures.images in
     let rest = drop (c.args.gate + 1 + length c.args.octets.now) disk in
     let staged : g.D.Disk.content c.write_at.new.self ≡ o.front ++ o.shut ∷ (c.args.octets.now ++ rest) = first_done disk c.args.gate list o c.args.octets.now (g.D.Disk.content c.write_at.new.self) (subst (λ (n : ℕ). Written disk n c.args.octets.now (g.D.Disk.content c.write_at.new.self)) at (c.in_ok-write_at.ensures.written told)) in
     let second = gate_image disk c.args.gate list o es c.args.octets.now rest (g.D.Disk.content c.write_at.new.self) (g.D.Disk.image c.sync.new.self) (g.D.Disk.image c.write_at-2.new.self) is_batch staged c.in_ok-sync.ensures.durable c.write_at-2.ensures.images in
-    let over = goes g.D.Disk.moment g.D.Disk.image g.D.Disk.image_since c.args.disk.now c.sync.new.self c.write_at-2.new.self P kept c.write_at-2.ensures.time second in
+    let over = goes g.D.Disk.moment g.D.Disk.image g.D.Disk.image_since g.met.D.Disk.counts_now g.met.D.Disk.widens c.args.disk.now c.sync.new.self c.write_at-2.new.self P kept c.write_at-2.ensures.time second in
     over.leaves
 
 pub returns-in_err-sync-2-clause-any_moment : goal.returns-in_err-sync-2-clause-any_moment
@@ -69,15 +69,15 @@ returns-in_err-sync-2-clause-any_moment g c = λ told list es is_batch stands.
     let o = opened disk c.args.gate list ready.settled stands in
     let at : c.saturating_add-behind.result ≡ c.args.gate + 1 = omega (arith, ready.settled.room, c.saturating_add-behind.ensures) in
     let P = Outcome list es in
-    let begun = starts g.D.Disk.moment g.D.Disk.image g.D.Disk.image_since c.args.disk.now P (g.met.D.Disk.only_now c.args.disk.now) (λ f now. inl (subst (λ (z : List ℕ). StandsFor z list) (sym (ready.durable f now)) stands)) in
+    let begun = starts g.D.Disk.moment g.D.Disk.image g.D.Disk.image_since g.met.D.Disk.counts_now g.met.D.Disk.widens c.args.disk.now P (g.met.D.Disk.only_now c.args.disk.now) (λ f now. inl (subst (λ (z : List ℕ). StandsFor z list) (sym (ready.durable f now)) stands)) in
     let first = first_image disk c.args.gate list o c.saturating_add-behind.result (length c.args.octets.now) (g.D.Disk.image c.args.disk.now) (g.D.Disk.image c.write_at.new.self) at ready.durable c.write_at.ensures.images in
-    let behind = goes g.D.Disk.moment g.D.Disk.image g.D.Disk.image_since c.args.disk.now c.args.disk.now c.write_at.new.self P begun c.write_at.ensures.time (λ f now. inl (first f now)) in
-    let kept = stays g.D.Disk.moment g.D.Disk.image g.D.Disk.image_since c.args.disk.now c.write_at.new.self c.sync.new.self P behind c.sync.ensures.time c.sync.ensures.images in
+    let behind = goes g.D.Disk.moment g.D.Disk.image g.D.Disk.image_since g.met.D.Disk.counts_now g.met.D.Disk.widens c.args.disk.now c.args.disk.now c.write_at.new.self P begun c.write_at.ensures.time (λ f now. inl (first f now)) in
+    let kept = stays g.D.Disk.moment g.D.Disk.image g.D.Disk.image_since g.met.D.Disk.counts_now g.met.D.Disk.widens c.args.disk.now c.write_at.new.self c.sync.new.self P behind c.sync.ensures.time c.sync.ensures.images in
     let rest = drop (c.args.gate + 1 + length c.args.octets.now) disk in
     let staged : g.D.Disk.content c.write_at.new.self ≡ o.front ++ o.shut ∷ (c.args.octets.now ++ rest) = first_done disk c.args.gate list o c.args.octets.now (g.D.Disk.content c.write_at.new.self) (subst (λ (n : ℕ). Written disk n c.args.octets.now (g.D.Disk.content c.write_at.new.self)) at (c.in_ok-write_at.ensures.written told)) in
     let second = gate_image disk c.args.gate list o es c.args.octets.now rest (g.D.Disk.content c.write_at.new.self) (g.D.Disk.image c.sync.new.self) (g.D.Disk.image c.write_at-2.new.self) is_batch staged c.in_ok-sync.ensures.durable c.write_at-2.ensures.images in
-    let over = goes g.D.Disk.moment g.D.Disk.image g.D.Disk.image_since c.args.disk.now c.sync.new.self c.write_at-2.new.self P kept c.write_at-2.ensures.time second in
-    let ended = stays g.D.Disk.moment g.D.Disk.image g.D.Disk.image_since c.args.disk.now c.write_at-2.new.self c.sync-2.new.self P over c.sync-2.ensures.time c.sync-2.ensures.images in
+    let over = goes g.D.Disk.moment g.D.Disk.image g.D.Disk.image_since g.met.D.Disk.counts_now g.met.D.Disk.widens c.args.disk.now c.sync.new.self c.write_at-2.new.self P kept c.write_at-2.ensures.time second in
+    let ended = stays g.D.Disk.moment g.D.Disk.image g.D.Disk.image_since g.met.D.Disk.counts_now g.met.D.Disk.widens c.args.disk.now c.write_at-2.new.self c.sync-2.new.self P over c.sync-2.ensures.time c.sync-2.ensures.images in
     ended.leaves
 
 pub returns-clause-any_moment : goal.returns-clause-any_moment
@@ -87,15 +87,15 @@ returns-clause-any_moment g c = λ told list es is_batch stands.
     let o = opened disk c.args.gate list ready.settled stands in
     let at : c.saturating_add-behind.result ≡ c.args.gate + 1 = omega (arith, ready.settled.room, c.saturating_add-behind.ensures) in
     let P = Outcome list es in
-    let begun = starts g.D.Disk.moment g.D.Disk.image g.D.Disk.image_since c.args.disk.now P (g.met.D.Disk.only_now c.args.disk.now) (λ f now. inl (subst (λ (z : List ℕ). StandsFor z list) (sym (ready.durable f now)) stands)) in
+    let begun = starts g.D.Disk.moment g.D.Disk.image g.D.Disk.image_since g.met.D.Disk.counts_now g.met.D.Disk.widens c.args.disk.now P (g.met.D.Disk.only_now c.args.disk.now) (λ f now. inl (subst (λ (z : List ℕ). StandsFor z list) (sym (ready.durable f now)) stands)) in
     let first = first_image disk c.args.gate list o c.saturating_add-behind.result (length c.args.octets.now) (g.D.Disk.image c.args.disk.now) (g.D.Disk.image c.write_at.new.self) at ready.durable c.write_at.ensures.images in
-    let behind = goes g.D.Disk.moment g.D.Disk.image g.D.Disk.image_since c.args.disk.now c.args.disk.now c.write_at.new.self P begun c.write_at.ensures.time (λ f now. inl (first f now)) in
-    let kept = stays g.D.Disk.moment g.D.Disk.image g.D.Disk.image_since c.args.disk.now c.write_at.new.self c.sync.new.self P behind c.sync.ensures.time c.sync.ensures.images in
+    let behind = goes g.D.Disk.moment g.D.Disk.image g.D.Disk.image_since g.met.D.Disk.counts_now g.met.D.Disk.widens c.args.disk.now c.args.disk.now c.write_at.new.self P begun c.write_at.ensures.time (λ f now. inl (first f now)) in
+    let kept = stays g.D.Disk.moment g.D.Disk.image g.D.Disk.image_since g.met.D.Disk.counts_now g.met.D.Disk.widens c.args.disk.now c.write_at.new.self c.sync.new.self P behind c.sync.ensures.time c.sync.ensures.images in
     let rest = drop (c.args.gate + 1 + length c.args.octets.now) disk in
     let staged : g.D.Disk.content c.write_at.new.self ≡ o.front ++ o.shut ∷ (c.args.octets.now ++ rest) = first_done disk c.args.gate list o c.args.octets.now (g.D.Disk.content c.write_at.new.self) (subst (λ (n : ℕ). Written disk n c.args.octets.now (g.D.Disk.content c.write_at.new.self)) at (c.in_ok-write_at.ensures.written told)) in
     let second = gate_image disk c.args.gate list o es c.args.octets.now rest (g.D.Disk.content c.write_at.new.self) (g.D.Disk.image c.sync.new.self) (g.D.Disk.image c.write_at-2.new.self) is_batch staged c.in_ok-sync.ensures.durable c.write_at-2.ensures.images in
-    let over = goes g.D.Disk.moment g.D.Disk.image g.D.Disk.image_since c.args.disk.now c.sync.new.self c.write_at-2.new.self P kept c.write_at-2.ensures.time second in
-    let ended = stays g.D.Disk.moment g.D.Disk.image g.D.Disk.image_since c.args.disk.now c.write_at-2.new.self c.sync-2.new.self P over c.sync-2.ensures.time c.sync-2.ensures.images in
+    let over = goes g.D.Disk.moment g.D.Disk.image g.D.Disk.image_since g.met.D.Disk.counts_now g.met.D.Disk.widens c.args.disk.now c.sync.new.self c.write_at-2.new.self P kept c.write_at-2.ensures.time second in
+    let ended = stays g.D.Disk.moment g.D.Disk.image g.D.Disk.image_since g.met.D.Disk.counts_now g.met.D.Disk.widens c.args.disk.now c.write_at-2.new.self c.sync-2.new.self P over c.sync-2.ensures.time c.sync-2.ensures.images in
     ended.leaves
 
 -- and then the batch is on the disk

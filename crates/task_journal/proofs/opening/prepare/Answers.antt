@@ -14,19 +14,19 @@ pub returns-in_err-make-clause-any_moment : goal.returns-in_err-make-clause-any_
 returns-in_err-make-clause-any_moment g c = λ told.
     let short : length (g.D.Disk.content c.args.disk.now) < 33 = subst (λ (z : List ℕ). length z < 33) c.sync.ensures.same (short_at_0 (g.D.Disk.content c.sync.new.self) c.in_ok-found.found c.in_ok-found.gate (c.in_ok-found.ensures.value told) c.in_ok-found.ensures.gate c.if-gate-eq0.true) in
     let P = Unharmed (g.D.Disk.image c.args.disk.now) (g.D.Disk.content c.args.disk.now) in
-    let begun = starts g.D.Disk.moment g.D.Disk.image g.D.Disk.image_since c.args.disk.now P (g.met.D.Disk.only_now c.args.disk.now) (λ f now. inl now) in
-    let synced = stays g.D.Disk.moment g.D.Disk.image g.D.Disk.image_since c.args.disk.now c.args.disk.now c.sync.new.self P begun c.sync.ensures.time c.sync.ensures.images in
-    let known = reads g.D.Disk.moment g.D.Disk.image g.D.Disk.image_since g.D.Disk.content g.D.Disk.faults c.args.disk.now c.sync.new.self c.read_found.new.disk P synced c.read_found.ensures.reads in
-    joined g.D.Disk.moment g.D.Disk.image g.D.Disk.image_since c.args.disk.now c.read_found.new.disk c.make.new.disk P (λ f. StandsFor f []) known (c.make.ensures.any_moment told) (λ f empty. inr (same_empty f (g.D.Disk.content c.args.disk.now) short empty))
+    let begun = starts g.D.Disk.moment g.D.Disk.image g.D.Disk.image_since g.met.D.Disk.counts_now g.met.D.Disk.widens c.args.disk.now P (g.met.D.Disk.only_now c.args.disk.now) (λ f now. inl now) in
+    let synced = stays g.D.Disk.moment g.D.Disk.image g.D.Disk.image_since g.met.D.Disk.counts_now g.met.D.Disk.widens c.args.disk.now c.args.disk.now c.sync.new.self P begun c.sync.ensures.time c.sync.ensures.images in
+    let known = reads g.D.Disk.moment g.D.Disk.image g.D.Disk.image_since g.met.D.Disk.counts_now g.met.D.Disk.widens g.D.Disk.content g.D.Disk.faults c.args.disk.now c.sync.new.self c.read_found.new.disk P synced c.read_found.ensures.reads in
+    joined g.D.Disk.moment g.D.Disk.image g.D.Disk.image_since g.met.D.Disk.counts_now g.met.D.Disk.widens c.args.disk.now c.read_found.new.disk c.make.new.disk P (λ f. StandsFor f []) known (c.make.ensures.any_moment told) (λ f empty. inr (same_empty f (g.D.Disk.content c.args.disk.now) short empty))
 
 pub returns-then-gate-eq0-clause-any_moment : goal.returns-then-gate-eq0-clause-any_moment
 returns-then-gate-eq0-clause-any_moment g c = λ told.
     let short : length (g.D.Disk.content c.args.disk.now) < 33 = subst (λ (z : List ℕ). length z < 33) c.sync.ensures.same (short_at_0 (g.D.Disk.content c.sync.new.self) c.in_ok-found.found c.in_ok-found.gate (c.in_ok-found.ensures.value told) c.in_ok-found.ensures.gate c.if-gate-eq0.true) in
     let P = Unharmed (g.D.Disk.image c.args.disk.now) (g.D.Disk.content c.args.disk.now) in
-    let begun = starts g.D.Disk.moment g.D.Disk.image g.D.Disk.image_since c.args.disk.now P (g.met.D.Disk.only_now c.args.disk.now) (λ f now. inl now) in
-    let synced = stays g.D.Disk.moment g.D.Disk.image g.D.Disk.image_since c.args.disk.now c.args.disk.now c.sync.new.self P begun c.sync.ensures.time c.sync.ensures.images in
-    let known = reads g.D.Disk.moment g.D.Disk.image g.D.Disk.image_since g.D.Disk.content g.D.Disk.faults c.args.disk.now c.sync.new.self c.read_found.new.disk P synced c.read_found.ensures.reads in
-    joined g.D.Disk.moment g.D.Disk.image g.D.Disk.image_since c.args.disk.now c.read_found.new.disk c.make.new.disk P (λ f. StandsFor f []) known (c.make.ensures.any_moment told) (λ f empty. inr (same_empty f (g.D.Disk.content c.args.disk.now) short empty))
+    let begun = starts g.D.Disk.moment g.D.Disk.image g.D.Disk.image_since g.met.D.Disk.counts_now g.met.D.Disk.widens c.args.disk.now P (g.met.D.Disk.only_now c.args.disk.now) (λ f now. inl now) in
+    let synced = stays g.D.Disk.moment g.D.Disk.image g.D.Disk.image_since g.met.D.Disk.counts_now g.met.D.Disk.widens c.args.disk.now c.args.disk.now c.sync.new.self P begun c.sync.ensures.time c.sync.ensures.images in
+    let known = reads g.D.Disk.moment g.D.Disk.image g.D.Disk.image_since g.met.D.Disk.counts_now g.met.D.Disk.widens g.D.Disk.content g.D.Disk.faults c.args.disk.now c.sync.new.self c.read_found.new.disk P synced c.read_found.ensures.reads in
+    joined g.D.Disk.moment g.D.Disk.image g.D.Disk.image_since g.met.D.Disk.counts_now g.met.D.Disk.widens c.args.disk.now c.read_found.new.disk c.make.new.disk P (λ f. StandsFor f []) known (c.make.ensures.any_moment told) (λ f empty. inr (same_empty f (g.D.Disk.content c.args.disk.now) short empty))
 
 pub returns-then-gate-eq0-clause-same : goal.returns-then-gate-eq0-clause-same
 returns-then-gate-eq0-clause-same g c = λ told.
