@@ -16,11 +16,15 @@ code_from field (Some value) = or_bad field (as_str value)
 abbrev pub expression : List ℕ → List ℕ → Expression
 expression name code = record { name = name; code = code }
 
+-- the expression that a member of an object is, where its value is a text
+abbrev pub expression_in : List ℕ → Data → Option Expression
+expression_in name value = option_map (expression name) (as_str value)
+
 -- the members of an object, where each is a text; an object has each name once, and its names ascend
 abbrev pub expressions_of : Members → Option (List Expression)
 expressions_of no_members = Some []
 expressions_of (member name value members) =
-    option_and_then (λ code. option_map (λ rest. expression name code ∷ rest) (expressions_of members)) (as_str value)
+    option_and_then (λ first. option_map (λ rest. first ∷ rest) (expressions_of members)) (expression_in name value)
 
 -- the texts that an object is
 abbrev pub expressions_in : Data → Option (List Expression)

@@ -2,7 +2,7 @@
 
 ghost use Rattle.std.specs.Prelude.{◌≡◌, ◌++◌, ◌∷◌, [], List, ℕ, map, codes, decimal, IfOk, OnOk, string_bytes};
 ghost use Rattle.json.specs.Print.{quoted};
-ghost use Rattle.message_defs.specs.Texts.{parted, outcome_content};
+ghost use Rattle.message_defs.specs.Texts.{parted, object_text, outcome_content};
 ghost use Rattle.jupyter_header.specs.Comma.{comma};
 ghost use Rattle.engine_core.specs.Faults.{ename, evalue};
 ghost use Rattle.engine_core.specs.Contents.{registration_content, failed_content, value_content, shown_content, shown_member, executed_content};
@@ -29,11 +29,11 @@ pub fn registration_content(alloc: Global, uuid: &Text) -> Result<Octets, AllocE
 
 /// Appends the name of a fault, what it is about, and an empty traceback.
 fn push_fault(text: &mut String, alloc: Global, ename: &str, evalue: &str) -> Result<(), AllocError>
-    ensures { OnOk result (string_bytes text.new ≡ string_bytes text.old ++ (codes "\"ename\":" ++ quoted ename.now ++ codes ",\"evalue\":" ++ quoted evalue.now ++ codes ",\"traceback\":[]}")) }
+    ensures { OnOk result (string_bytes text.new ≡ string_bytes text.old ++ codes ",\"ename\":" ++ quoted ename.now ++ codes ",\"evalue\":" ++ quoted evalue.now ++ codes ",\"traceback\":[]}") }
 {
     let name = quoted(alloc, ename)?;
     let about = quoted(alloc, evalue)?;
-    text.push_str("\"ename\":")?;
+    text.push_str(",\"ename\":")?;
     text.push_str(name.as_str())?;
     text.push_str(",\"evalue\":")?;
     text.push_str(about.as_str())?;
@@ -53,7 +53,6 @@ pub fn failed_content(
     let count = count.to_string(alloc)?;
     let mut text = String::from_str(alloc, "{\"status\":\"error\",\"execution_count\":")?;
     text.push_str(count.as_str())?;
-    text.push_str(",")?;
     push_fault(&mut text, alloc, ename, evalue)?;
     Octets::from_string(text)
 }
@@ -84,7 +83,7 @@ fn fault_shown(alloc: Global, fault: &Fault) -> Result<String, AllocError>
     ensures { IfOk result (λ s. string_bytes s ≡ outcome_content (ename fault.now) (evalue fault.now)) }
 {
     let about = fault.evalue(alloc)?;
-    let mut text = String::from_str(alloc, "{\"status\":\"error\",")?;
+    let mut text = String::from_str(alloc, "{\"status\":\"error\"")?;
     push_fault(&mut text, alloc, fault.ename(), about.as_str())?;
     Ok(text)
 }
@@ -126,6 +125,16 @@ fn push_all(text: &mut String, alloc: Global, shown: &[Shown]) -> Result<(), All
     Ok(())
 }
 
+/// The object of what user expressions show.
+fn shown_text(alloc: Global, shown: &[Shown]) -> Result<String, AllocError>
+    ensures { IfOk result (λ s. string_bytes s ≡ object_text (map shown_member shown.now)) }
+{
+    let mut text = String::from_str(alloc, "{")?;
+    push_all(&mut text, alloc, shown)?;
+    text.push_str("}")?;
+    Ok(text)
+}
+
 /// The content of a reply to a request whose code has a value.
 #[tactic(auto, unfolding(crate::specs::Contents::executed_content))]
 pub fn executed_content(
@@ -138,11 +147,12 @@ pub fn executed_content(
 {
     let count = count.to_string(alloc)?;
     let digits = value.to_string(alloc)?;
+    let expressions = shown_text(alloc, shown)?;
     let mut text = String::from_str(alloc, "{\"status\":\"ok\",\"execution_count\":")?;
     text.push_str(count.as_str())?;
-    text.push_str(",\"user_expressions\":{")?;
-    push_all(&mut text, alloc, shown)?;
-    text.push_str("},\"result\":\"")?;
+    text.push_str(",\"user_expressions\":")?;
+    text.push_str(expressions.as_str())?;
+    text.push_str(",\"result\":\"")?;
     text.push_str(digits.as_str())?;
     text.push_str("\"}")?;
     Octets::from_string(text)

@@ -5,7 +5,7 @@ ghost use Rattle.serde_json.specs.Find.{get};
 ghost use Rattle.serde_json.specs.View.{view, members_view};
 ghost use Rattle.message_defs.specs.Json.{json_of, read_object};
 ghost use Rattle.message_defs.specs.Fields.{flag_from};
-ghost use Rattle.engine_core.specs.Request.{code_from, expressions_of, expressions_in, expressions_from, read_execute};
+ghost use Rattle.engine_core.specs.Request.{code_from, expression_in, expressions_of, expressions_in, expressions_from, read_execute};
 
 use crate::request::{ExecuteRequest, Expression};
 use cluster_types::sequence::Sequence;
@@ -90,6 +90,19 @@ fn flag_field(alloc: Global, value: &Value, field: &str, default: bool) -> Resul
     }
 }
 
+/// The expression that a member of an object is, where it is a text.
+fn expression_in(alloc: Global, name: &str, value: &Value) -> Result<Option<Expression>, AllocError>
+    ensures { IfOk result (λ r. r ≡ expression_in name.now (view value.now)) }
+{
+    let Some(code) = value.as_str() else {
+        return Ok(None);
+    };
+    Ok(Some(Expression {
+        name: Text::new(alloc, name)?,
+        code: Text::new(alloc, code)?,
+    }))
+}
+
 /// The members of an object as expressions, where each is a text.
 fn expressions_of(
     alloc: Global,
@@ -99,13 +112,10 @@ fn expressions_of(
 {
     let mut expressions = Sequence::new(alloc);
     for (name, value) in members.iter() {
-        let Some(code) = value.as_str() else {
+        let Some(expression) = expression_in(alloc, name.as_str(), value)? else {
             return Ok(None);
         };
-        expressions.push(Expression {
-            name: Text::new(alloc, name.as_str())?,
-            code: Text::new(alloc, code)?,
-        })?;
+        expressions.push(expression)?;
     }
     Ok(Some(expressions))
 }

@@ -1,0 +1,4 @@
+mod Evaluated
+mod Members
+mod Once
+mod Rows
