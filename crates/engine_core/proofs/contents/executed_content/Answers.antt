@@ -1,4 +1,6 @@
 use Rattle.std.proofs.Common.{◌≡◌, IfOk, string_bytes, refl, subst}
+use Rattle.std.specs.Int.{w64}
+use Rattle.std.proofs.lemmas.Int.{to_z-of_z}
 use Rattle.engine_core.specs.Contents.{executed_content}
 use Rattle.engine_core.proofs.contents.executed_content.Goals as goal
 
@@ -20,5 +22,6 @@ returns c =
       c.in_ok-count.ensures.ok,
       c.in_ok-expressions.ensures,
       c.in_ok-digits.ensures.ok,
+      to_z-of_z w64 c.args.value c.ranges.value,
     ) refl in
     subst (λ z. IfOk c.from_string.result (λ o. o ≡ z)) text c.from_string.ensures

@@ -12,6 +12,12 @@ one_more front one (Some rest) = ap Some (sym (append_assoc front (one ∷ []) r
 pub loop-name-preserved : goal.loop-name-preserved
 loop-name-preserved c =
     let front = c.loop-name.expressions in
+    let one = c.in-Some-2.expression in
     let left = expressions_of (members_view c.next.new.self) in
-    let is : Some c.in_ok-expression_in-Some.expression ≡ expression_in c.as_str.result.now (view c.in-Some.value.now) = ? in
-    ?
+    let is : Some one ≡ expression_in c.as_str.result.now (view c.in-Some.value.now) = sym c.in-Some-2.is ∙ c.in_ok-expression.ensures in
+    let read : expressions_of (members_view c.loop-name.name-iterator) ≡ option_map (λ r. one ∷ r) left =
+    ap (λ es. expressions_of (members_view es)) c.in-Some.ensures.steps
+    ∙ ap (λ name. option_and_then (λ first. option_map (λ r. first ∷ r) left) (expression_in name (view c.in-Some.value.now))) (sym c.as_str.ensures.value)
+    ∙ ap (option_and_then (λ first. option_map (λ r. first ∷ r) left)) (sym is) in
+    c.loop-name.invariant ∙ ap (option_map (λ r. front ++ r)) read ∙ one_more front one left
+    ∙ ap (λ z. option_map (λ r. z ++ r) left) (sym c.in_ok-push.ensures.ok)
