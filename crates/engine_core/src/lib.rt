@@ -8,12 +8,12 @@ mod contents;
 pub mod engine;
 pub mod error;
 mod evaluation;
-pub mod fault;
+mod fault;
 mod headers;
-pub mod kernel;
+mod kernel;
 mod kinds;
 pub mod laws;
 mod reading;
-pub mod request;
+mod request;
 #[cfg(test)]
 mod tests;

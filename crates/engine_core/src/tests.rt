@@ -20,14 +20,6 @@ fn message_of(alloc: Global, header: &str, content: &str) -> Result<SharedMessag
     )
 }
 
-/// An engine with a uuid that is none of the refused ones.
-fn engine_of(alloc: Global, uuid: &str) -> Result<Engine, AllocError> {
-    match Engine::new(alloc, uuid) {
-        Ok(engine) => Ok(engine),
-        Err(_) => Err(AllocError),
-    }
-}
-
 /// Whether the reply to a request of a type has this content.
 fn is_answer(
     alloc: Global,
@@ -59,7 +51,7 @@ fn refuses_uuids(rt: HostRuntime) -> Result<(), Fail> {
 
 #[test]
 fn joins(rt: HostRuntime) -> Result<(), Fail> {
-    let engine = engine_of(rt.alloc(), "u")?;
+    let engine = Engine::new(rt.alloc(), "u")?;
     let message = engine.join(1_700_000_000_000)?;
     assert_eq!(rt;
         message.header(),
@@ -75,15 +67,13 @@ fn joins(rt: HostRuntime) -> Result<(), Fail> {
 #[test]
 fn replies_to_requests(rt: HostRuntime) -> Result<(), Fail> {
     let alloc = rt.alloc();
-    let mut engine = engine_of(alloc, "u")?;
+    let mut engine = Engine::new(alloc, "u")?;
     let apply = message_of(
         alloc,
         "{\"msg_id\":\"a\",\"msg_type\":\"apply_request\"}",
         "{",
     )?;
-    let Some(reply) = engine.answer(&apply, 0)? else {
-        return Err(AllocError.into());
-    };
+    let reply = engine.answer(&apply, 0)?.expect(&rt, "a reply");
     assert_eq!(rt;
         reply.header(),
         b"{\"msg_id\":\"u-1\",\"session\":\"u\",\"username\":\"u\",\"date\":\"1970-01-01T00:00:00.000Z\",\"msg_type\":\"apply_reply\",\"version\":\"5.3\"}".as_slice()
@@ -100,7 +90,7 @@ fn replies_to_requests(rt: HostRuntime) -> Result<(), Fail> {
 #[test]
 fn answers_requests_alone(rt: HostRuntime) -> Result<(), Fail> {
     let alloc = rt.alloc();
-    let mut engine = engine_of(alloc, "u")?;
+    let mut engine = Engine::new(alloc, "u")?;
     for header in [
         "{\"msg_id\":\"a\",\"msg_type\":\"execute_reply\"}",
         "{\"msg_type\":\"execute_request\"}",
@@ -138,7 +128,7 @@ const ROWS: &[(&str, &str)] = &[
 #[test]
 fn executes(rt: HostRuntime) -> Result<(), Fail> {
     let alloc = rt.alloc();
-    let mut engine = engine_of(alloc, "u")?;
+    let mut engine = Engine::new(alloc, "u")?;
     for (content, expected) in ROWS {
         assert!(rt;
             is_answer(alloc, &mut engine, EXECUTE, content, expected)?,
@@ -195,7 +185,7 @@ const FAULTS: &[(&str, u32, &str, &str)] = &[
 fn tells_faults(rt: HostRuntime) -> Result<(), Fail> {
     let alloc = rt.alloc();
     for (content, count, ename, evalue) in FAULTS {
-        let mut engine = engine_of(alloc, "u")?;
+        let mut engine = Engine::new(alloc, "u")?;
         let expected = format!(in alloc;
             "{{\"status\":\"error\",\"execution_count\":{count},\"ename\":\"{ename}\",\"evalue\":\"{evalue}\",\"traceback\":[]}}"
         )?;
@@ -210,7 +200,7 @@ fn tells_faults(rt: HostRuntime) -> Result<(), Fail> {
 #[test]
 fn echoes_beats(rt: HostRuntime) -> Result<(), Fail> {
     let alloc = rt.alloc();
-    let mut engine = engine_of(alloc, "u")?;
+    let mut engine = Engine::new(alloc, "u")?;
     let header = "{\"msg_id\":\"a\",\"msg_type\":\"beat_request\"}";
     assert!(rt; is_answer(alloc, &mut engine, header, "{\"beat\":3}", "{\"beat\":3}")?);
     Ok(())
@@ -219,7 +209,7 @@ fn echoes_beats(rt: HostRuntime) -> Result<(), Fail> {
 #[test]
 fn a_text_of_65537_octets(rt: HostRuntime) -> Result<(), Fail> {
     let alloc = rt.alloc();
-    let mut engine = engine_of(alloc, "u")?;
+    let mut engine = Engine::new(alloc, "u")?;
     let mut content = String::from_str(alloc, "{\"code\":\"")?;
     for _ in 0..65_537 {
         content.push_str(" ")?;
