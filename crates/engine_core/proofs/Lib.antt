@@ -1,3 +1,4 @@
+mod Ascending
 mod Evaluated
 mod Members
 mod Once

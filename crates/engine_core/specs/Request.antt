@@ -1,5 +1,5 @@
 -- What an `execute_request` asks for (Jupyter messaging 5.3, "Execute"), or the first fault of its content.
-use Rattle.std.specs.Prelude.{ℕ, true, false, List, [], ◌∷◌, Option, Some, None, Ok, Err, option_map, option_and_then, codes}
+use Rattle.std.specs.Prelude.{ℕ, true, false, List, [], ◌∷◌, Option, Some, None, Ok, Err, map, option_map, option_and_then, codes}
 use Rattle.serde_json.specs.Data.{Data, Members, no_members, member}
 use Rattle.serde_json.specs.Find.{get, as_str, as_object}
 use Rattle.message_defs.specs.declared.fault.ReadError.TheVariants.{Missing}
@@ -25,6 +25,9 @@ abbrev pub expressions_of : Members → Option (List Expression)
 expressions_of no_members = Some []
 expressions_of (member name value members) =
     option_and_then (λ first. option_map (λ rest. first ∷ rest) (expressions_of members)) (expression_in name value)
+
+abbrev pub names_of : List Expression → List (List ℕ)
+names_of expressions = map (λ e. e.name) expressions
 
 -- the texts that an object is
 abbrev pub expressions_in : Data → Option (List Expression)
