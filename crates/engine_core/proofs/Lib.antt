@@ -1,0 +1,5 @@
+mod Ascending
+mod Evaluated
+mod Members
+mod Once
+mod Rows
