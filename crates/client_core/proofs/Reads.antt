@@ -1,0 +1,2 @@
+-- Metadata that was written is read back.
+use Rattle.std.proofs.Common.{◌≡◌}
