@@ -5,4 +5,5 @@ pub mod Parts
 pub mod Fractions
 pub mod Strings
 pub mod Written
+pub mod ReadBack
 pub mod Rows

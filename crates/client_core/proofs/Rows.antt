@@ -1,5 +1,6 @@
 -- Worked identifiers, messages and answers, computed.
-use Rattle.std.proofs.Common.{◌≡◌, refl, codes, Ok, Err, Some, None, true, false, [], ◌∷◌, ◌++◌, List, ℕ}
+use Rattle.std.proofs.Common.{◌≡◌, refl, codes, Ok, Err, Some, None, true, false, [], ◌∷◌, ◌++◌, List, ℕ, arith}
+use Rattle.std.proofs.lemmas.Fmt.{decimal_digit}
 use Rattle.serde_json.proofs.OnLiterals.{serde_json_on_literals}
 use Rattle.std.specs.Str.{is_utf8, chars}
 use Rattle.json.specs.Print.{escape_byte}
@@ -40,7 +41,7 @@ worked_meta = record {
 pub metadata_written : submit_metadata worked_meta
     ≡ codes "{\"after\":{\"dependencies\":[\"a\",\"b\\\"\",\"a\"],\"all\":true,\"success\":false,\"failure\":true},\"follow\":{\"dependencies\":[],\"all\":false,\"success\":true,\"failure\":false},\"targets\":[\"e0\",\"e0\"],\"timeout\":0,\"retries\":3}"
 unfolding submit_metadata dependency_text escape_byte
-metadata_written = refl
+metadata_written = rw (decimal_digit 0 (omega arith), decimal_digit 3 (omega arith)) refl
 
 pub content_written : execute_content (codes "6*7")
     ≡ codes "{\"code\":\"6*7\",\"silent\":false,\"store_history\":true,\"user_expressions\":{},\"allow_stdin\":false,\"stop_on_error\":true}"

@@ -1,5 +1,5 @@
 -- `t":` stands nowhere in texts as JSON writes them, nor in lists of them.
-use Rattle.std.proofs.Common.{◌≡◌, ◌⊎◌, ◌<◌, ◌≤◌, ℕ, Bool, true, false, not, ◌&&◌, ◌==◌, nat_lt, List, [], ◌∷◌, ◌++◌, map, flat_map, codes, cond, if◌then◌else◌, inl, inr, ⊎_elim, arith, refl, sym, ap, subst, ◌∙◌, append_assoc}
+use Rattle.std.proofs.Common.{◌≡◌, ◌⊎◌, ◌<◌, ◌≤◌, ℕ, Bool, true, false, not, ◌&&◌, ◌==◌, nat_lt, List, [], ◌∷◌, ◌++◌, map, flat_map, codes, cond, if◌then◌else◌, inl, inr, ⊎_elim, true≢false, arith, refl, sym, ap, subst, ◌∙◌, append_assoc}
 use Rattle.std.proofs.lemmas.Bool.{and_parts, and_from, and_right, cases_eq, cases_lt, ne_eqb, agree_below, agree_below_at, not-true}
 use Rattle.json.specs.Print.{escape_byte, escape, quoted}
 use Rattle.json.proofs.Printed.Strings.{escape_byte_plain}
@@ -36,12 +36,12 @@ mild_backslash = refl
 
 one : (b c : Bool) (s : Passed) → c ≡ false → is_closed (if b then letter else (if c then s else neither)) ≡ false
 one true c s h = refl
-one false true s h = h
+one false true s h = absurd (true≢false h)
 one false false s h = refl
 
 mild_plain : (x : ℕ) → (x ≡ 34 → ⊥) → (x ≡ 92 → ⊥) → 32 ≤ x → mild x ≡ true
 mild_plain x not_quote not_backslash high =
-    rw escape_byte_plain x not_quote not_backslash high
+    rw (escape_byte_plain x not_quote not_backslash high)
     (rw (one (x == 116) (x == 34) neither (ne_eqb x 34 not_quote), one (x == 116) (x == 34) closed (ne_eqb x 34 not_quote)) refl)
 
 is_mild : (x : ℕ) → mild x ≡ true
@@ -122,11 +122,13 @@ pieces s (text ∷ texts) h =
     Ends-append s (quoted text) (flat_map (λ piece. 44 ∷ piece) (map quoted texts)) first (others (behind s (quoted text)) texts first.no_letter)
 
 -- no `t":` wherever it stands, and neither `t` nor `t"` at its end
-abbrev pub Calm : List ℕ → Type 0
-Calm xs = (s : Passed) → (keyless s xs ≡ true) × (behind s xs ≡ neither)
+pub record Calm (xs : List ℕ) : Type 0 where
+  pub passes : (s : Passed) → (keyless s xs ≡ true) × (behind s xs ≡ neither)
 
 pub Calm-append : (xs ys : List ℕ) → Calm xs → Calm ys → Calm (xs ++ ys)
-Calm-append xs ys h k = λ s. (keyless-append s xs ys (h s).0 (k (behind s xs)).0, behind-append s xs ys ∙ (k (behind s xs)).1)
+Calm-append xs ys h k = record {
+  passes = λ s. (keyless-append s xs ys (h.passes s).0 (k.passes (behind s xs)).0, behind-append s xs ys ∙ (k.passes (behind s xs)).1);
+}
 
 bracket : (s : Passed) → is_letter s ≡ false → (keyless s (93 ∷ []) ≡ true) × (behind s (93 ∷ []) ≡ neither)
 bracket neither h = (refl, refl)
@@ -139,7 +141,10 @@ rest_of_list texts =
     let b = bracket (behind neither (parted (map quoted texts))) p.no_letter in
     (keyless-append neither (parted (map quoted texts)) (93 ∷ []) p.keyless_ b.0, behind-append neither (parted (map quoted texts)) (93 ∷ []) ∙ b.1)
 
+list_passes : (texts : List (List ℕ)) (s : Passed) → (keyless s (texts_list texts) ≡ true) × (behind s (texts_list texts) ≡ neither)
+list_passes texts neither = rest_of_list texts
+list_passes texts letter = rest_of_list texts
+list_passes texts closed = rest_of_list texts
+
 pub calm_list : (texts : List (List ℕ)) → Calm (texts_list texts)
-calm_list texts neither = rest_of_list texts
-calm_list texts letter = rest_of_list texts
-calm_list texts closed = rest_of_list texts
+calm_list texts = record { passes = list_passes texts }

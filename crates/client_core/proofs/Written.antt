@@ -61,7 +61,41 @@ dependency_of d rest =
     ap (λ t. codes "{\"dependencies\":" ++ t) ids
     ∙ simp (append_assoc, flag_of d.all, flag_of d.success, flag_of d.failure) refl
 
+-- what stands behind `after`, behind `follow` and behind `targets`
+abbrev numbers : SubmitMeta → json.Members
+numbers meta = json.member (codes "timeout") (json.number (decimal meta.timeout)) (json.member (codes "retries") (json.number (decimal meta.retries)) json.no_members)
+
+abbrev behind_follow : SubmitMeta → json.Members
+behind_follow meta = json.member (codes "targets") (json.array (strings meta.targets)) (numbers meta)
+
+abbrev behind_after : SubmitMeta → json.Members
+behind_after meta = json.member (codes "follow") (json.object (dependency_members meta.follow)) (behind_follow meta)
+
+numbers_of : (meta : SubmitMeta) → print_from true (members_tokens (numbers meta)) ≡ codes ",\"timeout\":" ++ (decimal meta.timeout ++ (codes ",\"retries\":" ++ (decimal meta.retries ++ codes "}")))
+unfolding print_from escape_byte
+numbers_of meta = refl
+
+behind_follow_of : (meta : SubmitMeta) → print_from true (members_tokens (behind_follow meta)) ≡ codes ",\"targets\":" ++ (texts_list meta.targets ++ print_from true (members_tokens (numbers meta)))
+unfolding print_from escape_byte
+behind_follow_of meta = ap (λ t. codes ",\"targets\":" ++ t) (list_of meta.targets (members_tokens (numbers meta)))
+
+behind_after_of : (meta : SubmitMeta) → print_from true (members_tokens (behind_after meta)) ≡ codes ",\"follow\":" ++ (dependency_text meta.follow ++ print_from true (members_tokens (behind_follow meta)))
+unfolding print_from escape_byte
+behind_after_of meta = ap (λ t. codes ",\"follow\":" ++ t) (dependency_of meta.follow (members_tokens (behind_follow meta)))
+
+whole_of : (meta : SubmitMeta) → print (json_tokens (metadata_json meta)) ≡ codes "{\"after\":" ++ (dependency_text meta.after ++ print_from true (members_tokens (behind_after meta)))
+unfolding print_from escape_byte
+whole_of meta = ap (λ t. codes "{\"after\":" ++ t) (dependency_of meta.after (members_tokens (behind_after meta)))
+
+grouped : (a b c d e f g h i j k : List ℕ) → a ++ b ++ c ++ d ++ e ++ f ++ g ++ h ++ i ++ j ++ k ≡ a ++ (b ++ (c ++ (d ++ (e ++ (f ++ (g ++ (h ++ (i ++ (j ++ k)))))))))
+grouped a b c d e f g h i j k = simp append_assoc refl
+
 -- the text is that of the value's tokens
 pub printed : (meta : SubmitMeta) → submit_metadata meta ≡ print (json_tokens (metadata_json meta))
-unfolding print_from escape_byte submit_metadata
-printed meta = ?
+unfolding submit_metadata
+printed meta =
+    grouped (codes "{\"after\":") (dependency_text meta.after) (codes ",\"follow\":") (dependency_text meta.follow) (codes ",\"targets\":") (texts_list meta.targets) (codes ",\"timeout\":")
+    (decimal meta.timeout) (codes ",\"retries\":") (decimal meta.retries) (codes "}")
+    ∙ sym (whole_of meta ∙ ap (λ t. codes "{\"after\":" ++ (dependency_text meta.after ++ t))
+    (behind_after_of meta ∙ ap (λ t. codes ",\"follow\":" ++ (dependency_text meta.follow ++ t))
+    (behind_follow_of meta ∙ ap (λ t. codes ",\"targets\":" ++ (texts_list meta.targets ++ t)) (numbers_of meta))))

@@ -1,6 +1,7 @@
 -- What a client knows: its session, and the ids that it used.
 use Rattle.std.specs.Global.{Global}
-use Rattle.std.specs.Prelude.{ℕ, Bool, false, true, not, List, length, filter, map, String, string_bytes, Option, is_some, bytes_eq, nat_cmp, if◌then◌else◌, Result, Ok, Err}
+use Rattle.std.specs.Prelude.{ℕ, Bool, false, true, not, List, length, filter, map, String, string_bytes, Option, is_some, bytes_eq, if◌then◌else◌, Result, Ok, Err}
+use Rattle.std.specs.Ordering.{nat_cmp}
 use Rattle.std.specs.Cmp.Lexicographic.{slice_cmp}
 use Rattle.std.specs.Map.{lookup, set_value}
 use Rattle.std.specs.BTreeMap.{insert_entry}

@@ -1,2 +1,0 @@
--- Metadata that was written is read back.
-use Rattle.std.proofs.Common.{◌≡◌}
