@@ -170,6 +170,7 @@ impl Client {
         ensures err { IfErr result (λ e. (e ≡ SubmitError.OutOfMemory) ⊎ (sent_unless_used self.old.used (client_id random) (message_under self.old.session (client_id random) moment (task_request meta.now code.now)) ≡ Err e)) }
         ensures noted { OnOk result (self.new ≡ record self.old { used = with_id self.old.used (client_id random) }) }
         ensures same { OnErr result (self.new ≡ self.old) }
+        ensures reads { IfOk result (λ m. read_submit m.metadata ≡ Ok (meta_once meta.now)) }
     {
         let metadata = submit_metadata(self.alloc, meta)?;
         let content = execute_content(self.alloc, code)?;
