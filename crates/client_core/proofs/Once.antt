@@ -41,6 +41,9 @@ pub took_fits : (used : Used) (message : Message) → Fits used (took used messa
 unfolding took
 took_fits used message = by_parts used message.content (type_in message.header) (task_in message.parent)
 
+pub settled_where : (used : Used) (t : Took) (message : Message) (id : List ℕ) (ok : Bool) → t ≡ took used message → t ≡ Settled id ok → settled_in used id ≡ Some false
+settled_where used t message id ok h is = subst (Fits used) (sym h ∙ is) (took_fits used message)
+
 -- an id that isn't settled after an outcome wasn't settled before it
 kept : (b c : Bool) (settled : Bool) (o more : Option Bool) → (more ≡ Some false → o ≡ Some false)
     → cond b (cond c (Some true) o) (cond c (Some settled) more) ≡ Some false → cond c (Some settled) o ≡ Some false

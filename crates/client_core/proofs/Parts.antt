@@ -33,30 +33,30 @@ reads_task parent = rw (not_declined, some_status) refl
 pub reads_status : (content : List ℕ) → read_reply (codes "{\"msg_id\":\"0\"}") (codes "{}") content ≡ of_status (read_status content)
 reads_status content = rw (some_task, not_declined) refl
 
-task_read : (reading : Reading (List ℕ)) (m : ReplyMeta) → of_task reading ≡ Ok m → Some m.task ≡ result_ok reading
-task_read (Ok id) m h = ap (λ r. result_ok r) (ap (λ r. reading_then r (λ m. Ok m.task)) (sym h))
+task_read : (reading : Reading (List ℕ)) (m : ReplyMeta) → of_task reading ≡ Ok m → reading ≡ Ok m.task
+task_read (Ok id) m h = ap (λ r. reading_then r (λ n. Ok n.task)) h
 task_read (Err fault) m h = absurd (cc)
 
-task_fault : (reading : Reading (List ℕ)) (e : ReadError) → of_task reading ≡ Err e → None ≡ result_ok reading
+task_fault : (reading : Reading (List ℕ)) (e : ReadError) → of_task reading ≡ Err e → reading ≡ Err e
 task_fault (Ok id) e h = absurd (cc)
-task_fault (Err fault) e h = refl
+task_fault (Err fault) e h = ap (λ r. reading_then r (λ n. Ok n.task)) h
 
-status_read : (reading : Reading Bool) (m : ReplyMeta) → of_status reading ≡ Ok m → Some m.ok ≡ result_ok reading
-status_read (Ok ok) m h = ap (λ r. result_ok r) (ap (λ r. reading_then r (λ m. Ok m.ok)) (sym h))
+status_read : (reading : Reading Bool) (m : ReplyMeta) → of_status reading ≡ Ok m → reading ≡ Ok m.ok
+status_read (Ok ok) m h = ap (λ r. reading_then r (λ n. Ok n.ok)) h
 status_read (Err fault) m h = absurd (cc)
 
-status_fault : (reading : Reading Bool) (e : ReadError) → of_status reading ≡ Err e → None ≡ result_ok reading
+status_fault : (reading : Reading Bool) (e : ReadError) → of_status reading ≡ Err e → reading ≡ Err e
 status_fault (Ok ok) e h = absurd (cc)
-status_fault (Err fault) e h = refl
+status_fault (Err fault) e h = ap (λ r. reading_then r (λ n. Ok n.ok)) h
 
-pub task_of_reply : (parent : List ℕ) (m : ReplyMeta) → read_reply parent (codes "{}") (codes "{\"status\":\"ok\"}") ≡ Ok m → Some m.task ≡ result_ok (read_task parent)
+pub task_of_reply : (parent : List ℕ) (m : ReplyMeta) → read_reply parent (codes "{}") (codes "{\"status\":\"ok\"}") ≡ Ok m → read_task parent ≡ Ok m.task
 task_of_reply parent m h = task_read (read_task parent) m (sym (reads_task parent) ∙ h)
 
-pub no_task : (parent : List ℕ) (e : ReadError) → read_reply parent (codes "{}") (codes "{\"status\":\"ok\"}") ≡ Err e → None ≡ result_ok (read_task parent)
+pub no_task : (parent : List ℕ) (e : ReadError) → read_reply parent (codes "{}") (codes "{\"status\":\"ok\"}") ≡ Err e → read_task parent ≡ Err e
 no_task parent e h = task_fault (read_task parent) e (sym (reads_task parent) ∙ h)
 
-pub status_of_reply : (content : List ℕ) (m : ReplyMeta) → read_reply (codes "{\"msg_id\":\"0\"}") (codes "{}") content ≡ Ok m → Some m.ok ≡ result_ok (read_status content)
+pub status_of_reply : (content : List ℕ) (m : ReplyMeta) → read_reply (codes "{\"msg_id\":\"0\"}") (codes "{}") content ≡ Ok m → read_status content ≡ Ok m.ok
 status_of_reply content m h = status_read (read_status content) m (sym (reads_status content) ∙ h)
 
-pub no_status : (content : List ℕ) (e : ReadError) → read_reply (codes "{\"msg_id\":\"0\"}") (codes "{}") content ≡ Err e → None ≡ result_ok (read_status content)
+pub no_status : (content : List ℕ) (e : ReadError) → read_reply (codes "{\"msg_id\":\"0\"}") (codes "{}") content ≡ Err e → read_status content ≡ Err e
 no_status content e h = status_fault (read_status content) e (sym (reads_status content) ∙ h)

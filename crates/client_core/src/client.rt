@@ -1,6 +1,6 @@
 //! A client of the cluster.
 
-ghost use Rattle.std.specs.Prelude.{◌≡◌, ◌⊎◌, ◌≤◌, [], true, Ok, Err, IfOk, IfErr, OnOk, OnErr};
+ghost use Rattle.std.specs.Prelude.{◌≡◌, ◌⊎◌, ◌≤◌, [], true, false, Some, Ok, Err, IfOk, IfErr, OnOk, OnErr};
 ghost use Rattle.cluster_types.specs.Limits.{last_moment};
 ghost use Rattle.message_defs.specs.Submit.{read_submit};
 ghost use Rattle.client_core.specs.Identifier.{client_id};
@@ -20,7 +20,6 @@ use crate::used::{note, settle, settled_in};
 use cluster_types::shared_message::SharedMessage;
 use cluster_types::text::Text;
 use json::Scratch;
-use jupyter_header::contents::empty_object;
 use message_defs::content::SubmitMeta;
 use std::alloc::{AllocError, Global};
 use std::collections::BTreeMap;
@@ -28,6 +27,9 @@ use std::marker::Model;
 
 /// The type of a request to run code.
 const EXECUTE_REQUEST: &str = "execute_request";
+
+/// The metadata of a request that is no task.
+const NO_METADATA: &str = "{}";
 
 /// The type of the refusal of a request.
 const SUBMIT_REFUSED: &str = "submit_refused";
@@ -157,6 +159,7 @@ impl Client {
 
     /// A task for any engine that its metadata lets it run on. Its id is the UUID of the random octets, and the moment is in
     /// milliseconds since 1970-01-01T00:00:00Z.
+    #[tactic(auto, unfolding(crate::specs::Messages::execute_request, message_defs::specs::Texts::empty_object))]
     pub fn submit(
         &mut self,
         code: &str,
@@ -175,16 +178,17 @@ impl Client {
         let metadata = submit_metadata(self.alloc, meta)?;
         let content = execute_content(self.alloc, code)?;
         let request = Request {
-            target: b"",
+            target: "",
             msg_type: EXECUTE_REQUEST,
-            metadata: metadata.as_bytes(),
-            content: content.as_bytes(),
+            metadata: metadata.as_str(),
+            content: content.as_str(),
         };
         self.send(random, moment, &request)
     }
 
     /// A request to one engine, which is named by its uuid. Its id is the UUID of the random octets, and the moment is in
     /// milliseconds since 1970-01-01T00:00:00Z.
+    #[tactic(auto, unfolding(crate::specs::Messages::execute_request, message_defs::specs::Texts::empty_object))]
     pub fn direct(
         &mut self,
         engine: &str,
@@ -201,16 +205,17 @@ impl Client {
     {
         let content = execute_content(self.alloc, code)?;
         let request = Request {
-            target: engine.as_bytes(),
+            target: engine,
             msg_type: EXECUTE_REQUEST,
-            metadata: empty_object(),
-            content: content.as_bytes(),
+            metadata: NO_METADATA,
+            content: content.as_str(),
         };
         self.send(random, moment, &request)
     }
 
     /// A request to the hub. Its id is the UUID of the random octets, and isn't kept: the answer is a stranger. The moment is in
     /// milliseconds since 1970-01-01T00:00:00Z.
+    #[tactic(auto, unfolding(message_defs::specs::Texts::empty_object))]
     pub fn ask(
         &self,
         msg_type: &str,
@@ -223,10 +228,10 @@ impl Client {
     {
         let id = client_id(self.alloc, random)?;
         let request = Request {
-            target: b"",
+            target: "",
             msg_type,
-            metadata: empty_object(),
-            content: content.as_bytes(),
+            metadata: NO_METADATA,
+            content,
         };
         let session = self.session.as_str();
         message_under(self.alloc, session, id.as_str(), moment, &request)

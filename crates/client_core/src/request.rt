@@ -14,14 +14,15 @@ use jupyter_header::write::header_of;
 use std::alloc::{AllocError, Global};
 
 /// What a client sends beside its session, the id and the moment.
+#[derive(Clone, Copy, Debug)]
 pub struct Request<'a> {
     /// The engine, where it is sent to one alone, else empty.
-    pub target: &'a [u8],
+    pub target: &'a str,
     pub msg_type: &'a str,
     /// A JSON object.
-    pub metadata: &'a [u8],
+    pub metadata: &'a str,
     /// A JSON object.
-    pub content: &'a [u8],
+    pub content: &'a str,
 }
 
 /// The message of a client with this session, under this id, at a moment in milliseconds since 1970-01-01T00:00:00Z.
@@ -39,11 +40,11 @@ pub fn message_under(
     let header = header_of(alloc, id, session, session, request.msg_type, date.as_str())?;
     SharedMessage::new(
         alloc,
-        request.target,
+        request.target.as_bytes(),
         header.as_slice(),
         empty_object(),
-        request.metadata,
-        request.content,
+        request.metadata.as_bytes(),
+        request.content.as_bytes(),
         Sequence::new(alloc),
     )
 }
