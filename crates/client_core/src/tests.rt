@@ -59,7 +59,7 @@ fn has_parts(
 ) -> bool {
     message.target() == target.as_bytes()
         && message.header() == header.as_bytes()
-        && message.parent() == b"{}"
+        && message.parent() == b"{}".as_slice()
         && message.metadata() == metadata.as_bytes()
         && message.content() == content.as_bytes()
         && message.buffers().is_empty()
