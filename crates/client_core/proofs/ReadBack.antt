@@ -188,7 +188,6 @@ dependency_said field d h =
     rw (few_ids d.ids both.0 both.1) refl
 
 metadata_said : (meta : SubmitMeta) → is_within_limits meta ≡ true → submit_from (metadata_data meta) ≡ Ok (meta_once meta)
-unfolding is_within_limits
 metadata_said meta h =
     let a = and_parts (is_dependency meta.after && is_dependency meta.follow && are_ids meta.targets && nat_le meta.timeout 1000000000) (nat_le meta.retries 1000) h in
     let b = and_parts (is_dependency meta.after && is_dependency meta.follow && are_ids meta.targets) (nat_le meta.timeout 1000000000) a.0 in
@@ -201,7 +200,7 @@ object_read meta utf8 t r = rw (utf8, text_read meta t r) refl
 
 -- the metadata of a request reads as what was meant, with each id of a dependency once
 pub reads_back : (meta : SubmitMeta) → is_within_limits meta ≡ true → is_utf8 (submit_metadata meta) ≡ true → read_submit (submit_metadata meta) ≡ Ok (meta_once meta)
-unfolding read_submit is_within_limits
+unfolding read_submit
 reads_back meta h utf8 =
     let a = and_parts (is_dependency meta.after && is_dependency meta.follow && are_ids meta.targets && nat_le meta.timeout 1000000000) (nat_le meta.retries 1000) h in
     let b = and_parts (is_dependency meta.after && is_dependency meta.follow && are_ids meta.targets) (nat_le meta.timeout 1000000000) a.0 in

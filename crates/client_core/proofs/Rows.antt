@@ -49,11 +49,9 @@ unfolding execute_content escape_byte
 content_written = refl
 
 pub within : is_within_limits worked_meta ≡ true
-unfolding is_within_limits
 within = refl
 
 pub delimiter_is_no_engine : is_engine (codes "<IDS|MSG>") ≡ false
-unfolding is_engine
 delimiter_is_no_engine = refl
 
 -- a message with these parts

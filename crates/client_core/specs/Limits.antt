@@ -14,10 +14,10 @@ abbrev pub is_dependency : Dep → Bool
 is_dependency d = nat_le (length d.ids) 4096 && are_ids d.ids
 
 -- what a reader takes: dependencies and targets as above, at most 1,000,000,000 seconds, and at most 1,000 retries
-unfoldable pub is_within_limits : SubmitMeta → Bool
+abbrev pub is_within_limits : SubmitMeta → Bool
 is_within_limits meta =
     is_dependency meta.after && is_dependency meta.follow && are_ids meta.targets && nat_le meta.timeout 1000000000 && nat_le meta.retries 1000
 
 -- an engine that an identity frame can name: 1 to 255 octets other than the delimiter behind the identity frames
-unfoldable pub is_engine : List ℕ → Bool
+abbrev pub is_engine : List ℕ → Bool
 is_engine engine = is_id engine && not (bytes_eq engine (codes "<IDS|MSG>"))

@@ -43,7 +43,6 @@ fn is_dependency(dependency: &Dep) -> bool
 
 /// Whether the metadata of a task is within the limits of its readers: dependencies on at most 4,096 ids, ids of 1 to 255
 /// octets, a timeout of at most 1,000,000,000 seconds, and at most 1,000 retries.
-#[tactic(auto, unfolding(crate::specs::Limits::is_within_limits))]
 pub fn is_within_limits(meta: &SubmitMeta) -> bool
     ensures { result ≡ is_within_limits meta.now }
 {
@@ -55,7 +54,6 @@ pub fn is_within_limits(meta: &SubmitMeta) -> bool
 }
 
 /// Whether an identity frame can name an engine so: 1 to 255 octets other than the delimiter.
-#[tactic(auto, unfolding(crate::specs::Limits::is_engine))]
 pub fn is_engine(engine: &str) -> bool
     ensures { result ≡ is_engine engine.now }
 {

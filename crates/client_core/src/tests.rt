@@ -36,7 +36,6 @@ fn no_task(alloc: Global) -> Dep
 }
 
 /// Metadata that asks for nothing.
-#[tactic(auto, unfolding(crate::specs::Limits::is_within_limits))]
 fn nothing_asked(alloc: Global) -> SubmitMeta
     ensures { is_within_limits result ≡ true }
 {
