@@ -1,10 +1,8 @@
 -- How many tasks aren't settled, after one more id and after one more outcome.
-use Rattle.std.proofs.Common.{◌≡◌, ◌≤◌, ℕ, suc, Bool, true, false, not, List, [], ◌∷◌, length, filter, cond, Option, Some, None, Ordering, Less, Equal, Greater, bytes_eq, nat_cmp, is_eq, true≢false, arith, refl, ap, sym, ◌∙◌}
+use Rattle.std.proofs.Common.{◌≡◌, ◌≤◌, ℕ, suc, Bool, true, false, List, [], ◌∷◌, length, cond, Option, Some, None, Ordering, Less, Equal, Greater, bytes_eq, nat_cmp, is_eq, true≢false, arith, refl, ap, ◌∙◌}
 use Rattle.std.proofs.lemmas.Map.Text.{is_eq-slice_cmp}
 use Rattle.std.specs.Cmp.Lexicographic.{slice_cmp}
-use Rattle.std.specs.Map.{lookup, set_value}
 use Rattle.std.specs.Ordering.{match_ordering}
-use Rattle.std.specs.BTreeMap.{insert_entry}
 use Rattle.client_core.specs.Clients.{Used, settled_in, with_id, with_settled, unsettled}
 
 -- an id that isn't found isn't the first one, and isn't found behind it

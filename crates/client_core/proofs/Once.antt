@@ -1,7 +1,6 @@
 -- An id is settled at most once.
-use Rattle.std.proofs.Common.{◌≡◌, ◌≤◌, ℕ, suc, zero, Bool, true, false, List, [], ◌∷◌, length, filter, cond, Option, Some, None, bytes_eq, arith, refl, ap, sym, subst, ◌∙◌}
+use Rattle.std.proofs.Common.{◌≡◌, ◌≤◌, ℕ, Bool, true, false, List, [], ◌∷◌, length, filter, cond, Option, Some, None, bytes_eq, arith, refl, sym, subst, ◌∙◌}
 use Rattle.std.proofs.lemmas.Slice.Eq.{bytes_eq-Decides}
-use Rattle.std.specs.Map.{lookup, set_value}
 use Rattle.std.specs.Prelude.{⊤}
 use Rattle.std.specs.Result.{result_ok}
 use Rattle.cluster_types.specs.declared.message.Message.{Message}

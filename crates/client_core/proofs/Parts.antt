@@ -1,6 +1,5 @@
 -- One part of a reply, read beside other parts that always read.
-use Rattle.std.proofs.Common.{◌≡◌, List, ℕ, Bool, true, false, Result, Ok, Err, Option, Some, None, codes, refl, sym, ap, ◌∙◌}
-use Rattle.std.specs.Result.{result_ok}
+use Rattle.std.proofs.Common.{◌≡◌, List, ℕ, Bool, true, false, Ok, Err, codes, refl, sym, ap, ◌∙◌}
 use Rattle.std.specs.Str.{is_utf8, chars}
 use Rattle.serde_json.proofs.OnLiterals.{serde_json_on_literals}
 use Rattle.message_defs.specs.declared.content.ReplyMeta.{ReplyMeta}

@@ -1,36 +1,32 @@
 -- Metadata that was written is read back.
-use Rattle.std.proofs.Common.{◌≡◌, ◌<◌, ◌≤◌, ◌^◌, ◌+◌, ◌&&◌, ◌==◌, not, ℕ, suc, max, Bool, true, false, List, [], ◌∷◌, ◌++◌, length, map, codes, decimal, Option, Some, None, Ok, Result, option_map, option_and_then, nat_le, nat_lt, bytes_eq, arith, refl, sym, ap, subst, ◌∙◌, append_assoc, append-nil}
-use Rattle.std.specs.Prelude.{⊤}
+use Rattle.std.proofs.Common.{◌≡◌, ◌<◌, ◌≤◌, ◌^◌, ◌&&◌, ◌==◌, not, ℕ, suc, Bool, true, false, List, [], ◌∷◌, ◌++◌, length, codes, decimal, Some, Ok, option_and_then, nat_le, arith, refl, sym, ap, ◌∙◌, append_assoc, append-nil}
 use Rattle.std.specs.Char.{digit_value}
-use Rattle.std.specs.List.{list_all}
 use Rattle.std.specs.Str.{is_utf8}
 use Rattle.std.specs.Str.Parse.{AllDigits}
-use Rattle.std.proofs.lemmas.Bool.{and_parts, and_from, leb-true, le-leb, not_from_false, ne_eqb}
+use Rattle.std.proofs.lemmas.Bool.{and_parts, and_from, leb-true, not_from_false, ne_eqb}
 use Rattle.std.proofs.lemmas.Fmt.{decimal_is_IsNumeral}
-use Rattle.json.specs.Token.{Token}
 use Rattle.json.specs.Json as json
 use Rattle.json.specs.Lex.{tokens}
-use Rattle.json.specs.Print.{print}
 use Rattle.json.specs.Tree.{json_tokens, depth, items_depth, HasNumbers, ItemsHaveNumbers}
 use Rattle.json.proofs.Printed.Decimals.{IsNumber-decimal}
 use Rattle.json.proofs.Printed.Tokens.{tokens-print}
 use Rattle.json.proofs.Printed.Trees.{value-json_tokens, ArePrintable-json_tokens}
-use Rattle.serde_json.specs.Data.{Data, Items, no_items, item, Members, no_members, array, object, string, boolean, number, unsigned, put}
+use Rattle.serde_json.specs.Data.{Data, Items, no_items, item, no_members, array, object, string, boolean, number, unsigned, put}
 use Rattle.serde_json.specs.Events.{items_len}
-use Rattle.serde_json.specs.Read.{read, number_of, of_json, of_items, max_depth}
+use Rattle.serde_json.specs.Read.{read, of_json, of_items, max_depth}
 use Rattle.serde_json.proofs.Numbers.{number_of-decimal}
 use Rattle.cluster_types.specs.declared.event.Dep.{Dep}
 use Rattle.message_defs.specs.declared.content.SubmitMeta.{SubmitMeta}
 use Rattle.message_defs.specs.Fields.{is_id, id_in, each_of}
 use Rattle.message_defs.specs.Json.{read_object}
 use Rattle.message_defs.specs.Points.{whole_timeouts}
-use Rattle.message_defs.specs.Submit.{once, submit_from, read_submit, at_most_4096, dependency_from}
+use Rattle.message_defs.specs.Submit.{submit_from, read_submit, at_most_4096, dependency_from}
 use Rattle.message_defs.specs.Texts.{texts_list}
 use Rattle.client_core.specs.Limits.{are_ids, is_dependency, is_within_limits}
 use Rattle.client_core.specs.Messages.{flag_text, dependency_text, submit_metadata, dependency_once, meta_once}
 use Rattle.client_core.proofs.Fractions.{Passed, neither, letter, closed, keyless, behind, dotless, untouched}
 use Rattle.client_core.proofs.Strings.{Calm, Calm-append, calm_list}
-use Rattle.client_core.proofs.Written.{strings, dependency_members, metadata_members, metadata_json, printed}
+use Rattle.client_core.proofs.Written.{strings, dependency_members, metadata_json, printed}
 
 -- THE TIMEOUT IS LEFT AS IT IS
 

@@ -1,5 +1,5 @@
 -- Worked identifiers, messages and answers, computed.
-use Rattle.std.proofs.Common.{◌≡◌, refl, codes, Ok, Err, Some, None, true, false, [], ◌∷◌, ◌++◌, List, ℕ, arith}
+use Rattle.std.proofs.Common.{◌≡◌, refl, codes, true, false, [], ◌∷◌, ◌++◌, List, ℕ, arith}
 use Rattle.std.proofs.lemmas.Fmt.{decimal_digit}
 use Rattle.serde_json.proofs.OnLiterals.{serde_json_on_literals}
 use Rattle.std.specs.Str.{is_utf8, chars}
@@ -7,8 +7,6 @@ use Rattle.json.specs.Print.{escape_byte}
 use Rattle.uuid.specs.Text.{by_index}
 use Rattle.message_defs.specs.Header.{read_header}
 use Rattle.message_defs.specs.Reply.{read_task, read_status}
-use Rattle.message_defs.specs.Submit.{read_submit}
-use Rattle.message_defs.specs.Points.{whole_timeouts, ends_in_name}
 use Rattle.message_defs.specs.Texts.{submit_refused}
 use Rattle.message_defs.specs.declared.content.SubmitMeta.{SubmitMeta}
 use Rattle.cluster_types.specs.declared.message.Message.{Message}
@@ -17,7 +15,7 @@ use Rattle.client_core.specs.Identifier.{client_id}
 use Rattle.client_core.specs.Limits.{is_within_limits, is_engine}
 use Rattle.client_core.specs.Messages.{dependency_text, submit_metadata, execute_content}
 use Rattle.client_core.specs.Clients.{Used}
-use Rattle.client_core.specs.Taking.{took, type_in, task_in, took_all, times_settled}
+use Rattle.client_core.specs.Taking.{took, type_in, task_in}
 
 pub zero_octets : client_id (0 ∷ 0 ∷ 0 ∷ 0 ∷ 0 ∷ 0 ∷ 0 ∷ 0 ∷ 0 ∷ 0 ∷ 0 ∷ 0 ∷ 0 ∷ 0 ∷ 0 ∷ 0 ∷ []) ≡ codes "00000000-0000-4000-8000-000000000000"
 unfolding client_id by_index

@@ -1,10 +1,10 @@
 -- `t":` stands nowhere in texts as JSON writes them, nor in lists of them.
-use Rattle.std.proofs.Common.{◌≡◌, ◌⊎◌, ◌<◌, ◌≤◌, ℕ, Bool, true, false, not, ◌&&◌, ◌==◌, nat_lt, List, [], ◌∷◌, ◌++◌, map, flat_map, codes, cond, if◌then◌else◌, inl, inr, ⊎_elim, true≢false, arith, refl, sym, ap, subst, ◌∙◌, append_assoc}
-use Rattle.std.proofs.lemmas.Bool.{and_parts, and_from, and_right, cases_eq, cases_lt, ne_eqb, agree_below, agree_below_at, not-true}
+use Rattle.std.proofs.Common.{◌≡◌, ◌<◌, ◌≤◌, ℕ, Bool, true, false, not, ◌&&◌, ◌==◌, List, [], ◌∷◌, ◌++◌, map, flat_map, if◌then◌else◌, ⊎_elim, true≢false, refl, sym, ap, subst, ◌∙◌}
+use Rattle.std.proofs.lemmas.Bool.{and_parts, cases_eq, cases_lt, ne_eqb, agree_below_at, not-true}
 use Rattle.json.specs.Print.{escape_byte, escape, quoted}
 use Rattle.json.proofs.Printed.Strings.{escape_byte_plain}
 use Rattle.message_defs.specs.Texts.{parted, texts_list}
-use Rattle.client_core.proofs.Fractions.{Passed, neither, letter, closed, after_quote, next, ends_key, behind, keyless, keyless-append, behind-append}
+use Rattle.client_core.proofs.Fractions.{Passed, neither, letter, closed, behind, keyless, keyless-append, behind-append}
 
 abbrev is_closed : Passed → Bool
 is_closed neither = false

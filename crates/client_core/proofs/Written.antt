@@ -1,6 +1,6 @@
 -- The metadata of a task is the text of a JSON value.
-use Rattle.std.proofs.Common.{◌≡◌, ◌<◌, ◌≤◌, ◌^◌, ℕ, Bool, true, false, List, [], ◌∷◌, ◌++◌, map, flat_map, codes, decimal, refl, sym, ap, ◌∙◌, append_assoc, append-nil}
-use Rattle.json.specs.Token.{Token, begin_object, end_object, begin_array, end_array, key, string, number, boolean}
+use Rattle.std.proofs.Common.{◌≡◌, ℕ, Bool, true, false, List, [], ◌∷◌, ◌++◌, map, flat_map, codes, decimal, refl, sym, ap, ◌∙◌, append_assoc}
+use Rattle.json.specs.Token.{Token, boolean}
 use Rattle.json.specs.Json as json
 use Rattle.json.specs.Print.{print, print_from, token_text, quoted, escape_byte}
 use Rattle.json.specs.Tree.{json_tokens, items_tokens, members_tokens}

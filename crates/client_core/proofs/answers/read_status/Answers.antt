@@ -1,4 +1,4 @@
-use Rattle.std.proofs.Common.{rules, ◌≡◌, ◌⊎◌, Err, IfErr, inl, inr, ⊎_elim}
+use Rattle.std.proofs.Common.{rules, ◌≡◌, ◌⊎◌, Err, inl, inr, ⊎_elim}
 use Rattle.message_defs.specs.declared.fault.ReadError.{ReadError}
 use Rattle.message_defs.specs.Reply.{read_status}
 use Rattle.client_core.proofs.Parts.{no_status}

@@ -1,4 +1,4 @@
-use Rattle.std.proofs.Common.{◌≡◌, ◌<◌, ◌≤◌, ◌+◌, suc, length, map, string_bytes, BTreeMap, String, Global, Bool, false, List, ℕ, None, arith, sym, ap, ◌∙◌}
+use Rattle.std.proofs.Common.{◌≡◌, ◌+◌, suc, length, string_bytes, String, Global, Bool, false, List, ℕ, None, arith, ap, ◌∙◌}
 use Rattle.std.specs.BTreeMap.{insert_entry}
 use Rattle.std.proofs.Common.{string_cmp}
 use Rattle.std.proofs.lemmas.List.{length-map}

@@ -1,5 +1,5 @@
-use Rattle.std.proofs.Common.{◌≡◌, ◌<◌, ◌≤◌, ◌+◌, ◌-◌, suc, true, false, Some, None, arith, sym, ap, ◌∙◌}
-use Rattle.client_core.specs.Clients.{settled_in, with_settled, unsettled, used_in}
+use Rattle.std.proofs.Common.{◌≡◌, true, false, Some, None, arith, ap, ◌∙◌}
+use Rattle.client_core.specs.Clients.{unsettled, used_in}
 use Rattle.client_core.proofs.Entries.{set_of, lookup_of}
 use Rattle.client_core.proofs.Counts.{unsettled_after}
 use Rattle.client_core.proofs.used.settle.Goals as goal

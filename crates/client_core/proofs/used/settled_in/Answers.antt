@@ -1,4 +1,4 @@
-use Rattle.std.proofs.Common.{◌≡◌, sym, ap, ◌∙◌}
+use Rattle.std.proofs.Common.{◌∙◌}
 use Rattle.client_core.proofs.Entries.{lookup_of}
 use Rattle.client_core.proofs.used.settled_in.Goals as goal
 

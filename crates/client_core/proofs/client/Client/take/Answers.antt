@@ -1,4 +1,4 @@
-use Rattle.std.proofs.Common.{◌≡◌, Some, false, sym, ap, ◌∙◌}
+use Rattle.std.proofs.Common.{ap, ◌∙◌}
 use Rattle.client_core.specs.Clients.{settled_in, used_in}
 use Rattle.client_core.proofs.Once.{settled_where}
 use Rattle.client_core.proofs.client.Client.take.Goals as goal
