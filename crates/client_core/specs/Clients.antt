@@ -1,13 +1,10 @@
 -- What a client knows: its session, and the ids that it used.
 use Rattle.std.specs.Global.{Global}
-use Rattle.std.specs.Prelude.{ℕ, Bool, false, true, not, List, length, filter, map, String, string_bytes, Option, is_some, bytes_eq, if◌then◌else◌, Result, Ok, Err}
+use Rattle.std.specs.Prelude.{ℕ, Bool, false, true, not, List, length, filter, map, String, string_bytes, Option, is_some, bytes_eq}
 use Rattle.std.specs.Ordering.{nat_cmp}
 use Rattle.std.specs.Cmp.Lexicographic.{slice_cmp}
 use Rattle.std.specs.Map.{lookup, set_value}
 use Rattle.std.specs.BTreeMap.{insert_entry}
-use Rattle.cluster_types.specs.declared.message.Message.{Message}
-use Rattle.client_core.specs.declared.error.SubmitError.{SubmitError}
-use Rattle.client_core.specs.declared.error.SubmitError.TheVariants.{KnownId}
 
 -- ids in the order of their octets, each with whether its task is settled
 abbrev pub Used : Type 0
@@ -35,10 +32,6 @@ with_settled used id = set_value (bytes_eq id) used true
 -- how many ids have a task that isn't settled
 abbrev pub unsettled : Used → ℕ
 unsettled used = length (filter (λ u. not u.1) used)
-
--- a request is sent unless its id was used
-abbrev pub sent_unless_used : Used → List ℕ → Message → Result Message SubmitError
-sent_unless_used used id message = if is_used used id then Err KnownId else Ok message
 
 -- the entries of a map, by the octets of their ids
 abbrev pub used_in : List (String Global × Bool) → Used

@@ -7,7 +7,7 @@ use Rattle.message_defs.specs.Reply.{read_task, read_status}
 use Rattle.message_defs.specs.Texts.{submit_refused}
 use Rattle.client_core.specs.declared.took.Took.{Took}
 use Rattle.client_core.specs.declared.took.Took.TheVariants.{Settled, Other, Stranger}
-use Rattle.client_core.specs.Clients.{Used, settled_in, with_settled}
+use Rattle.client_core.specs.Clients.{Known, Used, settled_in, with_settled}
 
 -- the outcome of a task, by the status in its content
 abbrev pub settled_by : List ℕ → Option Bool → Took
@@ -44,6 +44,9 @@ abbrev pub used_after : Used → Took → Used
 used_after used (Settled id ok) = with_settled used id
 used_after used Other = used
 used_after used Stranger = used
+
+abbrev pub after_taking : Known → Took → Known
+after_taking client t = record client { used = used_after client.used t }
 
 -- what messages are to a client that takes one after another
 abbrev pub took_all : Used → List Message → List Took

@@ -1,19 +1,18 @@
 //! A client of the cluster.
 
-ghost use Rattle.std.specs.Prelude.{◌≡◌, ◌⊎◌, ◌≤◌, [], true, false, Some, Ok, Err, IfOk, IfErr, OnOk, OnErr};
+ghost use Rattle.std.specs.Prelude.{◌≡◌, ◌⊎◌, ◌≤◌, [], true, Ok, Err, IfOk, IfErr, OnOk, OnErr};
 ghost use Rattle.cluster_types.specs.Limits.{last_moment};
 ghost use Rattle.message_defs.specs.Submit.{read_submit};
-ghost use Rattle.client_core.specs.Identifier.{client_id};
 ghost use Rattle.client_core.specs.Limits.{is_within_limits, is_engine};
-ghost use Rattle.client_core.specs.Messages.{Request, message_under, task_request, engine_request, hub_request, meta_once};
-ghost use Rattle.client_core.specs.Sending.{request_of};
-ghost use Rattle.client_core.specs.Clients.{Known, Used, settled_in, sent_unless_used, with_id, unsettled, used_in};
-ghost use Rattle.client_core.specs.Taking.{took, took_for, took_under, used_after};
+ghost use Rattle.client_core.specs.Messages.{task_request, engine_request, hub_request, meta_once};
+ghost use Rattle.client_core.specs.Clients.{unsettled};
+ghost use Rattle.client_core.specs.Sending.{request_of, message_of, sent, after_sending};
+ghost use Rattle.client_core.specs.Taking.{took, after_taking};
 
-use crate::answers::{status_in, task_in, type_in};
 use crate::error::SubmitError;
 use crate::identifier::client_id;
 use crate::request::{Request, message_under};
+use crate::taking::took;
 use crate::texts::{execute_content, submit_metadata};
 use crate::took::Took;
 use crate::used::{note, settle, settled_in};
@@ -30,9 +29,6 @@ const EXECUTE_REQUEST: &str = "execute_request";
 
 /// The metadata of a request that is no task.
 const NO_METADATA: &str = "{}";
-
-/// The type of the refusal of a request.
-const SUBMIT_REFUSED: &str = "submit_refused";
 
 /// A client, which contracts see as its session and the ids that it used, each with whether its task is settled.
 #[derive(Drop)]
@@ -58,63 +54,6 @@ impl Model for Client {
     ghost invariant = { λ c. c.outstanding ≡ unsettled (used_in c.used.entries) };
 }
 
-/// What a message about the task of an unsettled id is.
-#[tactic(auto, unfolding(message_defs::specs::Texts::submit_refused))]
-fn took_unsettled(
-    alloc: Global,
-    content: &[u8],
-    msg_type: &Text,
-    id: Text,
-    scratch: &mut Scratch,
-) -> Result<Took, AllocError>
-    ensures { IfOk result (λ t. t ≡ took_for content.now msg_type.now id (Some false)) }
-{
-    if msg_type.as_str() == SUBMIT_REFUSED {
-        return Ok(Took::Other);
-    }
-    match status_in(alloc, content, scratch)? {
-        Some(ok) => Ok(Took::Settled { id, ok }),
-        None => Ok(Took::Other),
-    }
-}
-
-/// What a message of a type about the task of an id is.
-fn took_under(
-    alloc: Global,
-    used: &BTreeMap<String, bool>,
-    content: &[u8],
-    msg_type: &Text,
-    id: Text,
-    scratch: &mut Scratch,
-) -> Result<Took, AllocError>
-    ensures { IfOk result (λ t. t ≡ took_for content.now msg_type.now id (settled_in (used_in used.now.entries) id)) }
-{
-    match settled_in(used, id.as_str()) {
-        None => Ok(Took::Stranger),
-        Some(true) => Ok(Took::Other),
-        Some(false) => took_unsettled(alloc, content, msg_type, id, scratch),
-    }
-}
-
-/// What a message is to a client that used these ids.
-#[tactic(auto, unfolding(crate::specs::Taking::took))]
-fn took(
-    alloc: Global,
-    used: &BTreeMap<String, bool>,
-    message: &SharedMessage,
-    scratch: &mut Scratch,
-) -> Result<Took, AllocError>
-    ensures { IfOk result (λ t. t ≡ took (used_in used.now.entries) message.now) }
-{
-    let Some(msg_type) = type_in(alloc, message.header(), scratch)? else {
-        return Ok(Took::Stranger);
-    };
-    let Some(id) = task_in(alloc, message.parent(), scratch)? else {
-        return Ok(Took::Stranger);
-    };
-    took_under(alloc, used, message.content(), &msg_type, id, scratch)
-}
-
 impl Client {
     /// A client that used no id. `session` stands in its messages as the session and as the user.
     pub fn new(alloc: Global, session: &str) -> Result<Client, AllocError>
@@ -137,9 +76,9 @@ impl Client {
         request: &Request<'_>,
     ) -> Result<SharedMessage, SubmitError>
         requires { moment ≤ last_moment }
-        ensures ok { IfOk result (λ m. sent_unless_used self.old.used (client_id random) (message_under self.old.session (client_id random) moment (request_of request.now)) ≡ Ok m) }
-        ensures err { IfErr result (λ e. (e ≡ SubmitError.OutOfMemory) ⊎ (sent_unless_used self.old.used (client_id random) (message_under self.old.session (client_id random) moment (request_of request.now)) ≡ Err e)) }
-        ensures noted { OnOk result (self.new ≡ record self.old { used = with_id self.old.used (client_id random) }) }
+        ensures ok { IfOk result (λ m. sent self.old random moment (request_of request.now) ≡ Ok m) }
+        ensures err { IfErr result (λ e. (e ≡ SubmitError.OutOfMemory) ⊎ (sent self.old random moment (request_of request.now) ≡ Err e)) }
+        ensures noted { OnOk result (self.new ≡ after_sending self.old random) }
         ensures same { OnErr result (self.new ≡ self.old) }
     {
         let id = client_id(self.alloc, random)?;
@@ -169,9 +108,9 @@ impl Client {
     ) -> Result<SharedMessage, SubmitError>
         requires moment { moment ≤ last_moment }
         requires limits { is_within_limits meta.now ≡ true }
-        ensures ok { IfOk result (λ m. sent_unless_used self.old.used (client_id random) (message_under self.old.session (client_id random) moment (task_request meta.now code.now)) ≡ Ok m) }
-        ensures err { IfErr result (λ e. (e ≡ SubmitError.OutOfMemory) ⊎ (sent_unless_used self.old.used (client_id random) (message_under self.old.session (client_id random) moment (task_request meta.now code.now)) ≡ Err e)) }
-        ensures noted { OnOk result (self.new ≡ record self.old { used = with_id self.old.used (client_id random) }) }
+        ensures ok { IfOk result (λ m. sent self.old random moment (task_request meta.now code.now) ≡ Ok m) }
+        ensures err { IfErr result (λ e. (e ≡ SubmitError.OutOfMemory) ⊎ (sent self.old random moment (task_request meta.now code.now) ≡ Err e)) }
+        ensures noted { OnOk result (self.new ≡ after_sending self.old random) }
         ensures same { OnErr result (self.new ≡ self.old) }
         ensures reads { IfOk result (λ m. read_submit m.metadata ≡ Ok (meta_once meta.now)) }
     {
@@ -198,9 +137,9 @@ impl Client {
     ) -> Result<SharedMessage, SubmitError>
         requires moment { moment ≤ last_moment }
         requires engine { is_engine engine.now ≡ true }
-        ensures ok { IfOk result (λ m. sent_unless_used self.old.used (client_id random) (message_under self.old.session (client_id random) moment (engine_request engine.now code.now)) ≡ Ok m) }
-        ensures err { IfErr result (λ e. (e ≡ SubmitError.OutOfMemory) ⊎ (sent_unless_used self.old.used (client_id random) (message_under self.old.session (client_id random) moment (engine_request engine.now code.now)) ≡ Err e)) }
-        ensures noted { OnOk result (self.new ≡ record self.old { used = with_id self.old.used (client_id random) }) }
+        ensures ok { IfOk result (λ m. sent self.old random moment (engine_request engine.now code.now) ≡ Ok m) }
+        ensures err { IfErr result (λ e. (e ≡ SubmitError.OutOfMemory) ⊎ (sent self.old random moment (engine_request engine.now code.now) ≡ Err e)) }
+        ensures noted { OnOk result (self.new ≡ after_sending self.old random) }
         ensures same { OnErr result (self.new ≡ self.old) }
     {
         let content = execute_content(self.alloc, code)?;
@@ -224,7 +163,7 @@ impl Client {
         moment: u64,
     ) -> Result<SharedMessage, AllocError>
         requires { moment ≤ last_moment }
-        ensures { IfOk result (λ m. m ≡ message_under self.now.session (client_id random) moment (hub_request msg_type.now content.now)) }
+        ensures { IfOk result (λ m. m ≡ message_of self.now random moment (hub_request msg_type.now content.now)) }
     {
         let id = client_id(self.alloc, random)?;
         let request = Request {
@@ -240,7 +179,7 @@ impl Client {
     /// What a message is to this client. An outcome settles its task.
     pub fn take(&mut self, message: &SharedMessage) -> Result<Took, AllocError>
         ensures took { IfOk result (λ t. t ≡ took self.old.used message.now) }
-        ensures settled { IfOk result (λ t. self.new ≡ record self.old { used = used_after self.old.used t }) }
+        ensures settled { IfOk result (λ t. self.new ≡ after_taking self.old t) }
         ensures same { OnErr result (self.new ≡ self.old) }
     {
         let took = took(self.alloc, &self.used, message, &mut self.scratch)?;

@@ -8,6 +8,7 @@ mod identifier;
 pub mod laws;
 pub mod limits;
 mod request;
+mod taking;
 #[cfg(test)]
 mod tests;
 mod texts;
