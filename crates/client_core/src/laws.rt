@@ -15,8 +15,7 @@ pub fn settled_once()
     ensures { (used : Used) (messages : List Message) (id : List ℕ) → times_settled id used messages ≤ 1 }
 {}
 
-/// The metadata of a request within the limits reads as what was meant, with each id of a dependency once. That it is UTF-8
-/// follows where its ids are.
+/// Metadata within the limits that is UTF-8 reads as what was meant, with each id of a dependency once.
 pub fn metadata_reads_back()
     ensures { (meta : SubmitMeta) → is_within_limits meta ≡ true → is_utf8 (submit_metadata meta) ≡ true → read_submit (submit_metadata meta) ≡ Ok (meta_once meta) }
 {}
