@@ -1,0 +1,6 @@
+pub mod Limits
+pub mod Identifier
+pub mod Messages
+pub mod Clients
+pub mod Sending
+pub mod Taking

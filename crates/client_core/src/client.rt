@@ -1,0 +1,198 @@
+//! A client of the cluster.
+
+ghost use Rattle.std.specs.Prelude.{◌≡◌, ◌⊎◌, ◌≤◌, [], true, Ok, Err, IfOk, IfErr, OnOk, OnErr};
+ghost use Rattle.cluster_types.specs.Limits.{last_moment};
+ghost use Rattle.message_defs.specs.Submit.{read_submit};
+ghost use Rattle.client_core.specs.Limits.{is_within_limits, is_engine};
+ghost use Rattle.client_core.specs.Messages.{task_request, engine_request, hub_request, meta_once};
+ghost use Rattle.client_core.specs.Clients.{unsettled};
+ghost use Rattle.client_core.specs.Sending.{request_of, message_of, sent, after_sending};
+ghost use Rattle.client_core.specs.Taking.{took, after_taking};
+
+use crate::error::SubmitError;
+use crate::identifier::client_id;
+use crate::request::{Request, message_under};
+use crate::taking::took;
+use crate::texts::{execute_content, submit_metadata};
+use crate::took::Took;
+use crate::used::{note, settle, settled_in};
+use cluster_types::shared_message::SharedMessage;
+use cluster_types::text::Text;
+use json::Scratch;
+use message_defs::content::SubmitMeta;
+use std::alloc::{AllocError, Global};
+use std::collections::BTreeMap;
+use std::marker::Model;
+
+/// The type of a request to run code.
+const EXECUTE_REQUEST: &str = "execute_request";
+
+/// The metadata of a request that is no task.
+const NO_METADATA: &str = "{}";
+
+/// A client, which contracts see as its session and the ids that it used, each with whether its task is settled.
+#[derive(Drop)]
+pub struct Client {
+    session: Text,
+    /// Whether the task of each used id is settled.
+    used: BTreeMap<String, bool>,
+    /// How many of these tasks aren't settled.
+    outstanding: usize,
+    /// Texts with escapes, while a message is read.
+    scratch: Scratch,
+    alloc: Global,
+}
+
+impl Model for Client {
+    ghost use Rattle.client_core.specs.Clients.{Known, used_in, unsettled};
+    ghost use Rattle.std.specs.Prelude.{◌≡◌};
+
+    ghost Value = { Known };
+
+    ghost view = { λ c. record { session = c.session; used = used_in c.used.entries } };
+
+    ghost invariant = { λ c. c.outstanding ≡ unsettled (used_in c.used.entries) };
+}
+
+impl Client {
+    /// A client that used no id. `session` stands in its messages as the session and as the user.
+    pub fn new(alloc: Global, session: &str) -> Result<Client, AllocError>
+        ensures { IfOk result (λ c. c ≡ record { session = session.now; used = [] }) }
+    {
+        Ok(Client {
+            session: Text::new(alloc, session)?,
+            used: BTreeMap::new(alloc),
+            outstanding: 0,
+            scratch: Scratch::new(alloc),
+            alloc,
+        })
+    }
+
+    /// A request under the id of the random octets, which is noted.
+    fn send(
+        &mut self,
+        random: [u8; 16],
+        moment: u64,
+        request: &Request<'_>,
+    ) -> Result<SharedMessage, SubmitError>
+        requires { moment ≤ last_moment }
+        ensures ok { IfOk result (λ m. sent self.old random moment (request_of request.now) ≡ Ok m) }
+        ensures err { IfErr result (λ e. (e ≡ SubmitError.OutOfMemory) ⊎ (sent self.old random moment (request_of request.now) ≡ Err e)) }
+        ensures noted { OnOk result (self.new ≡ after_sending self.old random) }
+        ensures same { OnErr result (self.new ≡ self.old) }
+    {
+        let id = client_id(self.alloc, random)?;
+        if settled_in(&self.used, id.as_str()).is_some() {
+            return Err(SubmitError::KnownId);
+        }
+        let session = self.session.as_str();
+        let message = message_under(self.alloc, session, id.as_str(), moment, request)?;
+        note(
+            &mut self.used,
+            &mut self.outstanding,
+            self.alloc,
+            id.as_str(),
+        )?;
+        Ok(message)
+    }
+
+    /// A task for any engine that its metadata lets it run on. Its id is the UUID of the random octets, and the moment is in
+    /// milliseconds since 1970-01-01T00:00:00Z.
+    #[tactic(auto, unfolding(crate::specs::Messages::execute_request, message_defs::specs::Texts::empty_object))]
+    pub fn submit(
+        &mut self,
+        code: &str,
+        meta: &SubmitMeta,
+        random: [u8; 16],
+        moment: u64,
+    ) -> Result<SharedMessage, SubmitError>
+        requires moment { moment ≤ last_moment }
+        requires limits { is_within_limits meta.now ≡ true }
+        ensures ok { IfOk result (λ m. sent self.old random moment (task_request meta.now code.now) ≡ Ok m) }
+        ensures err { IfErr result (λ e. (e ≡ SubmitError.OutOfMemory) ⊎ (sent self.old random moment (task_request meta.now code.now) ≡ Err e)) }
+        ensures noted { OnOk result (self.new ≡ after_sending self.old random) }
+        ensures same { OnErr result (self.new ≡ self.old) }
+        ensures reads { IfOk result (λ m. read_submit m.metadata ≡ Ok (meta_once meta.now)) }
+    {
+        let metadata = submit_metadata(self.alloc, meta)?;
+        let content = execute_content(self.alloc, code)?;
+        let request = Request {
+            target: "",
+            msg_type: EXECUTE_REQUEST,
+            metadata: metadata.as_str(),
+            content: content.as_str(),
+        };
+        self.send(random, moment, &request)
+    }
+
+    /// A request to one engine, which is named by its uuid. Its id is the UUID of the random octets, and the moment is in
+    /// milliseconds since 1970-01-01T00:00:00Z.
+    #[tactic(auto, unfolding(crate::specs::Messages::execute_request, message_defs::specs::Texts::empty_object))]
+    pub fn direct(
+        &mut self,
+        engine: &str,
+        code: &str,
+        random: [u8; 16],
+        moment: u64,
+    ) -> Result<SharedMessage, SubmitError>
+        requires moment { moment ≤ last_moment }
+        requires engine { is_engine engine.now ≡ true }
+        ensures ok { IfOk result (λ m. sent self.old random moment (engine_request engine.now code.now) ≡ Ok m) }
+        ensures err { IfErr result (λ e. (e ≡ SubmitError.OutOfMemory) ⊎ (sent self.old random moment (engine_request engine.now code.now) ≡ Err e)) }
+        ensures noted { OnOk result (self.new ≡ after_sending self.old random) }
+        ensures same { OnErr result (self.new ≡ self.old) }
+    {
+        let content = execute_content(self.alloc, code)?;
+        let request = Request {
+            target: engine,
+            msg_type: EXECUTE_REQUEST,
+            metadata: NO_METADATA,
+            content: content.as_str(),
+        };
+        self.send(random, moment, &request)
+    }
+
+    /// A request to the hub. Its id is the UUID of the random octets, and isn't kept: the answer is a stranger. The moment is in
+    /// milliseconds since 1970-01-01T00:00:00Z.
+    #[tactic(auto, unfolding(message_defs::specs::Texts::empty_object))]
+    pub fn ask(
+        &self,
+        msg_type: &str,
+        content: &str,
+        random: [u8; 16],
+        moment: u64,
+    ) -> Result<SharedMessage, AllocError>
+        requires { moment ≤ last_moment }
+        ensures { IfOk result (λ m. m ≡ message_of self.now random moment (hub_request msg_type.now content.now)) }
+    {
+        let id = client_id(self.alloc, random)?;
+        let request = Request {
+            target: "",
+            msg_type,
+            metadata: NO_METADATA,
+            content,
+        };
+        let session = self.session.as_str();
+        message_under(self.alloc, session, id.as_str(), moment, &request)
+    }
+
+    /// What a message is to this client. An outcome settles its task.
+    pub fn take(&mut self, message: &SharedMessage) -> Result<Took, AllocError>
+        ensures took { IfOk result (λ t. t ≡ took self.old.used message.now) }
+        ensures settled { IfOk result (λ t. self.new ≡ after_taking self.old t) }
+        ensures same { OnErr result (self.new ≡ self.old) }
+    {
+        let took = took(self.alloc, &self.used, message, &mut self.scratch)?;
+        if let Took::Settled { id, ok: _ } = &took {
+            settle(&mut self.used, &mut self.outstanding, id.as_str());
+        }
+        Ok(took)
+    }
+
+    /// How many tasks of this client aren't settled.
+    pub fn outstanding(&self) -> usize
+        ensures { result ≡ unsettled self.now.used }
+    {
+        self.outstanding
+    }
+}
