@@ -152,8 +152,8 @@ impl Client {
         self.send(random, moment, &request)
     }
 
-    /// A request to the hub. Its id is the UUID of the random octets, and isn't kept: the answer is a stranger. The moment is in
-    /// milliseconds since 1970-01-01T00:00:00Z.
+    /// A request to the hub. Its id is the UUID of the random octets, and isn't kept, so that the answer is a
+    /// stranger's unless a task has the same id. The moment is in milliseconds since 1970-01-01T00:00:00Z.
     #[tactic(auto, unfolding(message_defs::specs::Texts::empty_object))]
     pub fn ask(
         &self,

@@ -2,7 +2,6 @@
 
 ghost use Rattle.std.specs.Prelude.{◌≡◌, ◌≤◌, IfOk};
 ghost use Rattle.cluster_types.specs.Limits.{last_moment};
-ghost use Rattle.client_core.specs.Identifier.{client_id};
 ghost use Rattle.client_core.specs.Messages.{message_under};
 ghost use Rattle.client_core.specs.Sending.{request_of};
 

@@ -1,7 +1,6 @@
 //! Metadata and contents that are written.
 
-ghost use Rattle.std.specs.Prelude.{◌≡◌, IfOk, string_bytes, true};
-ghost use Rattle.std.specs.Str.{is_utf8};
+ghost use Rattle.std.specs.Prelude.{◌≡◌, IfOk, string_bytes};
 ghost use Rattle.client_core.specs.Messages.{flag_text, dependency_text, submit_metadata, execute_content};
 
 use cluster_types::event::Dep;
