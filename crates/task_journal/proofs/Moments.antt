@@ -42,7 +42,7 @@ module _ {D : Type 0} (moment : D → ℕ) (image : D → List ℕ → Type 0) (
     leaves = record {
       later = omega (arith, so_far.leaves.later, only.later);
       each = λ c since. ⊎_elim (so_far.leaves.each c) (so_far.now c) (only.since (moment old) c so_far.leaves.later since);
-        keeps = λ t c le since. only.keeps t c (omega (arith, le, so_far.leaves.later)) (so_far.leaves.keeps t c le since);
+      keeps = λ t c le since. only.keeps t c (omega (arith, le, so_far.leaves.later)) (so_far.leaves.keeps t c le since);
       before = λ t c le since.
           ⊎_elim (λ past. ⊎_elim (λ told. inl told) (λ now. inr (only.keeps (moment old) c so_far.leaves.later now)) (so_far.leaves.before t c le past))
           (λ now. inr (only.keeps (moment old) c so_far.leaves.later (counts mid (moment old) c so_far.leaves.later now))) (only.since t c (omega (arith, le, so_far.leaves.later)) since);
