@@ -136,14 +136,22 @@ fn with_buffers(alloc: Global, count: usize) -> Result<Answer, AllocError> {
 
 #[test]
 fn engines_and_tasks(rt: HostRuntime) -> Result<(), Fail> {
-    let alloc = rt.alloc();
-    let text = "{\"status\":\"ok\",\"engines\":{\"1\":\"e1\"}}";
-    assert!(rt; is_told(alloc, Query::Connection, text)?);
-    let text = "{\"status\":\"ok\",\"history\":[\"a\",\"b\",\"c\"]}";
-    assert!(rt; is_told(alloc, Query::History, text)?);
-    let text =
-        "{\"status\":\"error\",\"ename\":\"UnknownRequest\",\"evalue\":\"x_request\",\"traceback\":[],\"ids\":[]}";
-    assert!(rt; is_told(alloc, Query::Unknown, text)?);
+    for (query, text) in [
+        (
+            Query::Connection,
+            "{\"status\":\"ok\",\"engines\":{\"1\":\"e1\"}}",
+        ),
+        (
+            Query::History,
+            "{\"status\":\"ok\",\"history\":[\"a\",\"b\",\"c\"]}",
+        ),
+        (
+            Query::Unknown,
+            "{\"status\":\"error\",\"ename\":\"UnknownRequest\",\"evalue\":\"x_request\",\"traceback\":[],\"ids\":[]}",
+        ),
+    ] {
+        assert!(rt; is_told(rt.alloc(), query, text)?, "at {text}");
+    }
     Ok(())
 }
 
@@ -176,15 +184,32 @@ fn queues(rt: HostRuntime) -> Result<(), Fail> {
 #[test]
 fn results(rt: HostRuntime) -> Result<(), Fail> {
     let alloc = rt.alloc();
-    let text = "{\"status\":\"ok\",\"pending\":[\"b\"],\"completed\":[],\"results\":{}}";
-    assert!(rt; is_told(alloc, result(alloc, &["b"], false)?, text)?);
-    let text =
-        "{\"status\":\"error\",\"ename\":\"UnknownIds\",\"evalue\":\"\",\"traceback\":[],\"ids\":[\"z\"]}";
-    assert!(rt; is_told(alloc, result(alloc, &["z", "a"], true)?, text)?);
-    let told = asked(alloc, &result(alloc, &["a", "a"], false)?)?;
-    let text =
-        "{\"status\":\"ok\",\"pending\":[],\"completed\":[\"a\"],\"results\":{\"a\":{\"engine\":0,\"verdict\":\"completed\",\"cause\":\"Reply\",\"header\":{},\"metadata\":{},\"content\":{\"status\":\"ok\"},\"buffers\":1}}}";
-    assert!(rt; says(&told, text) && told.buffers.len() == 1);
+    for (names, status_only, text, buffers) in [
+        (
+            &["b"] as &[&str],
+            false,
+            "{\"status\":\"ok\",\"pending\":[\"b\"],\"completed\":[],\"results\":{}}",
+            0,
+        ),
+        (
+            &["z", "a"],
+            true,
+            "{\"status\":\"error\",\"ename\":\"UnknownIds\",\"evalue\":\"\",\"traceback\":[],\"ids\":[\"z\"]}",
+            0,
+        ),
+        (
+            &["a", "a"],
+            false,
+            "{\"status\":\"ok\",\"pending\":[],\"completed\":[\"a\"],\"results\":{\"a\":{\"engine\":0,\"verdict\":\"completed\",\"cause\":\"Reply\",\"header\":{},\"metadata\":{},\"content\":{\"status\":\"ok\"},\"buffers\":1}}}",
+            1,
+        ),
+    ] {
+        let told = asked(alloc, &result(alloc, names, status_only)?)?;
+        assert!(rt;
+            says(&told, text) && told.buffers.len() == buffers,
+            "at {text}"
+        );
+    }
     Ok(())
 }
 

@@ -6,4 +6,6 @@
 
 pub mod reading;
 pub mod stop;
+#[cfg(test)]
+mod tests;
 pub mod writing;

@@ -1,78 +1,75 @@
 //! Sizes of records.
 
-ghost use Rattle.std.specs.Prelude.{◌≡◌, ◌+◌, ◌*◌, ◌≤◌, ◌<◌, ◌^◌, All, length};
-ghost use Rattle.record_codec.specs.Spelling.{spelling, blobs, message_spelling, IsShort, IsWithinLimits};
+ghost use Rattle.std.specs.Prelude.{◌≡◌, ◌+◌, ◌-◌, ◌^◌, length, min};
+ghost use Rattle.record_codec.specs.Spelling.{spelling, blobs, message_spelling, IsWithinLimits};
+ghost use Rattle.record_codec.specs.Sizes.{record_size};
 
 use cluster_types::entry::{Entry, Input};
 use cluster_types::octets::Octets;
 use cluster_types::shared_message::SharedMessage;
 use cluster_types::text::Text;
 
-/// The number of octets of buffers, each behind its length.
-#[tactic(auto, using(crate::proofs::Lengths::lengths))]
-fn size_of_buffers(buffers: &[Octets]) -> u64
-    requires number { length buffers.now ≤ 58 }
-    requires each { All (λ buffer. length buffer < 2 ^ 32) buffers.now }
-    ensures value { result ≡ length (blobs buffers.now) }
-    ensures bound { result ≤ length buffers.now * (2 ^ 32 + 4) }
+/// A size and so many octets more, or the greatest number where that is less.
+fn more(size: u64, octets: &[u8]) -> u64
+    ensures { result ≡ min (size + length octets.now) (2 ^ 64 - 1) }
 {
-    let mut size = 0;
+    size.saturating_add(octets.len() as u64)
+}
+
+/// The number of octets of buffers, each behind its length, or the greatest number where that is less.
+fn size_of_buffers(buffers: &[Octets]) -> u64
+    ensures { result ≡ min (length (blobs buffers.now)) (2 ^ 64 - 1) }
+{
+    let mut size: u64 = 0;
     for buffer in buffers {
-        size += 4 + buffer.as_slice().len() as u64;
+        size = more(size.saturating_add(4), buffer.as_slice());
     }
     size
 }
 
-/// The number of octets of a message.
+/// The number of octets of a message, or the greatest number where that is less.
 #[tactic(auto, using(crate::proofs::Lengths::lengths), unfolding(crate::specs::Spelling::message_spelling))]
 fn size_of_message(message: &SharedMessage) -> u64
-    requires { IsShort message.now }
-    ensures value { result ≡ length (message_spelling message.now) }
-    ensures bound { result < 2 ^ 62 }
+    ensures { result ≡ min (length (message_spelling message.now)) (2 ^ 64 - 1) }
 {
-    let parts = message.header().len()
-        + message.parent().len()
-        + message.metadata().len()
-        + message.content().len();
-    18 + message.target().len() as u64
-        + parts as u64
-        + size_of_buffers(message.buffers().as_slice())
+    let head = more(more(18, message.target()), message.header());
+    let front = more(more(head, message.parent()), message.metadata());
+    more(front, message.content()).saturating_add(size_of_buffers(message.buffers().as_slice()))
 }
 
-/// The number of octets of an input's record.
+/// The number of octets of an input's record, or the greatest number where that is less.
 #[tactic(auto, using(crate::proofs::Lengths::lengths))]
-fn size_of_input(input: &Input) -> u64
-    requires { IsWithinLimits (Entry.Input input.now) }
-    ensures { result ≡ length (spelling (Entry.Input input.now)) }
+pub fn input_record_size(input: &Input) -> u64
+    ensures { result ≡ record_size (Entry.Input input.now) }
 {
     match input {
         Input::Open { .. } => 18,
-        Input::Up { identity, .. } => 23 + identity.as_slice().len() as u64,
+        Input::Up { identity, .. } => more(23, identity.as_slice()),
         Input::Down { .. } => 21,
-        Input::In { message, .. } => 21 + size_of_message(message),
+        Input::In { message, .. } => size_of_message(message).saturating_add(21),
         Input::Beat { .. } => 17,
         Input::Time { .. } => 17,
     }
 }
 
-/// The number of octets of an id behind its length.
-fn size_of_id(id: &Text) -> u64
-    requires { length id.now < 256 }
-    ensures { result ≡ 1 + length id.now }
+/// The number of octets of an entry's record, or the greatest number where that is less.
+#[tactic(auto, using(crate::proofs::Lengths::lengths))]
+pub fn record_size(entry: &Entry) -> u64
+    ensures { result ≡ record_size entry.now }
 {
-    1 + id.as_slice().len() as u64
+    match entry {
+        Entry::Input(input) => input_record_size(input),
+        Entry::Hand { id, .. } => more(6, id.as_slice()),
+        Entry::Settle { id, .. } => more(4, id.as_slice()),
+        Entry::Lose { .. } => 5,
+    }
 }
 
-/// The number of octets of an entry's record.
-#[tactic(auto, using(crate::proofs::Lengths::lengths))]
+/// The number of octets of the record of an entry within the limits.
+#[tactic(auto, using(crate::proofs::Lengths::within))]
 pub fn entry_size(entry: &Entry) -> u64
     requires { IsWithinLimits entry.now }
     ensures { result ≡ length (spelling entry.now) }
 {
-    match entry {
-        Entry::Input(input) => size_of_input(input),
-        Entry::Hand { id, .. } => 5 + size_of_id(id),
-        Entry::Settle { id, .. } => 3 + size_of_id(id),
-        Entry::Lose { .. } => 5,
-    }
+    record_size(entry)
 }

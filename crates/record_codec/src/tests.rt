@@ -2,7 +2,7 @@
 
 use crate::fault::RecordError;
 use crate::reading::read_entry;
-use crate::size::entry_size;
+use crate::size::{entry_size, record_size};
 use crate::writing::write_entry;
 use cluster_types::entry::{Entry, Input};
 use cluster_types::text::Text;
@@ -69,6 +69,7 @@ fn is_read_and_written(alloc: Global, octets: &[u8]) -> Result<bool, AllocError>
             Ok(
                 next == octets.len().saturating_add(2)
                     && entry_size(&entry) == octets.len() as u64
+                    && record_size(&entry) == octets.len() as u64
                     && written.as_slice() == octets,
             )
         }

@@ -1,6 +1,6 @@
 //! Writing a record.
 
-ghost use Rattle.std.specs.Prelude.{◌≡◌, ◌<◌, ◌≤◌, ◌^◌, ◌++◌, length, slice_index_or, [], All, OnOk};
+ghost use Rattle.std.specs.Prelude.{◌≡◌, ◌<◌, ◌≤◌, ◌^◌, ◌++◌, length, All, OnOk};
 ghost use Rattle.std.specs.List.{flat_map};
 ghost use Rattle.cluster_types.specs.Limits.{most_frames};
 ghost use Rattle.octet_fields.specs.Spelling.{blob};

@@ -139,18 +139,26 @@ fn greetings(rt: HostRuntime) -> Result<(), Fail> {
 #[test]
 fn octets_of_a_message(rt: HostRuntime) -> Result<(), Fail> {
     let mut peer = Peer::new(rt.alloc());
-    peer.feed(connection(rt.alloc(), ROUTER, b"")?.as_slice())?;
-    let piece = [7u8; 65_536];
-    for _ in 0..2 {
-        peer.feed(LONGEST)?;
-        for _ in 0..256 {
-            peer.feed(&piece)?;
+    let ready = connection(rt.alloc(), ROUTER, b"")?;
+    let body = [7u8; 65_536];
+    for (piece, times, fault) in [
+        (ready.as_slice(), 1, None),
+        (LONGEST.as_slice(), 1, None),
+        (body.as_slice(), 256, None),
+        (LONGEST.as_slice(), 1, None),
+        (body.as_slice(), 256, None),
+        (b"\x01\x00".as_slice(), 1, None),
+        (
+            b"\x00\x01".as_slice(),
+            1,
+            Some(PeerFault::MessageTooLong(33_554_546)),
+        ),
+    ] {
+        for _ in 0..times {
+            peer.feed(piece)?;
         }
+        assert_eq!(rt; peer.fault(), fault);
     }
-    peer.feed(b"\x01\x00")?;
-    assert_eq!(rt; peer.fault(), None);
-    peer.feed(b"\x00\x01")?;
-    assert_eq!(rt; peer.fault(), Some(PeerFault::MessageTooLong(33_554_546)));
     Ok(())
 }
 

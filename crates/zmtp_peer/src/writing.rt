@@ -1,6 +1,6 @@
 //! Writing messages and errors.
 
-ghost use Rattle.std.specs.Prelude.{◌≡◌, ◌≤◌, ◌<◌, length, slice_index_or, [], IfOk};
+ghost use Rattle.std.specs.Prelude.{◌≡◌, ◌≤◌, ◌<◌, length, IfOk};
 ghost use Rattle.zmtp_frames.specs.Written.{written_error};
 ghost use Rattle.zmtp_peer.specs.Message.{message_written};
 
