@@ -127,7 +127,9 @@ fn connections_and_engines(rt: HostRuntime) -> Result<(), Fail> {
     assert!(rt; !state.take_pong(1, 1) && !state.take_pong(1, 2));
     mark_on(&mut state.engines, 1, 7);
     assert!(rt; !raises_some(&state.engines, 1, 7));
-    assert!(rt; state.take_leave(1)? && !state.take_leave(1)?);
+    for leaves in [true, false] {
+        assert!(rt; state.take_leave(1)? == leaves);
+    }
     state.disconnect(2);
     assert!(rt;
         connection_on(&state.connections, 2).is_none()
@@ -159,26 +161,19 @@ fn an_engine_is_found(rt: HostRuntime) -> Result<(), Fail> {
 fn requests_over_one_task(rt: HostRuntime) -> Result<(), Fail> {
     let alloc = rt.alloc();
     let state = accepted(alloc)?;
-    let same = state.acceptance(false, &submission(alloc, "a")?, &message(alloc, b"i")?);
-    let other = state.acceptance(true, &submission(alloc, "a")?, &message(alloc, b"h")?);
-    let reserved = state.acceptance(
-        false,
-        &submission(alloc, "resubmit:1")?,
-        &message(alloc, b"h")?,
-    );
+    let (a, copy) = (submission(alloc, "a")?, submission(alloc, "resubmit:1")?);
+    let (told, other) = (message(alloc, b"h")?, message(alloc, b"i")?);
     assert!(rt;
-        same == Acceptance::Again { repeat: true }
-            && other == Acceptance::Again { repeat: false }
-            && reserved == Acceptance::Reserved
+        state.acceptance(false, &a, &other) == Acceptance::Again { repeat: true }
+            && state.acceptance(true, &a, &told) == Acceptance::Again { repeat: false }
+            && state.acceptance(false, &copy, &told) == Acceptance::Reserved
     );
-    let a = on(alloc, &["a"])?;
-    let b = Text::new(alloc, "b")?;
-    let none = on(alloc, &[])?;
-    assert!(rt; is_known(&state.tasks, &Text::new(alloc, "a")?) && !is_known(&state.tasks, &b));
+    assert!(rt; is_known(&state.tasks, &a.id) && !is_known(&state.tasks, &copy.id));
+    let (known, unknown) = (on(alloc, &["a"])?, on(alloc, &["a", "c"])?);
     assert!(rt;
-        !is_invalid(&state.tasks, &b, &a, &none)
-            && is_invalid(&state.tasks, &b, &none, &on(alloc, &["b"])?)
-            && is_invalid(&state.tasks, &b, &on(alloc, &["a", "c"])?, &none)
+        !is_invalid(&state.tasks, &copy.id, &known, &a.follow)
+            && is_invalid(&state.tasks, &a.id, &a.after, &known)
+            && is_invalid(&state.tasks, &copy.id, &unknown, &a.follow)
     );
     Ok(())
 }
@@ -229,8 +224,13 @@ fn a_lost_engine_ends_its_attempt(rt: HostRuntime) -> Result<(), Fail> {
 fn a_task_is_settled_once(rt: HostRuntime) -> Result<(), Fail> {
     let alloc = rt.alloc();
     let mut state = handed(alloc)?;
-    let a = Text::new(alloc, "a")?;
-    assert!(rt; reply(alloc, &mut state, "r")? && !reply(alloc, &mut state, "s")?);
+    for (header, counts) in [("r", true), ("s", false)] {
+        assert!(rt; reply(alloc, &mut state, header)? == counts);
+    }
+    let ids = on(alloc, &["a", "resubmit:2"])?.ids;
+    let [a, copy] = ids.as_slice() else {
+        return Err("two ids".into());
+    };
     let settle = Entry::Settle {
         id: a.clone()?,
         verdict: Verdict::Completed,
@@ -238,13 +238,15 @@ fn a_task_is_settled_once(rt: HostRuntime) -> Result<(), Fail> {
     };
     let _ = take(&mut state, &settle)?;
     assert!(rt; state.tasks.len() == 1 && state.tasks.unsettled().is_empty());
-    let found = state.tasks.find(&a);
+    let found = state.tasks.find(a);
     assert!(rt; found.is_some_and(|task| task.settled().is_some() && task.reply().is_some()));
     let listed = on(alloc, &["a"])?.ids;
     assert!(rt; state.take_resubmit(9, &listed)?);
-    let copy = state.tasks.find(&Text::new(alloc, "resubmit:2")?);
-    assert!(rt; copy.is_some_and(|task| task.request().accepted_at == 9));
-    assert!(rt; state.take_purge(false, &listed)? && !state.take_purge(false, &listed)?);
+    let found = state.tasks.find(copy);
+    assert!(rt; found.is_some_and(|task| task.request().accepted_at == 9));
+    for drops in [true, false] {
+        assert!(rt; state.take_purge(false, &listed)? == drops);
+    }
     Ok(())
 }
 

@@ -263,47 +263,6 @@ fn decided(
     Ok(told(&found, name))
 }
 
-fn are_handed(alloc: Global, chooser: &Chooser) -> Result<bool, AllocError> {
-    let free = with_both(alloc, Verdict::Failed, plain(alloc));
-    let first = decided(alloc, free, chooser, "a")?;
-    let second = decided(alloc, with_load(alloc), chooser, "b")?;
-    Ok(first == Outcome::Handed(0) && second == Outcome::Handed(1))
-}
-
-fn waits_for_kinds(alloc: Global, chooser: &Chooser) -> Result<bool, AllocError> {
-    let either = with_both(alloc, Verdict::Failed, after_both(alloc, true));
-    let first = decided(alloc, either, chooser, "a")?;
-    let completed = with_both(alloc, Verdict::Failed, after_both(alloc, false));
-    let second = decided(alloc, completed, chooser, "a")?;
-    let impossible = Outcome::Failed(Cause::ImpossibleDependency);
-    Ok(first == Outcome::Handed(0) && second == impossible)
-}
-
-fn follows_one_engine(alloc: Global, chooser: &Chooser) -> Result<bool, AllocError> {
-    let apart = with_both(alloc, Verdict::Completed, follows_both(alloc));
-    let found = decided(alloc, apart, chooser, "a")?;
-    Ok(found == Outcome::Failed(Cause::ImpossibleDependency))
-}
-
-fn fails_invalid(alloc: Global, chooser: &Chooser) -> Result<bool, AllocError> {
-    let found = decided(alloc, with_one(alloc, 0, invalid(alloc)), chooser, "a")?;
-    Ok(found == Outcome::Failed(Cause::InvalidDependency))
-}
-
-fn fails_late(alloc: Global, chooser: &Chooser) -> Result<bool, AllocError> {
-    let early = with_one(alloc, 5999, impatient(alloc));
-    let before = decided(alloc, early, chooser, "a")?;
-    let late = with_one(alloc, 6000, impatient(alloc));
-    let after = decided(alloc, late, chooser, "a")?;
-    Ok(before == Outcome::Nothing && after == Outcome::Failed(Cause::TaskTimeout))
-}
-
-fn loses_after_beats(alloc: Global, chooser: &Chooser) -> Result<bool, AllocError> {
-    let before = decided(alloc, with_beats(alloc, 1), chooser, "a")?;
-    let after = decided(alloc, with_beats(alloc, 2), chooser, "a")?;
-    Ok(before == Outcome::Handed(0) && after == Outcome::Lost(0))
-}
-
 #[test]
 fn worked_decisions(rt: HostRuntime) -> Result<(), Fail> {
     let alloc = rt.alloc();
@@ -315,11 +274,48 @@ fn worked_decisions(rt: HostRuntime) -> Result<(), Fail> {
         { place_of(scheme, loads, word) },
     )?;
     let chooser = Chooser::new(choose);
-    assert!(rt; are_handed(alloc, &chooser)?);
-    assert!(rt; waits_for_kinds(alloc, &chooser)?);
-    assert!(rt; follows_one_engine(alloc, &chooser)?);
-    assert!(rt; fails_invalid(alloc, &chooser)?);
-    assert!(rt; fails_late(alloc, &chooser)?);
-    assert!(rt; loses_after_beats(alloc, &chooser)?);
+    let impossible = Outcome::Failed(Cause::ImpossibleDependency);
+    for (state, name, outcome) in [
+        (
+            with_both(alloc, Verdict::Failed, plain(alloc)),
+            "a",
+            Outcome::Handed(0),
+        ),
+        (with_load(alloc), "b", Outcome::Handed(1)),
+        (
+            with_both(alloc, Verdict::Failed, after_both(alloc, true)),
+            "a",
+            Outcome::Handed(0),
+        ),
+        (
+            with_both(alloc, Verdict::Failed, after_both(alloc, false)),
+            "a",
+            impossible,
+        ),
+        (
+            with_both(alloc, Verdict::Completed, follows_both(alloc)),
+            "a",
+            impossible,
+        ),
+        (
+            with_one(alloc, 0, invalid(alloc)),
+            "a",
+            Outcome::Failed(Cause::InvalidDependency),
+        ),
+        (
+            with_one(alloc, 5999, impatient(alloc)),
+            "a",
+            Outcome::Nothing,
+        ),
+        (
+            with_one(alloc, 6000, impatient(alloc)),
+            "a",
+            Outcome::Failed(Cause::TaskTimeout),
+        ),
+        (with_beats(alloc, 1), "a", Outcome::Handed(0)),
+        (with_beats(alloc, 2), "a", Outcome::Lost(0)),
+    ] {
+        assert_eq!(rt; decided(alloc, state, &chooser, name)?, outcome);
+    }
     Ok(())
 }

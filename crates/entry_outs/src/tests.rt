@@ -79,98 +79,12 @@ fn is_made(outs: &[Out], id: &str, kind: &str, text: &str) -> bool {
     }
 }
 
-/// Whether a message with this meaning is answered with this type and content.
-fn is_answered(
-    alloc: Global,
-    channel: Channel,
-    header: &[u8],
-    event: &Event,
-    kind: &str,
-    text: &str,
-) -> Result<bool, AllocError> {
-    match sent(alloc, channel, header, event)? {
-        Some(outs) => Ok(is_made(outs.as_slice(), "hub-2-4", kind, text)),
-        None => Ok(false),
-    }
-}
-
-#[test]
-fn what_engines_send(rt: HostRuntime) -> Result<(), Fail> {
-    let alloc = rt.alloc();
-    let header = b"{\"msg_id\":\"j\",\"msg_type\":\"registration_request\"}";
-    let uuid = Text::new(alloc, "e0")?;
-    let text = "{\"status\":\"ok\",\"id\":0}";
-    assert!(rt;
-        is_answered(
-            alloc,
-            Channel::Engine,
-            header,
-            &Event::Join { uuid },
-            "registration_reply",
-            text
-        )?
-    );
-    let header = b"{\"msg_id\":\"l\",\"msg_type\":\"unregistration_request\"}";
-    let text =
-        "{\"status\":\"error\",\"ename\":\"NotJoined\",\"evalue\":\"\",\"traceback\":[],\"ids\":[]}";
-    assert!(rt;
-        is_answered(
-            alloc,
-            Channel::Engine,
-            header,
-            &Event::Leave,
-            "unregistration_reply",
-            text
-        )?
-    );
-    let header = b"{\"msg_id\":\"b\",\"msg_type\":\"beat_reply\"}";
-    let outs = sent(alloc, Channel::Engine, header, &Event::Pong { beat: 1 })?;
-    assert!(rt; outs.is_some_and(|outs| outs.is_empty()));
-    Ok(())
-}
-
-#[test]
-fn a_request_that_is_not_known(rt: HostRuntime) -> Result<(), Fail> {
-    let alloc = rt.alloc();
-    let header = b"{\"msg_id\":\"q\",\"msg_type\":\"what\"}";
-    let text =
-        "{\"status\":\"error\",\"ename\":\"UnknownRequest\",\"evalue\":\"what\",\"traceback\":[],\"ids\":[]}";
-    let event = Event::Ask(Query::Unknown);
-    assert!(rt; is_answered(alloc, Channel::Hub, header, &event, "what_reply", text)?);
-    Ok(())
-}
-
 /// A purge of the task `a`.
 fn purge(alloc: Global) -> Result<Event, AllocError> {
     let mut ids = Ids::new(alloc);
     ids.push(Text::new(alloc, "a")?)?;
     Ok(Event::Purge { all: false, ids })
 }
-
-#[test]
-fn a_purge_of_an_unknown_id(rt: HostRuntime) -> Result<(), Fail> {
-    let alloc = rt.alloc();
-    let event = purge(alloc)?;
-    let header = b"{\"msg_id\":\"p\",\"msg_type\":\"purge_request\"}";
-    let text =
-        "{\"status\":\"error\",\"ename\":\"UnknownIds\",\"evalue\":\"\",\"traceback\":[],\"ids\":[\"a\"]}";
-    assert!(rt; is_answered(alloc, Channel::Hub, header, &event, "purge_reply", text)?);
-    Ok(())
-}
-
-#[test]
-fn a_resubmission_of_no_ids(rt: HostRuntime) -> Result<(), Fail> {
-    let alloc = rt.alloc();
-    let event = Event::Resubmit {
-        ids: Ids::new(alloc),
-    };
-    let header = b"{\"msg_id\":\"r\",\"msg_type\":\"resubmit_request\"}";
-    let text = "{\"status\":\"ok\",\"resubmitted\":{}}";
-    assert!(rt; is_answered(alloc, Channel::Hub, header, &event, "resubmit_reply", text)?);
-    Ok(())
-}
-
-const SUBMIT: &[u8] = b"{\"msg_id\":\"a\",\"msg_type\":\"execute_request\"}";
 
 /// A request with a bad timeout.
 fn bad_timeout(alloc: Global) -> Result<Event, AllocError> {
@@ -193,23 +107,86 @@ fn direct(alloc: Global) -> Result<Event, AllocError> {
     }))
 }
 
+/// The engine `e0` joins.
+fn join(alloc: Global) -> Result<Event, AllocError> {
+    let uuid = Text::new(alloc, "e0")?;
+    Ok(Event::Join { uuid })
+}
+
+const SUBMIT: &str = "{\"msg_id\":\"a\",\"msg_type\":\"execute_request\"}";
+
 #[test]
-fn bad_metadata(rt: HostRuntime) -> Result<(), Fail> {
+fn what_messages_are_answered_with(rt: HostRuntime) -> Result<(), Fail> {
     let alloc = rt.alloc();
-    let event = bad_timeout(alloc)?;
-    let text =
-        "{\"status\":\"error\",\"ename\":\"BadMetadata\",\"evalue\":\"timeout\",\"traceback\":[],\"ids\":[]}";
-    assert!(rt; is_answered(alloc, Channel::Task, SUBMIT, &event, "submit_refused", text)?);
+    let again = Event::Resubmit {
+        ids: Ids::new(alloc),
+    };
+    for (channel, header, event, kind, text) in [
+        (
+            Channel::Engine,
+            "{\"msg_id\":\"j\",\"msg_type\":\"registration_request\"}",
+            join(alloc)?,
+            "registration_reply",
+            "{\"status\":\"ok\",\"id\":0}",
+        ),
+        (
+            Channel::Engine,
+            "{\"msg_id\":\"l\",\"msg_type\":\"unregistration_request\"}",
+            Event::Leave,
+            "unregistration_reply",
+            "{\"status\":\"error\",\"ename\":\"NotJoined\",\"evalue\":\"\",\"traceback\":[],\"ids\":[]}",
+        ),
+        (
+            Channel::Hub,
+            "{\"msg_id\":\"q\",\"msg_type\":\"what\"}",
+            Event::Ask(Query::Unknown),
+            "what_reply",
+            "{\"status\":\"error\",\"ename\":\"UnknownRequest\",\"evalue\":\"what\",\"traceback\":[],\"ids\":[]}",
+        ),
+        (
+            Channel::Hub,
+            "{\"msg_id\":\"p\",\"msg_type\":\"purge_request\"}",
+            purge(alloc)?,
+            "purge_reply",
+            "{\"status\":\"error\",\"ename\":\"UnknownIds\",\"evalue\":\"\",\"traceback\":[],\"ids\":[\"a\"]}",
+        ),
+        (
+            Channel::Hub,
+            "{\"msg_id\":\"r\",\"msg_type\":\"resubmit_request\"}",
+            again,
+            "resubmit_reply",
+            "{\"status\":\"ok\",\"resubmitted\":{}}",
+        ),
+        (
+            Channel::Task,
+            SUBMIT,
+            bad_timeout(alloc)?,
+            "submit_refused",
+            "{\"status\":\"error\",\"ename\":\"BadMetadata\",\"evalue\":\"timeout\",\"traceback\":[],\"ids\":[]}",
+        ),
+        (
+            Channel::Mux,
+            SUBMIT,
+            direct(alloc)?,
+            "submit_refused",
+            "{\"status\":\"error\",\"ename\":\"NoSuchEngine\",\"evalue\":\"\",\"traceback\":[],\"ids\":[]}",
+        ),
+    ] {
+        let outs = sent(alloc, channel, header.as_bytes(), &event)?;
+        assert!(rt;
+            outs.is_some_and(|outs| is_made(outs.as_slice(), "hub-2-4", kind, text)),
+            "at {kind}"
+        );
+    }
     Ok(())
 }
 
 #[test]
-fn a_request_to_no_engine(rt: HostRuntime) -> Result<(), Fail> {
-    let alloc = rt.alloc();
-    let event = direct(alloc)?;
-    let text =
-        "{\"status\":\"error\",\"ename\":\"NoSuchEngine\",\"evalue\":\"\",\"traceback\":[],\"ids\":[]}";
-    assert!(rt; is_answered(alloc, Channel::Mux, SUBMIT, &event, "submit_refused", text)?);
+fn what_is_not_answered(rt: HostRuntime) -> Result<(), Fail> {
+    let header = b"{\"msg_id\":\"b\",\"msg_type\":\"beat_reply\"}";
+    let pong = Event::Pong { beat: 1 };
+    let outs = sent(rt.alloc(), Channel::Engine, header, &pong)?;
+    assert!(rt; outs.is_some_and(|outs| outs.is_empty()));
     Ok(())
 }
 
@@ -224,8 +201,10 @@ fn what_goes_to_engines(rt: HostRuntime) -> Result<(), Fail> {
     };
     let outs = beat_outs(alloc, 2, 5, 0, 1, &[engine])?;
     assert!(rt; is_made(outs.as_slice(), "hub-2-5-7", "beat_request", "{\"beat\":1}"));
-    assert!(rt; pass_to(alloc, Some(3), Some(message(alloc, b"{}")?))?.len() == 1);
-    assert!(rt; pass_to(alloc, None, Some(message(alloc, b"{}")?))?.is_empty());
+    for (conn, count) in [(Some(3), 1), (None, 0)] {
+        let passed = message(alloc, b"{}")?;
+        assert!(rt; pass_to(alloc, conn, Some(passed))?.len() == count);
+    }
     let id = Text::new(alloc, "a")?;
     assert!(rt; hand_outs(alloc, &State::new(alloc), &id, 0)?.is_empty());
     Ok(())
