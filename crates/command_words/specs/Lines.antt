@@ -1,7 +1,7 @@
 -- How the program ends: its status, and the line that says why.
 use Rattle.std.specs.Prelude.{ℕ, List, [], ◌++◌, codes, decimal}
 use Rattle.command_words.specs.declared.ending.Ending.{Ending}
-use Rattle.command_words.specs.declared.ending.Ending.TheVariants.{Done, Usage, ReadFault, WriteFault, BadTape, OutOfMemory}
+use Rattle.command_words.specs.declared.ending.Ending.TheVariants.{Done, Usage, ReadFault, WriteFault, BadTape, OutOfMemory, HistoryFull}
 
 abbrev pub status : Ending → ℕ
 status Done = 0
@@ -10,6 +10,7 @@ status ReadFault = 3
 status WriteFault = 4
 status (BadTape place) = 6
 status OutOfMemory = 8
+status (HistoryFull entries bytes) = 9
 
 -- the line of an end, with its line feed
 unfoldable pub line : Ending → List ℕ
@@ -19,3 +20,5 @@ line ReadFault = codes "ipcluster: read fault\n"
 line WriteFault = codes "ipcluster: write fault\n"
 line (BadTape place) = codes "ipcluster: bad tape at " ++ decimal place ++ codes "\n"
 line OutOfMemory = codes "ipcluster: out of memory\n"
+line (HistoryFull entries bytes) =
+    codes "ipcluster: history full at " ++ decimal entries ++ codes " entries and " ++ decimal bytes ++ codes " bytes\n"

@@ -25,6 +25,30 @@ hwm_name = codes "--hwm"
 unfoldable pub misses_name : List ℕ
 misses_name = codes "--misses"
 
+unfoldable pub entries_name : List ℕ
+entries_name = codes "--entries"
+
+unfoldable pub bytes_name : List ℕ
+bytes_name = codes "--bytes"
+
+-- THE RANGES
+
+-- the greatest bound of a load; the least is 0, which is no bound
+abbrev pub greatest_hwm : ℕ
+greatest_hwm = 1000000
+
+-- the most missed beats that an engine may be granted; the fewest are 1
+abbrev pub greatest_misses : ℕ
+greatest_misses = 1000
+
+-- the greatest limit of the entries of a history; the least is 1
+abbrev pub greatest_entries : ℕ
+greatest_entries = 4000000
+
+-- the greatest limit of the octets of a history's records; the least is 1
+abbrev pub greatest_bytes : ℕ
+greatest_bytes = 1073741824
+
 -- THE PARTS OF A LIST OF ITEMS
 
 abbrev pub place_in : Item → Option (List ℕ)
@@ -51,17 +75,20 @@ is_known names (Choice given value) = list_any (λ name. bytes_eq given name) na
 -- THE COMMANDS
 
 abbrev pub replay_names : List (List ℕ)
-replay_names = key_name ∷ scheme_name ∷ hwm_name ∷ misses_name ∷ []
+replay_names = key_name ∷ scheme_name ∷ hwm_name ∷ misses_name ∷ entries_name ∷ bytes_name ∷ []
 
-abbrev pub replay_with : Option (List ℕ) → Option Scheme → Option ℕ → Option ℕ → Option Command
-replay_with (Some key) (Some scheme) (Some hwm) (Some misses) =
-    Some (Replay (record { key = key; scheme = scheme; hwm = hwm; misses = misses }))
-replay_with _ _ _ _ = None
+abbrev pub replay_with : Option (List ℕ) → Option Scheme → Option ℕ → Option ℕ → Option ℕ → Option ℕ → Option Command
+replay_with (Some key) (Some scheme) (Some hwm) (Some misses) (Some entries) (Some bytes) =
+    Some (Replay (record { key = key; scheme = scheme; hwm = hwm; misses = misses; entries = entries; bytes = bytes }))
+replay_with _ _ _ _ _ _ = None
 
 abbrev pub replay_options : List Item → Option Command
 replay_options items =
     replay_with (needed key_from (values key_name items)) (optional LeastLoad scheme_from (values scheme_name items))
-    (optional 1 (number_from 0 1000000) (values hwm_name items)) (optional 10 (number_from 1 1000) (values misses_name items))
+    (optional 1 (number_from 0 greatest_hwm) (values hwm_name items))
+    (optional 10 (number_from 1 greatest_misses) (values misses_name items))
+    (optional greatest_entries (number_from 1 greatest_entries) (values entries_name items))
+    (optional greatest_bytes (number_from 1 greatest_bytes) (values bytes_name items))
 
 -- no positional word stands behind `replay`
 abbrev pub replay_behind : List (List ℕ) → List Item → Option Command

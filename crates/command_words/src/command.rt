@@ -2,7 +2,7 @@
 
 ghost use Rattle.std.specs.Prelude.{◌≡◌, Some, None, Err, IfOk, option_map, bytes_eq};
 ghost use Rattle.std.specs.List.{list_all};
-ghost use Rattle.command_words.specs.Reading.{reading, replay_of, replay_options, replay_names, replay_word, key_name, scheme_name, hwm_name, misses_name, place_in, places, value_under, values, is_known};
+ghost use Rattle.command_words.specs.Reading.{reading, replay_of, replay_options, replay_names, replay_word, key_name, scheme_name, hwm_name, misses_name, entries_name, bytes_name, place_in, places, value_under, values, is_known};
 
 use crate::item::{Item, items_of};
 use crate::values::{needed_key, optional_number, optional_scheme};
@@ -24,6 +24,10 @@ pub struct ReplayOptions {
     pub hwm: u32,
     /// The number of missed beats beyond which an engine is lost.
     pub misses: u32,
+    /// The most entries of a history, from 1 on.
+    pub entries: u64,
+    /// The most octets of the records of its entries, from 1 on.
+    pub bytes: u64,
 }
 
 /// What the program is to do.
@@ -102,8 +106,26 @@ const HWM: &[u8] = b"--hwm";
 /// The name of the option of the missed beats.
 const MISSES: &[u8] = b"--misses";
 
+/// The name of the option of the most entries.
+const ENTRIES: &[u8] = b"--entries";
+
+/// The name of the option of the most octets.
+const BYTES: &[u8] = b"--bytes";
+
+/// The greatest bound of a load.
+const GREATEST_HWM: u32 = 1_000_000;
+
+/// The most missed beats that can be asked for.
+const GREATEST_MISSES: u32 = 1000;
+
+/// The greatest limit of entries.
+const GREATEST_ENTRIES: u32 = 4_000_000;
+
+/// The greatest limit of octets.
+const GREATEST_BYTES: u32 = 1_073_741_824;
+
 /// Whether an item is no option of another name than those of `replay`.
-#[tactic(auto, unfolding(crate::specs::Reading::key_name, crate::specs::Reading::scheme_name, crate::specs::Reading::hwm_name, crate::specs::Reading::misses_name))]
+#[tactic(auto, unfolding(crate::specs::Reading::key_name, crate::specs::Reading::scheme_name, crate::specs::Reading::hwm_name, crate::specs::Reading::misses_name, crate::specs::Reading::entries_name, crate::specs::Reading::bytes_name))]
 fn is_known(item: &Item) -> bool
     ensures { result ≡ is_known replay_names item.now }
 {
@@ -111,13 +133,18 @@ fn is_known(item: &Item) -> bool
         Item::Place(_) => true,
         Item::Choice { name, .. } => {
             let name = name.as_slice();
-            name == KEY || name == SCHEME || name == HWM || name == MISSES
+            name == KEY
+                || name == SCHEME
+                || name == HWM
+                || name == MISSES
+                || name == ENTRIES
+                || name == BYTES
         }
     }
 }
 
 /// The options of `replay`.
-#[tactic(auto, unfolding(crate::specs::Reading::key_name, crate::specs::Reading::scheme_name, crate::specs::Reading::hwm_name, crate::specs::Reading::misses_name))]
+#[tactic(auto, unfolding(crate::specs::Reading::key_name, crate::specs::Reading::scheme_name, crate::specs::Reading::hwm_name, crate::specs::Reading::misses_name, crate::specs::Reading::entries_name, crate::specs::Reading::bytes_name))]
 fn replay_options(alloc: Global, items: &[Item]) -> Result<Option<Command>, AllocError>
     ensures { IfOk result (λ c. c ≡ replay_options items.now) }
 {
@@ -125,16 +152,25 @@ fn replay_options(alloc: Global, items: &[Item]) -> Result<Option<Command>, Allo
     let schemes = values(alloc, SCHEME, items)?;
     let hwms = values(alloc, HWM, items)?;
     let misses = values(alloc, MISSES, items)?;
+    let entries = values(alloc, ENTRIES, items)?;
+    let bytes = values(alloc, BYTES, items)?;
     let Some(key) = needed_key(keys.as_slice()) else {
         return Ok(None);
     };
     let Some(scheme) = optional_scheme(schemes.as_slice()) else {
         return Ok(None);
     };
-    let Some(hwm) = optional_number(1, 0, 1_000_000, hwms.as_slice()) else {
+    let Some(hwm) = optional_number(1, 0, GREATEST_HWM, hwms.as_slice()) else {
         return Ok(None);
     };
-    let Some(misses) = optional_number(10, 1, 1000, misses.as_slice()) else {
+    let Some(misses) = optional_number(10, 1, GREATEST_MISSES, misses.as_slice()) else {
+        return Ok(None);
+    };
+    let Some(entries) = optional_number(GREATEST_ENTRIES, 1, GREATEST_ENTRIES, entries.as_slice())
+    else {
+        return Ok(None);
+    };
+    let Some(bytes) = optional_number(GREATEST_BYTES, 1, GREATEST_BYTES, bytes.as_slice()) else {
         return Ok(None);
     };
     Ok(Some(Command::Replay(ReplayOptions {
@@ -142,6 +178,8 @@ fn replay_options(alloc: Global, items: &[Item]) -> Result<Option<Command>, Allo
         scheme,
         hwm,
         misses,
+        entries: u64::from(entries),
+        bytes: u64::from(bytes),
     })))
 }
 

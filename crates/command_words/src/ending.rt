@@ -21,6 +21,8 @@ pub enum Ending {
     /// The tape has a fault at this place.
     BadTape(u64),
     OutOfMemory,
+    /// The history would pass a limit with these entries, and these octets of their records.
+    HistoryFull { entries: u64, bytes: u64 },
 }
 
 /// The status that says how the program ends.
@@ -34,6 +36,7 @@ pub fn status_of(ending: Ending) -> u8
         Ending::WriteFault => 4,
         Ending::BadTape(_) => 6,
         Ending::OutOfMemory => 8,
+        Ending::HistoryFull { .. } => 9,
     }
 }
 
@@ -83,6 +86,20 @@ fn with_place(text: &str, place: u64) -> Line
     Line { text: line }
 }
 
+/// The line of a history that is full.
+fn history_full(entries: u64, bytes: u64) -> Line
+    ensures { result ≡ codes "ipcluster: history full at " ++ decimal entries ++ codes " entries and " ++ decimal bytes ++ codes " bytes\n" }
+{
+    let mut digits = Buffer::new();
+    let mut line = ArrayString::new();
+    line.push_str("ipcluster: history full at ");
+    line.push_str(digits.format(entries));
+    line.push_str(" entries and ");
+    line.push_str(digits.format(bytes));
+    line.push_str(" bytes\n");
+    Line { text: line }
+}
+
 /// The line that says why the program ends; it is empty where all was done.
 #[tactic(auto, unfolding(crate::specs::Lines::line))]
 pub fn line_of(ending: Ending) -> Line
@@ -95,5 +112,6 @@ pub fn line_of(ending: Ending) -> Line
         Ending::WriteFault => plain("ipcluster: write fault\n"),
         Ending::BadTape(place) => with_place("ipcluster: bad tape at ", place),
         Ending::OutOfMemory => plain("ipcluster: out of memory\n"),
+        Ending::HistoryFull { entries, bytes } => history_full(entries, bytes),
     }
 }

@@ -16,86 +16,125 @@ fn words(alloc: Global, texts: &[&str]) -> Result<WordList, Fail> {
     Ok(words)
 }
 
-/// Whether these words give `replay` these options.
-fn reads(
-    alloc: Global,
-    texts: &[&str],
-    key: &[u8],
-    scheme: Scheme,
-    hwm: u32,
-    misses: u32,
-) -> Result<bool, Fail> {
-    match command_of(alloc, &words(alloc, texts)?) {
-        Ok(Command::Replay(options)) => Ok(
-            options.key.as_slice() == key
-                && options.scheme == scheme
-                && options.hwm == hwm
-                && options.misses == misses,
+/// The options of `replay`: key, scheme, greatest load, missed beats, entries, octets.
+type Options = (&'static str, Scheme, u32, u32, u64, u64);
+
+/// What is asked for, with no key where nothing is.
+fn asked(command: &Option<Command>) -> (&[u8], Scheme, u32, u32, u64, u64) {
+    match command {
+        Some(Command::Replay(options)) => (
+            options.key.as_slice(),
+            options.scheme,
+            options.hwm,
+            options.misses,
+            options.entries,
+            options.bytes,
         ),
-        Err(_) => Ok(false),
+        None => (b"", Scheme::LeastLoad, 0, 0, 0, 0),
     }
 }
 
-#[test]
-fn options(rt: HostRuntime) -> Result<(), Fail> {
-    let alloc = rt.alloc();
-    let plain = ["replay", "--key", "k"];
-    assert!(rt; reads(alloc, &plain, b"k", Scheme::LeastLoad, 1, 10)?);
-    let texts = [
-        "replay",
-        "--misses=1000",
-        "--hwm",
-        "0",
-        "--key=-=k",
-        "--scheme",
-        "twobin",
-    ];
-    assert!(rt; reads(alloc, &texts, b"-=k", Scheme::TwoBin, 0, 1000)?);
-    Ok(())
-}
+/// What stands for words without a reading.
+const NOTHING: Options = ("", Scheme::LeastLoad, 0, 0, 0, 0);
 
-/// Words that have a reading.
-const READ: &[&[&str]] = &[
-    &["replay", "--key", "k=v"],
-    &["replay", "--key", "k", "--scheme", "lru"],
-    &["replay", "--key", "k", "--scheme=plainrandom"],
-    &["replay", "--key", "k", "--hwm=1000000"],
-    &["replay", "--misses", "1", "--key", "k"],
-];
-
-/// Words that have none.
-const UNREAD: &[&[&str]] = &[
-    &["replay"],
-    &[],
-    &["--key", "k", "replay"],
-    &["Replay", "--key", "k"],
-    &["replay", "--key"],
-    &["replay", "--key", ""],
-    &["replay", "--key="],
-    &["replay", "--key", "-k"],
-    &["replay", "--key", "k", "--key=k"],
-    &["replay", "--key", "k", "--scheme", "LRU"],
-    &["replay", "--key", "k", "--hwm", "1000001"],
-    &["replay", "--key", "k", "--hwm", "01"],
-    &["replay", "--key", "k", "--hwm", "+1"],
-    &["replay", "--key", "k", "--hwm", ""],
-    &["replay", "--key", "k", "--hwm", "4294967297"],
-    &["replay", "--key", "k", "--misses", "0"],
-    &["replay", "--key", "k", "--misses", "1001"],
-    &["replay", "--key", "k", "--"],
-    &["replay", "--key", "k", "--help"],
-    &["replay", "--key", "k", "-h"],
-    &["replay", "--key", "k", "db"],
-    &["replay", "--key", "k", "--key-"],
+/// Command lines, and what they ask for.
+const ROWS: &[(&[&str], Options)] = &[
+    (
+        &["replay", "--key", "k"],
+        ("k", Scheme::LeastLoad, 1, 10, 4_000_000, 1_073_741_824),
+    ),
+    (
+        &[
+            "replay",
+            "--misses=1000",
+            "--hwm",
+            "0",
+            "--key=-=k",
+            "--scheme",
+            "twobin",
+            "--bytes",
+            "1073741824",
+            "--entries=1",
+        ],
+        ("-=k", Scheme::TwoBin, 0, 1000, 1, 1_073_741_824),
+    ),
+    (
+        &[
+            "replay",
+            "--key",
+            "k=v",
+            "--bytes=1",
+            "--entries",
+            "4000000",
+        ],
+        ("k=v", Scheme::LeastLoad, 1, 10, 4_000_000, 1),
+    ),
+    (
+        &["replay", "--scheme", "lru", "--misses", "1", "--key", "k"],
+        ("k", Scheme::Lru, 1, 1, 4_000_000, 1_073_741_824),
+    ),
+    (
+        &[
+            "replay",
+            "--key",
+            "k",
+            "--scheme=plainrandom",
+            "--hwm=1000000",
+        ],
+        (
+            "k",
+            Scheme::PlainRandom,
+            1_000_000,
+            10,
+            4_000_000,
+            1_073_741_824,
+        ),
+    ),
+    (&["replay"], NOTHING),
+    (&[], NOTHING),
+    (&["--key", "k", "replay"], NOTHING),
+    (&["Replay", "--key", "k"], NOTHING),
+    (&["replay", "--key"], NOTHING),
+    (&["replay", "--key", ""], NOTHING),
+    (&["replay", "--key="], NOTHING),
+    (&["replay", "--key", "-k"], NOTHING),
+    (&["replay", "--key", "-"], NOTHING),
+    (&["replay", "--key", "--hwm=1"], NOTHING),
+    (&["replay", "--key", "k", "--key=k"], NOTHING),
+    (&["replay", "--key", "k", "--scheme", "LRU"], NOTHING),
+    (&["replay", "--key", "k", "--hwm", "1000001"], NOTHING),
+    (&["replay", "--key", "k", "--hwm", "01"], NOTHING),
+    (&["replay", "--key", "k", "--hwm", "+1"], NOTHING),
+    (&["replay", "--key", "k", "--hwm", ""], NOTHING),
+    (&["replay", "--key", "k", "--hwm", "4294967297"], NOTHING),
+    (&["replay", "--key", "k", "--misses", "0"], NOTHING),
+    (&["replay", "--key", "k", "--misses", "1001"], NOTHING),
+    (&["replay", "--key", "k", "--entries", "0"], NOTHING),
+    (&["replay", "--key", "k", "--entries=4000001"], NOTHING),
+    (&["replay", "--key", "k", "--bytes=0"], NOTHING),
+    (&["replay", "--key", "k", "--bytes", "1073741825"], NOTHING),
+    (&["replay", "--key", "k", "--"], NOTHING),
+    (&["replay", "--", "--key", "k"], NOTHING),
+    (&["replay", "--key", "k", "--=v"], NOTHING),
+    (&["replay", "--key", "k", "-"], NOTHING),
+    (&["replay", "--key", "k", "--help"], NOTHING),
+    (&["replay", "--key", "k", "-h"], NOTHING),
+    (&["replay", "--key", "k", "--version"], NOTHING),
+    (&["replay", "--key", "k", "db"], NOTHING),
+    (&["replay", "--key", "k", "help"], NOTHING),
+    (&["replay", "--key", "k", "--key-"], NOTHING),
+    (&["replay", "--ke", "k"], NOTHING),
+    (&["replay", "--key", "k", "--hwm="], NOTHING),
 ];
 
 #[test]
 fn readings(rt: HostRuntime) -> Result<(), Fail> {
-    for (list, is_read) in [(READ, true), (UNREAD, false)] {
-        for texts in list {
-            let words = words(rt.alloc(), texts)?;
-            assert_eq!(rt; command_of(rt.alloc(), &words).is_ok(), is_read);
-        }
+    for (texts, (key, scheme, hwm, misses, entries, bytes)) in ROWS {
+        let words = words(rt.alloc(), texts)?;
+        let command = command_of(rt.alloc(), &words).ok();
+        let is_asked = asked(&command)
+            == (key.as_bytes(), *scheme, *hwm, *misses, *entries, *bytes);
+        assert!(rt; is_asked && command.is_some() == (key.len() > 0));
     }
     Ok(())
 }
@@ -117,6 +156,22 @@ const ENDS: &[(Ending, u8, &str)] = &[
         "ipcluster: bad tape at 4294967296\n",
     ),
     (Ending::OutOfMemory, 8, "ipcluster: out of memory\n"),
+    (
+        Ending::HistoryFull {
+            entries: 4,
+            bytes: 96,
+        },
+        9,
+        "ipcluster: history full at 4 entries and 96 bytes\n",
+    ),
+    (
+        Ending::HistoryFull {
+            entries: u64::MAX,
+            bytes: u64::MAX,
+        },
+        9,
+        "ipcluster: history full at 18446744073709551615 entries and 18446744073709551615 bytes\n",
+    ),
 ];
 
 #[test]
