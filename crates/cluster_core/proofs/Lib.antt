@@ -2,3 +2,4 @@ pub mod Goes
 pub mod Growing
 pub mod Lives
 pub mod Plans
+pub mod Sizes

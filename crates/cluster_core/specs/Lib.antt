@@ -1,3 +1,5 @@
 pub mod More
 pub mod Steps
 pub mod Told
+pub mod Size
+pub mod Growth

@@ -11,11 +11,14 @@ use Rattle.cluster_defs.specs.Scheduling.{is_kept}
 use Rattle.cluster_defs.specs.Histories.{History, facts, Legal, place, asks_shutdown, is_stopping, decide_all}
 use Rattle.cluster_defs.specs.Outs.{outs_from}
 use Rattle.cluster_state.specs.Plain.{Plain, plain_of, InTime}
+use Rattle.cluster_core.specs.declared.size.HistorySize.{HistorySize}
 
--- what contracts see of a core: its history, the newest entry first, and for how many entries it has room
+-- what contracts see of a core: its history, the newest entry first, for how many entries it has room, and how much may
+-- come after an Open
 pub record CoreView : Type 0 where
   pub history : History
   pub spare : ℕ
+  pub limits : HistorySize
 
 -- what a plan has worked out: an input and the decisions after it, in order, what they send, the entries that are
 -- kept, the data after them, the place of the newest of them, and whether a shutdown was asked

@@ -6,5 +6,6 @@ mod live;
 pub mod machine;
 pub mod meaning;
 pub mod plan;
+pub mod size;
 #[cfg(test)]
 mod tests;

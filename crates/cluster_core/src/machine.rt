@@ -1,6 +1,6 @@
 //! The state machine.
 
-ghost use Rattle.std.specs.Prelude.{◌≡◌, ◌≤◌, ◌+◌, ◌∷◌, ◌++◌, [], reverse, length, vec_len, vec_capacity, true, false, None, Some, IfOk, OnOk};
+ghost use Rattle.std.specs.Prelude.{◌≡◌, ◌≤◌, ◌+◌, ◌∷◌, ◌++◌, [], reverse, length, vec_len, vec_capacity, true, false, None, Some, IfOk, IfErr, OnOk};
 ghost use Rattle.std.specs.Option.{ForSome, is_some};
 ghost use Rattle.cluster_types.specs.declared.entry.Entry.{Entry};
 ghost use Rattle.cluster_defs.specs.Connections.{channel_on};
@@ -12,11 +12,14 @@ ghost use Rattle.cluster_state.specs.Plain.{InTime, facts_in};
 ghost use Rattle.cluster_state.specs.Stands.{plain};
 ghost use Rattle.entry_outs.specs.Asked.{type_on, told_type};
 ghost use Rattle.cluster_core.specs.Steps.{IsPlan, planned, kept_from, AllInTime, IsReadOff};
+ghost use Rattle.cluster_core.specs.Size.{size_since, is_past, no_limit, FullAt};
+ghost use Rattle.cluster_core.specs.Growth.{size_next, sizes_next};
 
 use crate::known::{Known, may_take, meaning_of_input, rebuilt};
 use crate::live::channel_told;
 use crate::meaning::Meaning;
-use crate::plan::Plan;
+use crate::plan::{Plan, PlanError};
+use crate::size::{GREATEST, HistorySize, NOTHING};
 use cluster_types::config::Channel;
 use cluster_types::entry::{Entries, Entry, Input};
 use cluster_types::event::Event;
@@ -35,8 +38,8 @@ pub struct Made {
     pub kept: Entries,
 }
 
-/// A controller without connections, disk and clock. Contracts see its history, the newest entry first, and for how
-/// many entries it has room. The history is legal, and no decision is due after it.
+/// A controller without connections, disk and clock. Contracts see its history, the newest entry first, for how many
+/// entries it has room, and how much may come after an Open. The history is legal, and no decision is due after it.
 #[derive(Drop)]
 pub struct Core {
     entries: Vec<Entry>,
@@ -46,6 +49,10 @@ pub struct Core {
     live: usize,
     /// Whether a shutdown was asked since the last Open.
     stops: bool,
+    /// How much came since the last Open and its decisions.
+    size: HistorySize,
+    /// What may come at most.
+    limits: HistorySize,
     /// Room for the texts of messages while they are read.
     scratch: Scratch,
 }
@@ -56,25 +63,29 @@ impl Model for Core {
     ghost use Rattle.cluster_defs.specs.Scheduling.{due};
     ghost use Rattle.cluster_defs.specs.Histories.{facts, Legal, is_stopping};
     ghost use Rattle.cluster_state.specs.Stands.{plain};
+    ghost use Rattle.cluster_core.specs.Size.{size_since};
     ghost use Rattle.cluster_core.specs.Steps.{CoreView, AllInTime, IsReadOff};
 
     ghost Value = { CoreView };
 
-    ghost view = { λ c. record { history = reverse c.entries.items; spare = vec_capacity c.entries - vec_len c.entries } };
+    ghost view = { λ c. record { history = reverse c.entries.items; spare = vec_capacity c.entries - vec_len c.entries; limits = c.limits } };
 
-    ghost invariant = { λ c. Legal (reverse c.entries.items) × (due (facts (reverse c.entries.items)) ≡ None) × AllInTime (reverse c.entries.items) × (c.live ≡ length (facts (reverse c.entries.items)).connections) × (c.stops ≡ is_stopping (reverse c.entries.items)) × ForSome c.known (λ k. IsReadOff (reverse c.entries.items) (plain k.state) k.place) };
+    ghost invariant = { λ c. Legal (reverse c.entries.items) × (due (facts (reverse c.entries.items)) ≡ None) × AllInTime (reverse c.entries.items) × (c.live ≡ length (facts (reverse c.entries.items)).connections) × (c.stops ≡ is_stopping (reverse c.entries.items)) × (c.size ≡ size_since (reverse c.entries.items)) × ForSome c.known (λ k. IsReadOff (reverse c.entries.items) (plain k.state) k.place) };
 }
 
 impl Core {
-    /// A core with an empty history. It takes no memory.
+    /// A core with an empty history, which may grow without a limit. It takes no memory.
     pub fn new(alloc: Global) -> Core
-        ensures { result.history ≡ [] }
+        ensures history { result.history ≡ [] }
+        ensures limits { result.limits ≡ no_limit }
     {
         Core {
             entries: Vec::new(alloc),
             known: None,
             live: 0,
             stops: false,
+            size: NOTHING,
+            limits: GREATEST,
             scratch: Scratch::new(alloc),
         }
     }
@@ -87,6 +98,20 @@ impl Core {
         ensures time { AllInTime self.now.history }
     {
         self.entries.as_slice()
+    }
+
+    /// How many entries came after the last Open and its decisions, and how many octets their records have.
+    pub fn size(&self) -> HistorySize
+        ensures { result ≡ size_since self.now.history }
+    {
+        self.size
+    }
+
+    /// Sets how much may come after an Open and its decisions.
+    pub fn set_limits(&mut self, limits: HistorySize)
+        ensures { self.new ≡ record self.old { limits = limits } }
+    {
+        self.limits = limits;
     }
 
     /// Whether a shutdown was asked since the last Open.
@@ -125,6 +150,7 @@ impl Core {
     /// What is known after the history. Where a step was given up, it is read off the entries again.
     fn take_known(&mut self) -> Result<Known, AllocError>
         ensures same { self.new.history ≡ self.old.history }
+        ensures limits { self.new.limits ≡ self.old.limits }
         ensures known { IfOk result (λ k. IsReadOff self.old.history (plain k.state) k.place) }
     {
         let cached = self.known.take();
@@ -134,7 +160,8 @@ impl Core {
     /// Keeps what is known.
     fn keep_known(&mut self, known: Known)
         requires { IsReadOff self.old.history (plain known.state) known.place }
-        ensures { self.new.history ≡ self.old.history }
+        ensures same { self.new.history ≡ self.old.history }
+        ensures limits { self.new.limits ≡ self.old.limits }
     {
         self.known = Some(known);
     }
@@ -142,6 +169,7 @@ impl Core {
     /// What the message of an input means. Each part of the message is read once, here.
     pub fn understand(&mut self, input: &Input) -> Result<Meaning, AllocError>
         ensures same { self.new.history ≡ self.old.history }
+        ensures limits { self.new.limits ≡ self.old.limits }
         ensures event { IfOk result (λ m. m.event ≡ event_in (facts self.old.history) (Entry.Input input.now)) }
         ensures kind { IfOk result (λ m. m.msg_type ≡ told_type m.event (type_on (Entry.Input input.now))) }
     {
@@ -156,6 +184,7 @@ impl Core {
     /// something. `event` is what its message means.
     pub fn may_take(&mut self, input: &Input, event: &Option<Event>) -> Result<bool, AllocError>
         ensures same { self.new.history ≡ self.old.history }
+        ensures limits { self.new.limits ≡ self.old.limits }
         ensures may { IfOk result (λ b. b ≡ may_take (facts self.old.history) input.now event.now) }
     {
         let known = self.take_known()?;
@@ -167,6 +196,7 @@ impl Core {
     /// Makes room for so many further entries.
     fn reserve(&mut self, more: usize) -> Result<(), AllocError>
         ensures same { self.new.history ≡ self.old.history }
+        ensures limits { self.new.limits ≡ self.old.limits }
         ensures room { OnOk result (more ≤ self.new.spare) }
     {
         self.entries.reserve(more)
@@ -184,6 +214,7 @@ impl Core {
         requires taken { may_take (facts self.old.history) input meaning.now.event ≡ true }
         requires time { InTime (Entry.Input input) }
         ensures same { self.new.history ≡ self.old.history }
+        ensures limits { self.new.limits ≡ self.old.limits }
         ensures ok { IfOk result (λ p. IsPlan self.new p) }
         ensures input { IfOk result (λ p. p.input ≡ input) }
     {
@@ -202,23 +233,36 @@ impl Core {
         Ok(plan)
     }
 
-    /// Works out the step of an input that may come, with its meaning. It takes all the memory of the step. Where it
-    /// can't have it, the history stays as it is.
+    /// Works out the step of an input that may come, with its meaning. It takes all the memory of the step. The history
+    /// stays as it is, also where the step would pass a limit: the next call then reads the whole history once more.
     pub fn plan(
         &mut self,
         chooser: &Chooser,
         input: Input,
         meaning: Meaning,
-    ) -> Result<Plan, AllocError>
+    ) -> Result<Plan, PlanError>
         requires event { meaning.event ≡ event_in (facts self.old.history) (Entry.Input input) }
         requires kind { meaning.msg_type ≡ told_type meaning.event (type_on (Entry.Input input)) }
         requires taken { may_take (facts self.old.history) input meaning.event ≡ true }
         requires time { InTime (Entry.Input input) }
         ensures same { self.new.history ≡ self.old.history }
+        ensures limits { self.new.limits ≡ self.old.limits }
         ensures ok { IfOk result (λ p. IsPlan self.new p) }
         ensures input { IfOk result (λ p. p.input ≡ input) }
+        // It is refused exactly where it passes a limit, with the two sums; an Open never does.
+        ensures fits { IfOk result (λ p. is_past self.old.limits (size_since (decide_all (Entry.Input input ∷ self.old.history))) ≡ false) }
+        ensures full { IfErr result (FullAt self.old.limits (size_since (decide_all (Entry.Input input ∷ self.old.history)))) }
+        ensures open { is_open (Entry.Input input) ≡ true → IfErr result (λ e. e ≡ PlanError.OutOfMemory) }
     {
-        self.plan_with(chooser, input, &meaning)
+        let plan = self.plan_with(chooser, input, &meaning)?;
+        let size = plan.size_behind(self.size);
+        if size.is_past(self.limits) {
+            return Err(PlanError::HistoryFull {
+                entries: size.entries,
+                bytes: size.bytes,
+            });
+        }
+        Ok(plan)
     }
 
     /// Takes the step that was planned last: the input and all decisions that are then due. It takes no memory.
@@ -227,7 +271,9 @@ impl Core {
         ensures history { self.new.history ≡ decide_all (Entry.Input plan.input ∷ self.old.history) }
         ensures outs { result.outs ≡ outs_from (length self.old.history) self.new.history }
         ensures kept { result.kept ≡ kept_from (length self.old.history) self.new.history }
+        ensures limits { self.new.limits ≡ self.old.limits }
     {
+        self.size = plan.size_behind(self.size);
         let Plan {
             input,
             decisions,

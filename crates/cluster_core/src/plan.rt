@@ -13,9 +13,11 @@ ghost use Rattle.entry_outs.specs.Asked.{type_on, told_type};
 ghost use Rattle.entry_outs.specs.Reached.{IsNext};
 ghost use Rattle.cluster_core.specs.Steps.{PlanView, IsReadOff, IsGrown, planned, kept_one, entry_place, stops_after};
 ghost use Rattle.cluster_core.specs.More.{IsMore};
+ghost use Rattle.cluster_core.specs.Growth.{size_next, sizes_next};
 
 use crate::known::{Known, next_place};
 use crate::meaning::Meaning;
+use crate::size::HistorySize;
 use cluster_state::state::State;
 use cluster_types::entry::{Entries, Entry, Input};
 use cluster_types::event::{Event, Query};
@@ -26,6 +28,29 @@ use entry_outs::entries::outs;
 use load_schemes::chooser::Chooser;
 use std::alloc::{AllocError, Global};
 use std::marker::Model;
+use thiserror::Error;
+
+/// Why no step is planned.
+#[derive(Clone, Copy, Debug, PartialEq, Eq, Error)]
+pub enum PlanError {
+    /// The history would pass a limit. These are its entries after the last Open and its decisions, with the step, and
+    /// the octets of their records.
+    #[error("the history is full at {entries} entries and {bytes} bytes")]
+    HistoryFull { entries: u64, bytes: u64 },
+    #[error("out of memory")]
+    OutOfMemory,
+}
+
+impl From<AllocError> for PlanError {
+    ghost use Rattle.std.specs.Prelude.{◌≡◌};
+    ghost use Rattle.cluster_core.specs.declared.plan.PlanError.{PlanError};
+
+    ghost from_gives = { λ _ e. e ≡ PlanError.OutOfMemory };
+
+    fn from(_: AllocError) -> Self {
+        PlanError::OutOfMemory
+    }
+}
 
 /// A step that is worked out, with all the memory that it takes.
 #[derive(Drop)]
@@ -157,6 +182,13 @@ impl Plan {
         self.known.place = place;
         self.decisions.push(decision)?;
         Ok(())
+    }
+
+    /// The size of a history with the step, by its size before.
+    pub(crate) fn size_behind(&self, before: HistorySize) -> HistorySize
+        ensures { result ≡ sizes_next (size_next before (Entry.Input self.now.input)) self.now.decisions }
+    {
+        before.behind_step(&self.input, self.decisions.as_slice())
     }
 
     /// How many entries it has.

@@ -6,6 +6,8 @@ ghost use Rattle.cluster_defs.specs.Scheduling.{pick};
 ghost use Rattle.cluster_state.specs.Plain.{InTime};
 
 use crate::machine::Core;
+use crate::plan::PlanError;
+use crate::size::HistorySize;
 use cluster_types::config::{Channel, Scheme};
 use cluster_types::entry::Input;
 use cluster_types::octets::Octets;
@@ -72,7 +74,7 @@ fn step(
     core: &mut Core,
     chooser: &Chooser,
     input: Input,
-) -> Result<Option<(usize, usize)>, AllocError>
+) -> Result<Option<(usize, usize)>, PlanError>
     requires { InTime (Entry.Input input) }
 {
     let meaning = core.understand(&input)?;
@@ -85,7 +87,7 @@ fn step(
 }
 
 /// A core in which `e0` has joined on connection 1.
-fn joined(alloc: Global, chooser: &Chooser) -> Result<Core, AllocError> {
+fn joined(alloc: Global, chooser: &Chooser) -> Result<Core, PlanError> {
     let mut core = Core::new(alloc);
     let _ = step(&mut core, chooser, open())?;
     let _ = step(&mut core, chooser, up(alloc, 1, Channel::Engine)?)?;
@@ -100,7 +102,7 @@ fn joined(alloc: Global, chooser: &Chooser) -> Result<Core, AllocError> {
 }
 
 /// A request is accepted, and handed out at once.
-fn hands_out(alloc: Global, chooser: &Chooser) -> Result<bool, AllocError> {
+fn hands_out(alloc: Global, chooser: &Chooser) -> Result<bool, PlanError> {
     let mut core = joined(alloc, chooser)?;
     let _ = step(&mut core, chooser, up(alloc, 2, Channel::Task)?)?;
     let submit = said(
@@ -114,7 +116,7 @@ fn hands_out(alloc: Global, chooser: &Chooser) -> Result<bool, AllocError> {
 }
 
 /// What lives is told, and what can't come is refused.
-fn connections(alloc: Global, chooser: &Chooser) -> Result<bool, AllocError> {
+fn connections(alloc: Global, chooser: &Chooser) -> Result<bool, PlanError> {
     let mut core = joined(alloc, chooser)?;
     let again = step(&mut core, chooser, up(alloc, 1, Channel::Hub)?)?;
     let unknown = step(&mut core, chooser, down(7))?;
@@ -125,7 +127,7 @@ fn connections(alloc: Global, chooser: &Chooser) -> Result<bool, AllocError> {
 }
 
 /// A shutdown is answered, isn't kept, and is remembered.
-fn stops(alloc: Global, chooser: &Chooser) -> Result<bool, AllocError> {
+fn stops(alloc: Global, chooser: &Chooser) -> Result<bool, PlanError> {
     let mut core = joined(alloc, chooser)?;
     let _ = step(&mut core, chooser, up(alloc, 2, Channel::Hub)?)?;
     let ask = said(
@@ -136,6 +138,29 @@ fn stops(alloc: Global, chooser: &Chooser) -> Result<bool, AllocError> {
     )?;
     let made = step(&mut core, chooser, ask)?;
     Ok(made == Some((1, 0)) && core.stopping())
+}
+
+/// Three connections come up after the Open, and the fourth would pass the limit: each record has 24 octets.
+fn is_full(alloc: Global, chooser: &Chooser) -> Result<bool, PlanError> {
+    let mut core = Core::new(alloc);
+    core.set_limits(HistorySize {
+        entries: 3,
+        bytes: 1000,
+    });
+    let _ = step(&mut core, chooser, open())?;
+    for conn in 1..4 {
+        let _ = step(&mut core, chooser, up(alloc, conn, Channel::Hub)?)?;
+    }
+    let refused = step(&mut core, chooser, up(alloc, 4, Channel::Hub)?);
+    let full = PlanError::HistoryFull {
+        entries: 4,
+        bytes: 96,
+    };
+    let size = HistorySize {
+        entries: 3,
+        bytes: 72,
+    };
+    Ok(refused == Err(full) && core.size() == size && core.live_conns() == 3)
 }
 
 #[test]
@@ -149,8 +174,9 @@ fn steps(rt: HostRuntime) -> Result<(), Fail> {
         { place_of(scheme, loads, word) },
     )?;
     let chooser = Chooser::new(choose);
-    assert!(rt; hands_out(alloc, &chooser)?);
-    assert!(rt; connections(alloc, &chooser)?);
-    assert!(rt; stops(alloc, &chooser)?);
+    assert_eq!(rt; hands_out(alloc, &chooser), Ok(true));
+    assert_eq!(rt; connections(alloc, &chooser), Ok(true));
+    assert_eq!(rt; stops(alloc, &chooser), Ok(true));
+    assert_eq!(rt; is_full(alloc, &chooser), Ok(true));
     Ok(())
 }

@@ -6,9 +6,11 @@ use Rattle.tape.specs.declared.record.TapeRecord.{TapeRecord}
 use Rattle.tape.specs.Tape.{Tape, blank, tape_after, records, fault}
 use Rattle.tape.specs.Spelling.{all_spelled}
 use Rattle.tape.proofs.Chunk.{after_append, records_append, stays}
-use Rattle.tape_drive.specs.Drive.{Stand, served, served_from, outs, outs_from_stand, outputs, stand_at, first_of, drive_stand, drive_output, drive_fault}
-use Rattle.command_words.specs.declared.ending.Ending.TheVariants.{Done, BadTape}
-use Rattle.ipcluster.specs.Written.{WroteFront, Ended}
+use Rattle.tape_drive.specs.Drive.{Stand, served, served_from, outs, outs_from_stand, outputs, stand_at, first_of, drive_stand, drive_output, drive_stop}
+use Rattle.tape_drive.specs.declared.drive.Stop.{Stop}
+use Rattle.tape_drive.specs.declared.drive.Stop.TheVariants.{BadTape, HistoryFull}
+use Rattle.command_words.specs.declared.ending.Ending.TheVariants as endings
+use Rattle.ipcluster.specs.Written.{WroteFront, Ended, ending_at}
 use Rattle.ipcluster.proofs.Fronts.{Sent, sent_none, sent_more, sent_front, sent_stop, sent_all, written_append, stand_append}
 
 -- so far: what is left of the input gives, from here on, what is still to come
@@ -87,42 +89,46 @@ going_bad {key = key} {tape = tape} {stand = stand} g bad =
     }
 
 -- a drive that has stopped stays where it is, and sends nothing more
-served_off : (key : List ℕ) (stand : Stand) (r : TapeRecord) (place : ℕ) → stand.stop ≡ Some place → served key stand r ≡ stand
-served_off key stand r place off = ap (served_from key stand r) off
+served_off : (key : List ℕ) (stand : Stand) (r : TapeRecord) (stop : Stop) → stand.stop ≡ Some stop → served key stand r ≡ stand
+served_off key stand r stop off = ap (served_from key stand r) off
 
-outs_off : (key : List ℕ) (stand : Stand) (r : TapeRecord) (place : ℕ) → stand.stop ≡ Some place → outs key stand r ≡ []
-outs_off key stand r place off = ap (outs_from_stand key stand r) off
+outs_off : (key : List ℕ) (stand : Stand) (r : TapeRecord) (stop : Stop) → stand.stop ≡ Some stop → outs key stand r ≡ []
+outs_off key stand r stop off = ap (outs_from_stand key stand r) off
 
-stopped_stays : (key : List ℕ) (stand : Stand) (rs : List TapeRecord) (place : ℕ) → stand.stop ≡ Some place → stand_at key stand rs ≡ stand
-stopped_stays key stand [] place off = refl
-stopped_stays key stand (r ∷ rs) place off = ap (λ (s : Stand). stand_at key s rs) (served_off key stand r place off) ∙ stopped_stays key stand rs place off
+stopped_stays : (key : List ℕ) (stand : Stand) (rs : List TapeRecord) (stop : Stop) → stand.stop ≡ Some stop → stand_at key stand rs ≡ stand
+stopped_stays key stand [] stop off = refl
+stopped_stays key stand (r ∷ rs) stop off = ap (λ (s : Stand). stand_at key s rs) (served_off key stand r stop off) ∙ stopped_stays key stand rs stop off
 
-stopped_silent : (key : List ℕ) (stand : Stand) (rs : List TapeRecord) (place : ℕ) → stand.stop ≡ Some place → outputs key stand rs ≡ []
-stopped_silent key stand [] place off = refl
-stopped_silent key stand (r ∷ rs) place off =
-    ap (λ (xs : List TapeRecord). xs ++ outputs key (served key stand r) rs) (outs_off key stand r place off)
-    ∙ ap (λ (s : Stand). outputs key s rs) (served_off key stand r place off) ∙ stopped_silent key stand rs place off
+stopped_silent : (key : List ℕ) (stand : Stand) (rs : List TapeRecord) (stop : Stop) → stand.stop ≡ Some stop → outputs key stand rs ≡ []
+stopped_silent key stand [] stop off = refl
+stopped_silent key stand (r ∷ rs) stop off =
+    ap (λ (xs : List TapeRecord). xs ++ outputs key (served key stand r) rs) (outs_off key stand r stop off)
+    ∙ ap (λ (s : Stand). outputs key s rs) (served_off key stand r stop off) ∙ stopped_silent key stand rs stop off
 
--- a record broke a rule
+-- a record broke a rule, or a step would pass a limit
 pub ends_stopped : {key : List ℕ} {begin : Stand} {octets : List ℕ} {before now left : Option (List ℕ)} {tape : Tape} {stand : Stand} → Going key begin octets before now left tape stand
-    → (place : ℕ) → stand.stop ≡ Some place → Ended (BadTape place) (drive_output key begin octets) (drive_fault key begin octets) before now
-ends_stopped {key = key} {begin = begin} {octets = octets} {tape = tape} {stand = stand} g place off =
-    let same : stand ≡ drive_stand key begin octets = sym (stopped_stays key stand (records tape g.more) place off) ∙ g.stand_is in (
-      sent_all g.sent (ap all_spelled (stopped_silent key stand (records tape g.more) place off)),
-      ap (λ (o : Option ℕ). first_of o (fault (tape_after blank octets))) (ap (λ (s : Stand). s.stop) (sym same) ∙ off),
-    )
+    → (stop : Stop) → stand.stop ≡ Some stop → Ended (ending_at stop) (drive_output key begin octets) (drive_stop key begin octets) before now
+ends_stopped {key = key} {begin = begin} {octets = octets} {before = before} {now = now} {tape = tape} {stand = stand} g stop off =
+    let same : stand ≡ drive_stand key begin octets = sym (stopped_stays key stand (records tape g.more) stop off) ∙ g.stand_is in
+    let added = sent_all g.sent (ap all_spelled (stopped_silent key stand (records tape g.more) stop off)) in
+    let told : drive_stop key begin octets ≡ Some stop = ap (λ (o : Option Stop). first_of o (option_map BadTape (fault (tape_after blank octets)))) (ap (λ (s : Stand). s.stop) (sym same) ∙ off) in
+    by stop told added
+  where
+    by : (stop : Stop) → drive_stop key begin octets ≡ Some stop → Added (drive_output key begin octets) before now → Ended (ending_at stop) (drive_output key begin octets) (drive_stop key begin octets) before now
+    by (BadTape place) told added = (added, told)
+    by (HistoryFull size) told added = (added, told)
 
-fault_over : {key : List ℕ} {begin : Stand} {octets : List ℕ} {before now : Option (List ℕ)} {tape : Tape} {stand : Stand} → Over key begin octets before now tape stand
-    → stand.stop ≡ None → drive_fault key begin octets ≡ fault tape
-fault_over {key = key} {begin = begin} {octets = octets} {stand = stand} o goes =
-    ap (λ (p : Option ℕ). first_of p (fault (tape_after blank octets))) (ap (λ (s : Stand). s.stop) (sym o.stand_is) ∙ goes) ∙ o.place
+stop_over : {key : List ℕ} {begin : Stand} {octets : List ℕ} {before now : Option (List ℕ)} {tape : Tape} {stand : Stand} → Over key begin octets before now tape stand
+    → stand.stop ≡ None → drive_stop key begin octets ≡ option_map BadTape (fault tape)
+stop_over {key = key} {begin = begin} {octets = octets} {stand = stand} o goes =
+    ap (λ (p : Option Stop). first_of p (option_map BadTape (fault (tape_after blank octets)))) (ap (λ (s : Stand). s.stop) (sym o.stand_is) ∙ goes) ∙ ap (option_map BadTape) o.place
 
 -- no whole record stands at a place
 pub ends_bad : {key : List ℕ} {begin : Stand} {octets : List ℕ} {before now : Option (List ℕ)} {tape : Tape} {stand : Stand} → Over key begin octets before now tape stand
-    → stand.stop ≡ None → (place : ℕ) → fault tape ≡ Some place → Ended (BadTape place) (drive_output key begin octets) (drive_fault key begin octets) before now
-ends_bad o goes place is = (o.added, fault_over o goes ∙ is)
+    → stand.stop ≡ None → (place : ℕ) → fault tape ≡ Some place → Ended (endings.BadTape place) (drive_output key begin octets) (drive_stop key begin octets) before now
+ends_bad o goes place is = (o.added, stop_over o goes ∙ ap (option_map BadTape) is)
 
 -- all was served
 pub ends_done : {key : List ℕ} {begin : Stand} {octets : List ℕ} {before now : Option (List ℕ)} {tape : Tape} {stand : Stand} → Over key begin octets before now tape stand
-    → stand.stop ≡ None → fault tape ≡ None → Ended Done (drive_output key begin octets) (drive_fault key begin octets) before now
-ends_done o goes none = (o.added, fault_over o goes ∙ none)
+    → stand.stop ≡ None → fault tape ≡ None → Ended endings.Done (drive_output key begin octets) (drive_stop key begin octets) before now
+ends_done o goes none = (o.added, stop_over o goes ∙ ap (option_map BadTape) none)

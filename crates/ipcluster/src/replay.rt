@@ -5,11 +5,12 @@ ghost use Rattle.cluster_types.specs.Causes.{Rose};
 ghost use Rattle.edges.specs.Streams.{Added, IsAtEnd};
 ghost use Rattle.tape.specs.Spelling.{all_spelled};
 ghost use Rattle.tape.specs.Tape.{tape_after, records};
-ghost use Rattle.tape_drive.specs.Drive.{outputs, stand_at, drive_output, drive_fault};
+ghost use Rattle.tape_drive.specs.Drive.{outputs, stand_at, drive_output, drive_stop};
 ghost use Rattle.ipcluster.specs.Program.{begin_of};
-ghost use Rattle.ipcluster.specs.Written.{WroteFront, Told, Ended};
+ghost use Rattle.ipcluster.specs.Written.{WroteFront, Told, Ended, ending_at};
 
 use cluster_core::machine::Core;
+use cluster_core::size::HistorySize;
 use command_words::command::ReplayOptions;
 use command_words::ending::Ending;
 use edges::sink::{Sink, write_all};
@@ -18,7 +19,7 @@ use hmac_sign::Key;
 use load_schemes::chooser::Chooser;
 use std::alloc::{AllocError, Global};
 use tape::reader::TapeReader;
-use tape_drive::drive::Drive;
+use tape_drive::drive::{Drive, Stop};
 
 /// The most octets that are read at once.
 const PIECE: usize = 65_536;
@@ -75,7 +76,19 @@ fn serve_piece<K: Sink>(
     put(output, text.as_slice())
 }
 
-/// Reads a tape to its end or to its fault, and serves it as far as that.
+/// How the program ends where the tape is stopped so.
+fn ending_at(stop: Stop) -> Ending
+    ensures { result ≡ ending_at stop }
+{
+    match stop {
+        Stop::BadTape(place) => Ending::BadTape(place),
+        Stop::HistoryFull(HistorySize { entries, bytes }) => {
+            Ending::HistoryFull { entries, bytes }
+        }
+    }
+}
+
+/// Reads a tape to its end or to what stops it, and serves it as far as that.
 fn serve_tape<S: Source, K: Sink>(
     alloc: Global,
     drive: &mut Drive,
@@ -86,7 +99,7 @@ fn serve_tape<S: Source, K: Sink>(
 ) -> Ending
     requires { drive.old.stop ≡ None }
     ensures end { result ≡ Ending.Done → IsAtEnd (S.left input.new) }
-    ensures ended { Told (S.left input.old) (λ octets. Ended result (drive_output key.now drive.old octets) (drive_fault key.now drive.old octets) (K.written output.old) (K.written output.new)) }
+    ensures ended { Told (S.left input.old) (λ octets. Ended result (drive_output key.now drive.old octets) (drive_stop key.now drive.old octets) (K.written output.old) (K.written output.new)) }
     ensures front { Told (S.left input.old) (λ octets. WroteFront (drive_output key.now drive.old octets) (K.written output.old) (K.written output.new)) }
     ensures read_fault { result ≡ Ending.ReadFault → Rose (S.faults input.old) (S.faults input.new) }
     ensures write_fault { result ≡ Ending.WriteFault → Rose (K.faults output.old) (K.faults output.new) }
@@ -111,8 +124,8 @@ fn serve_tape<S: Source, K: Sink>(
                 }
             }
         }
-        if let Some(place) = drive.stop() {
-            return Ending::BadTape(place);
+        if let Some(stop) = drive.stop() {
+            return ending_at(stop);
         }
         if tape.ended() {
             if let Some(place) = tape.fault() {
@@ -132,7 +145,7 @@ pub fn replay<S: Source, K: Sink>(
     output: &mut K,
 ) -> Ending
     ensures end { result ≡ Ending.Done → IsAtEnd (S.left input.new) }
-    ensures ended { Told (S.left input.old) (λ octets. Ended result (drive_output options.now.key (begin_of options.now) octets) (drive_fault options.now.key (begin_of options.now) octets) (K.written output.old) (K.written output.new)) }
+    ensures ended { Told (S.left input.old) (λ octets. Ended result (drive_output options.now.key (begin_of options.now) octets) (drive_stop options.now.key (begin_of options.now) octets) (K.written output.old) (K.written output.new)) }
     ensures front { Told (S.left input.old) (λ octets. WroteFront (drive_output options.now.key (begin_of options.now) octets) (K.written output.old) (K.written output.new)) }
     ensures read_fault { result ≡ Ending.ReadFault → Rose (S.faults input.old) (S.faults input.new) }
     ensures write_fault { result ≡ Ending.WriteFault → Rose (K.faults output.old) (K.faults output.new) }
@@ -141,7 +154,11 @@ pub fn replay<S: Source, K: Sink>(
     let Ok(key) = Key::new(alloc, options.key.as_slice()) else {
         return Ending::OutOfMemory;
     };
-    let core = Core::new(alloc);
+    let mut core = Core::new(alloc);
+    core.set_limits(HistorySize {
+        entries: options.entries,
+        bytes: options.bytes,
+    });
     match Drive::begin(core, chooser, options.scheme, options.hwm, options.misses) {
         Ok(mut drive) => serve_tape(alloc, &mut drive, &key, chooser, input, output),
         Err(AllocError) => Ending::OutOfMemory,

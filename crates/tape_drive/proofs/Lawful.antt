@@ -12,10 +12,11 @@ use Rattle.tape.specs.declared.record.TapeRecord.{TapeRecord}
 use Rattle.tape.specs.declared.record.TapeKind.TheVariants.{Message}
 use Rattle.tape_drive.specs.Inputs.{in_of, inputs_of}
 use Rattle.tape_drive.specs.Rules.{stop_of}
-use Rattle.tape_drive.specs.Steps.{may_come, stepped, stepped_all}
+use Rattle.tape_drive.specs.Steps.{may_come, stepped, fitting, stepped_all}
 use Rattle.tape_drive.specs.Links.{links_at}
 use Rattle.tape_drive.specs.Sends.{steps_send, sent_at}
-use Rattle.tape_drive.specs.Drive.{Stand, served_as, served_from, served, outs_as, outs_from_stand, stand_at}
+use Rattle.tape_drive.specs.declared.drive.Stop.{Stop}
+use Rattle.tape_drive.specs.Drive.{Stand, inputs_made, served_as, served_from, served, outs_as, outs_from_stand, stand_at}
 use Rattle.tape_drive.specs.Lawful.{Rests, Unheard}
 
 decided_legal : (n : ℕ) (h : History) → Legal h → Legal (decided n h)
@@ -42,12 +43,12 @@ stepped_all_rests h [] rests = rests
 stepped_all_rests h (input ∷ inputs) rests = stepped_all_rests (stepped h input) inputs (stepped_rests h input rests)
 
 served_as_rests : (key : List ℕ) (s : Stand) (r : TapeRecord) (stop : Option ℕ) → Rests s.history → Rests (served_as key s r stop).history
-served_as_rests key s r None rests = stepped_all_rests s.history (inputs_of key s.links r) rests
+served_as_rests key s r None rests = stepped_all_rests s.history (inputs_made key s r) rests
 served_as_rests key s r (Some place) rests = rests
 
-served_from_rests : (key : List ℕ) (s : Stand) (r : TapeRecord) (stop : Option ℕ) → Rests s.history → Rests (served_from key s r stop).history
+served_from_rests : (key : List ℕ) (s : Stand) (r : TapeRecord) (stop : Option Stop) → Rests s.history → Rests (served_from key s r stop).history
 served_from_rests key s r None rests = served_as_rests key s r (stop_of s.links s.least s.at r) rests
-served_from_rests key s r (Some place) rests = rests
+served_from_rests key s r (Some stop) rests = rests
 
 pub stand_rests : (key : List ℕ) (s : Stand) (rs : List TapeRecord) → Rests s.history → Rests (stand_at key s rs).history
 stand_rests key s [] rests = rests
@@ -68,12 +69,15 @@ unsigned_record key s moment word conn frames fault is = from s.stop
     none = rw is refl
 
     then_as : (o : Option ℕ) → ((served_as key s r o).history ≡ s.history) × (outs_as key s r o ≡ [])
-    then_as None = (ap (stepped_all s.history) none, ap (λ inputs. map (sent_at moment) (steps_send key (links_at s.links (Message conn frames)) s.history inputs)) none)
+    then_as None = (
+      ap (λ inputs. stepped_all s.history (fitting s.limits s.history inputs)) none,
+      ap (λ inputs. map (sent_at moment) (steps_send key (links_at s.links (Message conn frames)) s.history (fitting s.limits s.history inputs))) none,
+    )
     then_as (Some place) = (refl, refl)
 
-    from : (o : Option ℕ) → ((served_from key s r o).history ≡ s.history) × (outs_from_stand key s r o ≡ [])
+    from : (o : Option Stop) → ((served_from key s r o).history ≡ s.history) × (outs_from_stand key s r o ≡ [])
     from None = then_as (stop_of s.links s.least s.at r)
-    from (Some place) = (refl, refl)
+    from (Some stop) = (refl, refl)
 
 pub unsigned : (key : List ℕ) (conn moment word : ℕ) (frames : List (List ℕ)) (fault : PartsError) → read_parts key frames ≡ Err fault → in_of key conn moment word frames ≡ []
 unsigned key conn moment word frames fault is = rw is refl

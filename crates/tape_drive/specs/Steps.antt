@@ -1,5 +1,5 @@
 -- The steps of a cluster on the inputs of a tape.
-use Rattle.std.specs.Prelude.{Bool, List, [], ◌∷◌, length, ⊤, if◌then◌else◌}
+use Rattle.std.specs.Prelude.{Bool, ◌&&◌, List, [], ◌∷◌, length, ⊤, Option, Some, None, if◌then◌else◌}
 use Rattle.cluster_types.specs.declared.entry.Entry.TheVariants.{Input}
 use Rattle.cluster_types.specs.declared.entry.Input.{Input as InputType}
 use Rattle.cluster_types.specs.declared.out.Out.{Out}
@@ -7,7 +7,12 @@ use Rattle.cluster_defs.specs.Facts.{event_in}
 use Rattle.cluster_defs.specs.Scheduling.{may_take}
 use Rattle.cluster_defs.specs.Histories.{History, facts, decide_all}
 use Rattle.cluster_defs.specs.Outs.{outs_from}
+use Rattle.cluster_defs.specs.Words.{or_else}
 use Rattle.cluster_state.specs.Plain.{InTime}
+use Rattle.cluster_core.specs.declared.size.HistorySize.{HistorySize}
+use Rattle.cluster_core.specs.Size.{size_since, is_past}
+use Rattle.tape_drive.specs.declared.steps.Stepped.{Stepped}
+use Rattle.tape_drive.specs.declared.steps.Stepped.TheVariants.{Sends, Full}
 
 -- whether an input may come: no message that is junk, and nothing on a connection that isn't live
 abbrev pub may_come : History → InputType → Bool
@@ -20,6 +25,42 @@ stepped history input = if may_come history input then decide_all (Input input �
 -- what the step sends
 abbrev pub step_outs : History → InputType → List Out
 step_outs history input = outs_from (length history) (stepped history input)
+
+-- the size of the history with a step that passes a limit; such a step isn't made
+abbrev pub overfull : HistorySize → History → InputType → Option HistorySize
+overfull limits history input =
+    if may_come history input && is_past limits (size_since (stepped history input)) then Some (size_since (stepped history input)) else None
+
+-- a list, or none of it where a step isn't made
+abbrev pub unless_full : {A : Type 0} → Option HistorySize → List A → List A
+unless_full None xs = xs
+unless_full (Some size) xs = []
+
+-- the inputs before the first whose step passes a limit
+abbrev pub fitting : HistorySize → History → List InputType → List InputType
+fitting limits history [] = []
+fitting limits history (input ∷ inputs) = unless_full (overfull limits history input) (input ∷ fitting limits (stepped history input) inputs)
+
+-- the size of the history with the first step that passes a limit
+abbrev pub full_at : HistorySize → History → List InputType → Option HistorySize
+full_at limits history [] = None
+full_at limits history (input ∷ inputs) = or_else (overfull limits history input) (full_at limits (stepped history input) inputs)
+
+-- what a step comes to: it sends outs, or isn't made
+abbrev pub made_as : Option HistorySize → List Out → Stepped
+made_as None outs = Sends outs
+made_as (Some size) outs = Full size
+
+abbrev pub made : HistorySize → History → InputType → Stepped
+made limits history input = made_as (overfull limits history input) (step_outs history input)
+
+-- the history behind a step, or the one before where it isn't made
+abbrev pub behind_as : Option HistorySize → History → History → History
+behind_as None before behind = behind
+behind_as (Some size) before behind = before
+
+abbrev pub history_behind : HistorySize → History → InputType → History
+history_behind limits history input = behind_as (overfull limits history input) history (stepped history input)
 
 -- inputs one after another
 abbrev pub stepped_all : History → List InputType → History

@@ -4,6 +4,7 @@ ghost use Rattle.std.specs.Prelude.{◌≡◌, ◌∷◌, ℕ, List, [], Err};
 ghost use Rattle.cluster_types.specs.declared.config.Scheme.{Scheme};
 ghost use Rattle.cluster_types.specs.declared.out.Out.{Out};
 ghost use Rattle.cluster_defs.specs.Outs.{outs_on};
+ghost use Rattle.cluster_core.specs.declared.size.HistorySize.{HistorySize};
 ghost use Rattle.jupyter_parts.specs.declared.fault.PartsError.{PartsError};
 ghost use Rattle.jupyter_parts.specs.Signed.{read_parts};
 ghost use Rattle.tape_drive.specs.Inputs.{in_of};
@@ -25,7 +26,7 @@ pub fn order_is_kept()
 
 /// Whatever a tape holds, the history that it is served with is legal, and no decision is due after it.
 pub fn histories_are_legal()
-    ensures { (key : List ℕ) (scheme : Scheme) (hwm misses : ℕ) (octets : List ℕ) → Rests (drive_stand key (start [] scheme hwm misses) octets).history }
+    ensures { (key : List ℕ) (limits : HistorySize) (scheme : Scheme) (hwm misses : ℕ) (octets : List ℕ) → Rests (drive_stand key (start [] limits scheme hwm misses) octets).history }
 {}
 
 /// Frames that aren't a signed message are no input, so they change nothing and nothing is sent for them.

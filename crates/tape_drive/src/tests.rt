@@ -3,8 +3,9 @@
 ghost use Rattle.std.specs.Prelude.{◌≡◌, ◌<◌, length};
 ghost use Rattle.cluster_defs.specs.Scheduling.{pick};
 
-use crate::drive::Drive;
+use crate::drive::{Drive, Stop};
 use cluster_core::machine::Core;
+use cluster_core::size::HistorySize;
 use cluster_types::config::{Channel, Scheme};
 use cluster_types::octets::Octets;
 use edges::frames::Frames;
@@ -174,18 +175,19 @@ fn joins(alloc: Global, chooser: &Chooser, key: &Key) -> Result<bool, AllocError
     sends(alloc, &mut drive, chooser, key, &item, JOINED)
 }
 
-/// Where a tape stops with this record behind the 25 octets of a bare Up.
+/// What stops a tape with this record, twice, behind the 25 octets of a bare Up.
 fn stop_behind(
     alloc: Global,
     chooser: &Chooser,
     key: &Key,
     item: &TapeRecord,
-) -> Result<Option<u64>, AllocError> {
+) -> Result<Option<Stop>, AllocError> {
     let mut drive = begin(alloc, chooser)?;
     let mut sent = Vec::new(alloc);
-    drive.serve(&mut sent, key, chooser, &up(alloc, true, b"c")?)?;
-    drive.serve(&mut sent, key, chooser, item)?;
-    drive.serve(&mut sent, key, chooser, item)?;
+    let up = up(alloc, true, b"c")?;
+    for item in [&up, item, item] {
+        drive.serve(&mut sent, key, chooser, item)?;
+    }
     Ok(drive.stop())
 }
 
@@ -216,28 +218,43 @@ fn rules(rt: HostRuntime) -> Result<(), Fail> {
     let alloc = rt.alloc();
     let chooser = new_chooser(alloc)?;
     let key = Key::new(alloc, b"k")?;
-    let again = up(alloc, true, b"c")?;
-    assert_eq!(rt; stop_behind(alloc, &chooser, &key, &again)?, Some(25));
-    let octets = piece(alloc, 5, b"x")?;
-    assert_eq!(rt; stop_behind(alloc, &chooser, &key, &octets)?, Some(25));
-    let down = record(5, TapeKind::Down { conn: 2 });
-    assert_eq!(rt; stop_behind(alloc, &chooser, &key, &down)?, Some(25));
-    let late = record(253_402_300_800_000, TapeKind::Time);
-    assert_eq!(rt; stop_behind(alloc, &chooser, &key, &late)?, Some(25));
+    for (item, place) in [
+        (up(alloc, true, b"c")?, Some(25)),
+        (piece(alloc, 5, b"x")?, Some(25)),
+        (record(5, TapeKind::Down { conn: 2 }), Some(25)),
+        (record(253_402_300_800_000, TapeKind::Time), Some(25)),
+        (message(alloc, 1)?, None),
+        (message(alloc, 2)?, Some(25)),
+        // The second Down is of a connection that is down; the first record behind the Up has 21 octets.
+        (record(5, TapeKind::Down { conn: 1 }), Some(46)),
+    ] {
+        let stop = stop_behind(alloc, &chooser, &key, &item)?;
+        assert!(rt; stop == place.map(Stop::BadTape));
+    }
     Ok(())
 }
 
+/// Beats up to a limit of two entries, each with a record of 17 octets.
 #[test]
-fn records_that_keep_the_rules(rt: HostRuntime) -> Result<(), Fail> {
+fn a_full_history(rt: HostRuntime) -> Result<(), Fail> {
     let alloc = rt.alloc();
     let chooser = new_chooser(alloc)?;
     let key = Key::new(alloc, b"k")?;
-    let unsigned = message(alloc, 1)?;
-    assert_eq!(rt; stop_behind(alloc, &chooser, &key, &unsigned)?, None);
-    let unknown = message(alloc, 2)?;
-    assert_eq!(rt; stop_behind(alloc, &chooser, &key, &unknown)?, Some(25));
-    // The second Down is of a connection that is down; the first record behind the Up has 21 octets.
-    let down = record(5, TapeKind::Down { conn: 1 });
-    assert_eq!(rt; stop_behind(alloc, &chooser, &key, &down)?, Some(46));
+    let mut core = Core::new(alloc);
+    core.set_limits(HistorySize {
+        entries: 2,
+        bytes: 1000,
+    });
+    let mut drive = Drive::begin(core, &chooser, Scheme::LeastLoad, 1, 10)?;
+    let mut sent = Vec::new(alloc);
+    let full = Stop::HistoryFull(HistorySize {
+        entries: 3,
+        bytes: 51,
+    });
+    for stop in [None, None, Some(full), Some(full)] {
+        drive.serve(&mut sent, &key, &chooser, &record(5, TapeKind::Beat))?;
+        assert_eq!(rt; drive.stop(), stop);
+    }
+    assert!(rt; sent.is_empty());
     Ok(())
 }

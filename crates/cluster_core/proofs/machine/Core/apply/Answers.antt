@@ -18,6 +18,7 @@ invariant_of-self c =
       a.stands.time,
       c.live-self-inside.ensures ∙ ap (λ (p : Plain). length p.connections) a.stands.data_are,
       a.stops,
+      ?size,
       only_some (λ k. IsReadOff (reverse c.add_step.new.entries.items) (plain k.state) k.place) c.plan.inside.known a.stands,
     )
 

@@ -11,5 +11,6 @@ invariant_of-self c = (
   c.self.invariant.2,
   c.self.invariant.3,
   c.self.invariant.4,
+  c.self.invariant.5,
   only_some _ _ (subst (λ (core : CoreView). IsReadOff core.history (plain c.args.known.state) c.args.known.place) (sym c.self.view_is) c.requires),
 )
