@@ -1,5 +1,5 @@
 -- The size of what came since the last Open, entry by entry.
-use Rattle.std.proofs.Common.{◌≡◌, ℕ, zero, suc, ◌+◌, ◌-◌, ◌^◌, min, List, [], ◌∷◌, ◌++◌, length, true, refl, sym, ap, ◌∙◌, arith, Option, Some, None, reverse}
+use Rattle.std.proofs.Common.{◌≡◌, ℕ, zero, suc, ◌+◌, ◌-◌, ◌^◌, min, List, [], ◌∷◌, ◌++◌, length, true, false, refl, sym, ap, ◌∙◌, arith, Option, Some, None, reverse}
 use Rattle.std.specs.Prelude.{sum_by}
 use Rattle.std.proofs.lemmas.List.{reverse-append, append_assoc}
 use Rattle.std.proofs.lemmas.List.Sums.{sum_by-cons}
@@ -13,8 +13,8 @@ use Rattle.cluster_defs.specs.Histories.{History, facts, go_on, decided, decide_
 use Rattle.cluster_defs.specs.Lives.{is_open}
 use Rattle.cluster_defs.proofs.Says.{due_says}
 use Rattle.cluster_core.specs.declared.size.HistorySize.{HistorySize}
-use Rattle.cluster_core.specs.Steps.{PlanView, planned}
-use Rattle.cluster_core.specs.Size.{next_since, since_open, capped, size_since}
+use Rattle.cluster_core.specs.Steps.{CoreView, PlanView, planned, IsPlan}
+use Rattle.cluster_core.specs.Size.{is_past, next_since, since_open, capped, size_since}
 use Rattle.cluster_core.specs.Growth.{nothing_more, with_record, size_next, sizes_next}
 
 saturated : (a b : ℕ) → capped (capped a + b) ≡ capped (a + b)
@@ -64,6 +64,11 @@ sizes_are h (e ∷ es) =
 pub planned_size : (old : History) (p : PlanView) → sizes_next (size_next (size_since old) (Input p.input)) p.decisions ≡ size_since (planned old p)
 planned_size old p = ap (λ s. sizes_next s p.decisions) (sym (next_is old (Input p.input))) ∙ sizes_are (Input p.input ∷ old) p.decisions
 
+-- the size behind a plan for a core is that behind the whole step
+pub step_size : (core : CoreView) (p : PlanView) (input : InputType) → IsPlan core p → p.input ≡ input →
+    sizes_next (size_next (size_since core.history) (Input p.input)) p.decisions ≡ size_since (decide_all (Input input ∷ core.history))
+step_size core p input plan same = planned_size core.history p ∙ ap size_since (plan.all ∙ ap (λ (i : InputType). decide_all (Input i ∷ core.history)) same)
+
 -- AN OPEN AND ITS DECISIONS COUNT NOTHING
 
 none_since : (h : History) (d : Entry) → due (facts h) ≡ Some d → since_open h ≡ [] → since_open (d ∷ h) ≡ []
@@ -91,3 +96,10 @@ begins_anew h (Time moment word) is = absurd cc
 pub opened_size : (h : History) (input : InputType) → is_open (Input input) ≡ true → size_since (decide_all (Input input ∷ h)) ≡ nothing_more
 unfolding decide_all
 opened_size h input is = ap size_of (none_decided (open_work (facts (Input input ∷ h))) (Input input ∷ h) (begins_anew h input is))
+
+-- so an Open passes no limit
+pub opened_fits : (h : History) (input : InputType) (limit : HistorySize) → is_open (Input input) ≡ true → is_past limit (size_since (decide_all (Input input ∷ h))) ≡ false
+opened_fits h input limit is = ap (is_past limit) (opened_size h input is) ∙ none_past limit
+  where
+    none_past : (l : HistorySize) → is_past l nothing_more ≡ false
+    none_past l = refl

@@ -7,6 +7,7 @@ ghost use Rattle.cluster_defs.specs.Connections.{channel_on};
 ghost use Rattle.cluster_defs.specs.Facts.{event_in};
 ghost use Rattle.cluster_defs.specs.Scheduling.{due, may_take};
 ghost use Rattle.cluster_defs.specs.Histories.{facts, Legal, is_stopping, decide_all};
+ghost use Rattle.cluster_defs.specs.Lives.{is_open};
 ghost use Rattle.cluster_defs.specs.Outs.{outs_from};
 ghost use Rattle.cluster_state.specs.Plain.{InTime, facts_in};
 ghost use Rattle.cluster_state.specs.Stands.{plain};
@@ -105,6 +106,13 @@ impl Core {
         ensures { result ≡ size_since self.now.history }
     {
         self.size
+    }
+
+    /// How much may come after an Open and its decisions.
+    pub fn limits(&self) -> HistorySize
+        ensures { result ≡ self.now.limits }
+    {
+        self.limits
     }
 
     /// Sets how much may come after an Open and its decisions.
@@ -255,8 +263,8 @@ impl Core {
         ensures open { is_open (Entry.Input input) ≡ true → IfErr result (λ e. e ≡ PlanError.OutOfMemory) }
     {
         let plan = self.plan_with(chooser, input, &meaning)?;
-        let size = plan.size_behind(self.size);
-        if size.is_past(self.limits) {
+        let size = plan.size_behind(self.size());
+        if size.is_past(self.limits()) {
             return Err(PlanError::HistoryFull {
                 entries: size.entries,
                 bytes: size.bytes,

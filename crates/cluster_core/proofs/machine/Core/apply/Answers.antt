@@ -1,7 +1,12 @@
-use Rattle.std.proofs.Common.{◌∙◌, ap, reverse, length, arith}
+use Rattle.std.proofs.Common.{◌∙◌, sym, ap, reverse, length, arith}
+use Rattle.cluster_types.specs.declared.entry.Entry.TheVariants.{Input}
 use Rattle.cluster_state.specs.Plain.{Plain}
 use Rattle.cluster_state.specs.Stands.{plain}
-use Rattle.cluster_core.specs.Steps.{IsReadOff}
+use Rattle.cluster_core.specs.declared.size.HistorySize.{HistorySize}
+use Rattle.cluster_core.specs.Steps.{IsReadOff, planned}
+use Rattle.cluster_core.specs.Size.{size_since}
+use Rattle.cluster_core.specs.Growth.{size_next, sizes_next}
+use Rattle.cluster_core.proofs.Sizes.{planned_size}
 use Rattle.cluster_core.proofs.Plans.{applied_in, room_in, only_some}
 use Rattle.cluster_core.proofs.machine.Core.apply.Goals as goal
 
@@ -18,7 +23,10 @@ invariant_of-self c =
       a.stands.time,
       c.live-self-inside.ensures ∙ ap (λ (p : Plain). length p.connections) a.stands.data_are,
       a.stops,
-      ?size,
+      c.size_behind.ensures
+          ∙ ap (λ (s : HistorySize). sizes_next (size_next s (Input c.args.plan.input)) c.args.plan.decisions) c.self.invariant.5
+          ∙ planned_size (reverse c.self.inside.entries.items) c.args.plan
+          ∙ ap size_since (ap (planned (reverse c.self.inside.entries.items)) (sym c.plan.view_is) ∙ sym c.add_step.ensures),
       only_some (λ k. IsReadOff (reverse c.add_step.new.entries.items) (plain k.state) k.place) c.plan.inside.known a.stands,
     )
 
