@@ -1,6 +1,7 @@
 -- The size of what came since the last Open, entry by entry.
-use Rattle.std.proofs.Common.{◌≡◌, ℕ, zero, suc, ◌+◌, ◌-◌, ◌^◌, min, List, [], ◌∷◌, ◌++◌, length, true, false, refl, sym, ap, ◌∙◌, arith, Option, Some, None, reverse}
+use Rattle.std.proofs.Common.{◌≡◌, ℕ, zero, suc, ◌+◌, ◌-◌, ◌^◌, ◌==◌, min, List, [], ◌∷◌, ◌++◌, length, true, false, refl, sym, ap, ◌∙◌, arith, Option, Some, None, reverse}
 use Rattle.std.specs.Prelude.{sum_by}
+use Rattle.std.proofs.lemmas.Bool.{le-ltb, ne_eqb}
 use Rattle.std.proofs.lemmas.List.{reverse-append, append_assoc}
 use Rattle.std.proofs.lemmas.List.Sums.{sum_by-cons}
 use Rattle.cluster_types.specs.declared.entry.Input.{Input as InputType}
@@ -20,7 +21,7 @@ use Rattle.cluster_core.specs.Growth.{nothing_more, with_record, size_next, size
 saturated : (a b : ℕ) → capped (capped a + b) ≡ capped (a + b)
 saturated a b = omega arith
 
-size_of : List Entry → HistorySize
+abbrev size_of : List Entry → HistorySize
 size_of since = record { entries = capped (length since); bytes = capped (sum_by record_size since) }
 
 one_more : (e : Entry) (since : List Entry) → size_of (e ∷ since) ≡ with_record (size_of since) (record_size e)
@@ -29,6 +30,10 @@ one_more e since =
     let sum : sum_by record_size (e ∷ since) ≡ record_size e + sum_by record_size since = sum_by-cons record_size e since in
     let bytes : capped (sum_by record_size (e ∷ since)) ≡ capped (capped (sum_by record_size since) + record_size e) = omega (arith, sum) in
     ap (λ n. record { entries = n; bytes = capped (sum_by record_size (e ∷ since)) }) count ∙ ap (λ n. record { entries = capped (capped (length since) + 1); bytes = n }) bytes
+
+-- what comes behind an input counts
+counted : (e : Entry) (since : List Entry) → (capped (length (e ∷ since)) == 0) ≡ false
+counted e since = ne_eqb (capped (length (e ∷ since))) 0 (λ none. omega (arith, none))
 
 pub next_is : (h : History) (e : Entry) → size_since (e ∷ h) ≡ size_next (size_since h) e
 next_is h (Input (Open moment scheme hwm misses)) = refl
@@ -41,17 +46,17 @@ next_is h (Hand id n) = by (since_open h)
   where
     by : (since : List Entry) → size_of (next_since (Hand id n) since) ≡ size_next (size_of since) (Hand id n)
     by [] = refl
-    by (e ∷ since) = one_more (Hand id n) (e ∷ since)
+    by (e ∷ since) = rw (counted e since) (one_more (Hand id n) (e ∷ since))
 next_is h (Settle id v c) = by (since_open h)
   where
     by : (since : List Entry) → size_of (next_since (Settle id v c) since) ≡ size_next (size_of since) (Settle id v c)
     by [] = refl
-    by (e ∷ since) = one_more (Settle id v c) (e ∷ since)
+    by (e ∷ since) = rw (counted e since) (one_more (Settle id v c) (e ∷ since))
 next_is h (Lose n) = by (since_open h)
   where
     by : (since : List Entry) → size_of (next_since (Lose n) since) ≡ size_next (size_of since) (Lose n)
     by [] = refl
-    by (e ∷ since) = one_more (Lose n) (e ∷ since)
+    by (e ∷ since) = rw (counted e since) (one_more (Lose n) (e ∷ since))
 
 -- entries one after another
 pub sizes_are : (h : History) (es : List Entry) → sizes_next (size_since h) es ≡ size_since (reverse es ++ h)
@@ -102,4 +107,4 @@ pub opened_fits : (h : History) (input : InputType) (limit : HistorySize) → is
 opened_fits h input limit is = ap (is_past limit) (opened_size h input is) ∙ none_past limit
   where
     none_past : (l : HistorySize) → is_past l nothing_more ≡ false
-    none_past l = refl
+    none_past l = rw (le-ltb l.entries 0 (omega arith), le-ltb l.bytes 0 (omega arith)) refl

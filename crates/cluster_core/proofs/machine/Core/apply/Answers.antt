@@ -23,7 +23,7 @@ invariant_of-self c =
       a.stands.time,
       c.live-self-inside.ensures ∙ ap (λ (p : Plain). length p.connections) a.stands.data_are,
       a.stops,
-      c.size_behind.ensures
+      c.size_behind-self-inside.ensures
           ∙ ap (λ (s : HistorySize). sizes_next (size_next s (Input c.args.plan.input)) c.args.plan.decisions) c.self.invariant.5
           ∙ planned_size (reverse c.self.inside.entries.items) c.args.plan
           ∙ ap size_since (ap (planned (reverse c.self.inside.entries.items)) (sym c.plan.view_is) ∙ sym c.add_step.ensures),
