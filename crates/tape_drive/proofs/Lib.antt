@@ -6,4 +6,4 @@ pub mod Ordered
 pub mod Serving
 pub mod Sorting
 pub mod Unsent
-pub mod Fitting
+pub mod Opened
