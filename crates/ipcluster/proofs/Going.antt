@@ -9,6 +9,7 @@ use Rattle.tape.proofs.Chunk.{after_append, records_append, stays}
 use Rattle.tape_drive.specs.Drive.{Stand, served, served_from, outs, outs_from_stand, outputs, stand_at, first_of, drive_stand, drive_output, drive_stop}
 use Rattle.tape_drive.specs.declared.drive.Stop.{Stop}
 use Rattle.tape_drive.specs.declared.drive.Stop.TheVariants.{BadTape, HistoryFull}
+use Rattle.command_words.specs.declared.ending.Ending.{Ending}
 use Rattle.command_words.specs.declared.ending.Ending.TheVariants as endings
 use Rattle.ipcluster.specs.Written.{WroteFront, Ended, ending_at}
 use Rattle.ipcluster.proofs.Fronts.{Sent, sent_none, sent_more, sent_front, sent_stop, sent_all, written_append, stand_append}
@@ -107,12 +108,12 @@ stopped_silent key stand (r ∷ rs) stop off =
 
 -- a record broke a rule, or a step would pass a limit
 pub ends_stopped : {key : List ℕ} {begin : Stand} {octets : List ℕ} {before now left : Option (List ℕ)} {tape : Tape} {stand : Stand} → Going key begin octets before now left tape stand
-    → (stop : Stop) → stand.stop ≡ Some stop → Ended (ending_at stop) (drive_output key begin octets) (drive_stop key begin octets) before now
-ends_stopped {key = key} {begin = begin} {octets = octets} {before = before} {now = now} {tape = tape} {stand = stand} g stop off =
+    → (stop : Stop) → stand.stop ≡ Some stop → (end : Ending) → end ≡ ending_at stop → Ended end (drive_output key begin octets) (drive_stop key begin octets) before now
+ends_stopped {key = key} {begin = begin} {octets = octets} {before = before} {now = now} {tape = tape} {stand = stand} g stop off end is =
     let same : stand ≡ drive_stand key begin octets = sym (stopped_stays key stand (records tape g.more) stop off) ∙ g.stand_is in
     let added = sent_all g.sent (ap all_spelled (stopped_silent key stand (records tape g.more) stop off)) in
     let told : drive_stop key begin octets ≡ Some stop = ap (λ (o : Option Stop). first_of o (option_map BadTape (fault (tape_after blank octets)))) (ap (λ (s : Stand). s.stop) (sym same) ∙ off) in
-    by stop told added
+    subst (λ (e : Ending). Ended e (drive_output key begin octets) (drive_stop key begin octets) before now) (sym is) (by stop told added)
   where
     by : (stop : Stop) → drive_stop key begin octets ≡ Some stop → Added (drive_output key begin octets) before now → Ended (ending_at stop) (drive_output key begin octets) (drive_stop key begin octets) before now
     by (BadTape place) told added = (added, told)

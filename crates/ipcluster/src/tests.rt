@@ -19,6 +19,10 @@ const UP: &[u8] = b"\x01\0\0\0\0\0\0\0\0\0\0\0\0\0\0\0\0\0\0\0\x01\x03\x01\x01c"
 /// The Up, and five octets of a round of heartbeats.
 const TORN: &[u8] = b"\x01\0\0\0\0\0\0\0\0\0\0\0\0\0\0\0\0\0\0\0\x01\x03\x01\x01c\x04\0\0\0\0";
 
+/// The Up, and time that passes, whose records have 24 and 17 octets.
+const LATER: &[u8] =
+    b"\x01\0\0\0\0\0\0\0\0\0\0\0\0\0\0\0\0\0\0\0\x01\x03\x01\x01c\x05\0\0\0\0\0\0\0\0\0\0\0\0\0\0\0\0";
+
 /// The Up twice: a number must be above those before it.
 const TWICE: &[u8] =
     b"\x01\0\0\0\0\0\0\0\0\0\0\0\0\0\0\0\0\0\0\0\x01\x03\x01\x01c\x01\0\0\0\0\0\0\0\0\0\0\0\0\0\0\0\0\0\0\0\x01\x03\x01\x01c";
@@ -88,6 +92,8 @@ fn run(alloc: Global, texts: &[&str], tape: &[u8], failing: &Failing) -> Result<
 
 const REPLAY: &[&str] = &["replay", "--key", "k"];
 
+const ONE_ENTRY: &[&str] = &["replay", "--key", "k", "--entries", "1"];
+
 const UNREAD: &[&str] = &["replay", "--key"];
 
 /// Whether these words, on this tape, come to this status and this line of the errors, with nothing written.
@@ -148,6 +154,13 @@ fn ends(rt: HostRuntime) -> Result<(), Fail> {
         (REPLAY, UP, &SECOND_READ, 3, "ipcluster: read fault\n"),
         (REPLAY, JOINING, &FIRST_WRITE, 4, "ipcluster: write fault\n"),
         (REPLAY, TORN, &FIRST_LINE, 6, ""),
+        (
+            ONE_ENTRY,
+            LATER,
+            &NONE,
+            9,
+            "ipcluster: history full at 2 entries and 41 bytes\n",
+        ),
     ] {
         assert!(rt;
             ends_as(alloc, texts, tape, failing, status, line)?,

@@ -32,7 +32,7 @@ returns-in-Err-WriteFailed-clause-front g c =
 
 pub returns-in-Some-stop-clause-ended : goal.returns-in-Some-stop-clause-ended
 returns-in-Some-stop-clause-ended g c =
-    λ octets told. ends_stopped (going_on (c.loop.invariant.going octets told) (take c.in-Bytes.n c.read.new.into) (g.S.Source.left c.read.new.self) (g.K.Sink.written c.serve_piece.new.output) c.serve_piece.new.tape c.serve_piece.new.drive c.in-Bytes.ensures.reads.2 c.in-Ok.ensures.tape c.in-Ok.ensures.stand c.in-Ok.ensures.ok) c.in-Some-stop.stop (sym c.stop.ensures ∙ c.in-Some-stop.is)
+    λ octets told. ends_stopped (going_on (c.loop.invariant.going octets told) (take c.in-Bytes.n c.read.new.into) (g.S.Source.left c.read.new.self) (g.K.Sink.written c.serve_piece.new.output) c.serve_piece.new.tape c.serve_piece.new.drive c.in-Bytes.ensures.reads.2 c.in-Ok.ensures.tape c.in-Ok.ensures.stand c.in-Ok.ensures.ok) c.in-Some-stop.stop (sym c.stop.ensures ∙ c.in-Some-stop.is) c.ending_at.result c.ending_at.ensures
 
 pub returns-in-Some-stop-clause-front : goal.returns-in-Some-stop-clause-front
 returns-in-Some-stop-clause-front g c =
