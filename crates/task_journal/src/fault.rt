@@ -50,3 +50,24 @@ pub enum AppendFault {
     #[error("a call of the disk failed earlier")]
     Reopen,
 }
+
+/// Why a batch isn't extended.
+#[derive(Clone, Copy, Debug, PartialEq, Eq, Error)]
+pub enum ExtendFault {
+    /// All records together would have 2^32 octets or more.
+    #[error("the records of a batch have too many octets")]
+    TooLong,
+    #[error("out of memory")]
+    OutOfMemory,
+}
+
+impl From<AllocError> for ExtendFault {
+    ghost use Rattle.std.specs.Prelude.{◌≡◌};
+    ghost use Rattle.task_journal.specs.declared.fault.ExtendFault.{ExtendFault};
+
+    ghost from_gives = { λ _ e. e ≡ ExtendFault.OutOfMemory };
+
+    fn from(_: AllocError) -> Self {
+        ExtendFault::OutOfMemory
+    }
+}

@@ -55,14 +55,14 @@ fn append_at<D: Disk>(disk: &mut D, gate: u64, octets: &[u8]) -> Result<(), Fail
 impl<D: Disk> Journal<D> {
     /// Appends a batch, by four calls of the disk and without memory. At `Ok` it is on the disk. After `DiskFault` the
     /// disk may have the batch or not, and the journal is to be opened again.
-    pub fn append(&mut self, batch: Batch) -> Result<(), AppendFault>
+    pub fn append(&mut self, batch: &Batch) -> Result<(), AppendFault>
         // At `Ok` the disk stands for the entries from before with those of the batch, and so does all that a crash leaves.
         ensures stands { D.tells → OnOk result ((list : List EntryType) → StandsFor (D.content self.old.disk) list
-            → StandsFor (D.content self.new.disk) (list ++ batch)) }
+            → StandsFor (D.content self.new.disk) (list ++ batch.now)) }
         ensures durable { D.tells → OnOk result (Only (D.content self.new.disk) (D.image self.new.disk)) }
         // A crash at any moment of the call leaves the entries from before it, or these with the whole batch.
         ensures any_moment { D.tells → self.old.failed ≡ false → (list : List EntryType)
-            → StandsFor (D.content self.old.disk) list → LeavesOnly D.moment D.image_since self.old.disk self.new.disk (Outcome list batch) }
+            → StandsFor (D.content self.old.disk) list → LeavesOnly D.moment D.image_since self.old.disk self.new.disk (Outcome list batch.now) }
         ensures reopen { (result ≡ Err AppendFault.Reopen) ↔ (self.old.failed ≡ true) }
         ensures unchanged { result ≡ Err AppendFault.Reopen → self.new ≡ self.old }
         ensures failed { self.new.failed ≡ is_err result }
@@ -97,9 +97,10 @@ impl<D: Disk> Journal<D> {
         }
     }
 
-    /// Whether a call of the disk has failed.
+    /// Whether a call of the disk has failed. While none has, a crash leaves what the disk holds.
     pub fn failed(&self) -> bool
-        ensures { result ≡ self.now.failed }
+        ensures is { result ≡ self.now.failed }
+        ensures durable { D.tells → self.now.failed ≡ false → Only (D.content self.now.disk) (D.image self.now.disk) }
     {
         self.failed
     }

@@ -41,7 +41,20 @@ fn open_batch(alloc: Global) -> Result<Batch, AllocError> {
         hwm: 1,
         misses: 10,
     }))?;
-    Batch::new(alloc, &entries)
+    let mut batch = Batch::empty(alloc)?;
+    match batch.extend(entries.as_slice()) {
+        Ok(()) => Ok(batch),
+        Err(_) => Err(AllocError),
+    }
+}
+
+#[test]
+fn a_batch_grows_and_is_cleared(rt: HostRuntime) -> Result<(), Fail> {
+    let mut batch = open_batch(rt.alloc())?;
+    assert!(rt; batch.size() == 18 && !batch.is_empty());
+    batch.clear();
+    assert!(rt; batch.size() == 0 && batch.is_empty());
+    Ok(())
 }
 
 /// The number of entries that octets stand for, or why there are none.
@@ -62,11 +75,11 @@ fn opened(rt: &impl Abort, alloc: Global, call: u64) -> Result<(u8, MemDisk), Al
             assert_eq!(rt; refused.why, OpenFault::DiskFault);
             Ok((0, refused.disk.into_disk()))
         }
-        Ok((mut journal, _, _)) => match journal.append(batch) {
+        Ok((mut journal, _, _)) => match journal.append(&batch) {
             Ok(()) => Ok((2, journal.close().into_disk())),
             Err(fault) => {
                 assert_eq!(rt; fault, AppendFault::DiskFault);
-                assert_eq!(rt; journal.append(again), Err(AppendFault::Reopen));
+                assert_eq!(rt; journal.append(&again), Err(AppendFault::Reopen));
                 assert!(rt; journal.failed());
                 Ok((1, journal.close().into_disk()))
             }

@@ -1,4 +1,4 @@
-use Rattle.std.proofs.Common.{List, subst, sym, arith}
+use Rattle.std.proofs.Common.{◌≡◌, ◌∙◌, List, length, subst, sym, ap, arith}
 use Rattle.cluster_types.specs.declared.entry.Entry.{Entry}
 use Rattle.task_journal.specs.Batch.{IsBatch}
 use Rattle.task_journal.proofs.Batches.{count_fits, view_is}
@@ -11,7 +11,7 @@ pub invariant_of-result : goal.invariant_of-result
 invariant_of-result c =
     let made = rw c.as_slice.ensures at c.in_ok-octets.ensures in
     let view = view_is c.in_ok-octets.octets.items c.args.entries.now c.len.result made c.len.ensures in
-    subst (λ (es : List Entry). IsBatch c.in_ok-octets.octets.items es) (sym view) made
+    subst (λ (es : List Entry). IsBatch c.in_ok-octets.octets.items es × (c.len.result ≡ length es)) (sym view) (made, c.len.ensures)
 
 pub returns : goal.returns
 returns c =
