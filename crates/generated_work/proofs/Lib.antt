@@ -1,0 +1,4 @@
+mod Fitting
+mod Rows
+mod ToCome
+mod Writing
