@@ -63,7 +63,8 @@ impl Generator {
         })
     }
 
-    /// The next record, or none where all were given.
+    /// The next record, or none where all were given. Want of memory changes nothing.
+    #[tactic(auto, using(crate::proofs::ToCome::draw_more, crate::proofs::ToCome::no_tasks, crate::proofs::ToCome::next_task))]
     pub fn next(&mut self) -> Result<Option<TapeRecord>, AllocError>
         ensures taken { IfOk result (λ r. MatchOption r ((self.old ≡ []) × (self.new ≡ [])) (λ item. self.old ≡ item ∷ self.new)) }
         ensures err { OnErr result (self.new ≡ self.old) }
@@ -84,6 +85,7 @@ impl Generator {
 }
 
 /// The octets of the tape of a seed and so many tasks.
+#[tactic(auto, using(crate::proofs::Fitting::generated_fits, crate::proofs::Writing::first_fits, crate::proofs::Writing::rest_fits, crate::proofs::Writing::spelled_more))]
 pub fn generate(alloc: Global, seed: u32, tasks: u32) -> Result<Vec<u8>, AllocError>
     requires seed { seed < 2 ^ 31 }
     requires tasks { tasks ≤ most_tasks }

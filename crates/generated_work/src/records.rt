@@ -88,10 +88,11 @@ fn sent(
 }
 
 /// The uuid of the engine on a connection.
-#[tactic(auto, unfolding(crate::specs::Generated::engine_uuid))]
+#[tactic(auto, unfolding(crate::specs::Generated::engine_uuid), using(crate::proofs::Uuids::uuid_is))]
 fn engine_uuid(alloc: Global, conn: u32) -> Result<String, AllocError>
     requires { 0 < conn }
-    ensures { IfOk result (λ s. string_bytes s ≡ engine_uuid conn) }
+    ensures text { IfOk result (λ s. string_bytes s ≡ engine_uuid conn) }
+    ensures uuid { IfOk result (λ s. is_uuid (string_bytes s) ≡ true) }
 {
     let digits = (conn - 1).to_string(alloc)?;
     let mut uuid = String::from_str(alloc, "e")?;

@@ -5,7 +5,7 @@ use Rattle.generated_work.proofs.generator.generate.Given as goal
 
 abbrev pub invariant-loop-record : goal.invariant-loop-record
 invariant-loop-record l = record {
-  written : l.octets.items ++ all_spelled l.generator ≡ all_spelled (generated l.seed l.tasks);
+  written : l.octets.items ++ all_spelled l.generator ≡ all_spelled (generated l.fn.seed l.fn.tasks);
   fit : All Fits l.generator;
 }
 
