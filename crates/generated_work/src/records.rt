@@ -1,6 +1,7 @@
 //! The records of the tape.
 
-ghost use Rattle.std.specs.Prelude.{◌≡◌, ◌<◌, ◌≤◌, ◌++◌, [], IfOk, OnOk, true, string_bytes};
+ghost use Rattle.std.specs.Prelude.{◌≡◌, ◌++◌, [], IfOk, OnOk, true, string_bytes};
+ghost use Rattle.std.specs.List.{flat_map};
 ghost use Rattle.engine_core.specs.State.{is_uuid, new_engine};
 ghost use Rattle.generated_work.specs.Generated.{work_key, at_zero, up, sent, engine_uuid, engine_records, opening, task_record};
 
@@ -90,11 +91,10 @@ fn sent(
 /// The uuid of the engine on a connection.
 #[tactic(auto, unfolding(crate::specs::Generated::engine_uuid), using(crate::proofs::Uuids::uuid_is))]
 fn engine_uuid(alloc: Global, conn: u32) -> Result<String, AllocError>
-    requires { 0 < conn }
     ensures text { IfOk result (λ s. string_bytes s ≡ engine_uuid conn) }
     ensures uuid { IfOk result (λ s. is_uuid (string_bytes s) ≡ true) }
 {
-    let digits = (conn - 1).to_string(alloc)?;
+    let digits = conn.saturating_sub(1).to_string(alloc)?;
     let mut uuid = String::from_str(alloc, "e")?;
     uuid.push_str(digits.as_str())?;
     Ok(uuid)
@@ -120,14 +120,29 @@ fn push_engine(
     key: &Key,
     conn: u32,
 ) -> Result<(), AllocError>
-    requires key { key.now ≡ work_key }
-    requires conn { 0 < conn }
+    requires { key.now ≡ work_key }
     ensures { OnOk result (records.new.items ≡ records.old.items ++ engine_records conn) }
 {
     let uuid = engine_uuid(alloc, conn)?;
     let request = engine_of(alloc, uuid.as_str())?.join(0)?;
     records.push_back(up(alloc, conn, Channel::Engine, uuid.as_bytes())?)?;
     records.push_back(sent(alloc, key, conn, &request)?)?;
+    Ok(())
+}
+
+/// Adds the same for each of these connections.
+fn push_engines(
+    records: &mut VecDeque<TapeRecord>,
+    alloc: Global,
+    key: &Key,
+    conns: &[u32],
+) -> Result<(), AllocError>
+    requires { key.now ≡ work_key }
+    ensures { OnOk result (records.new.items ≡ records.old.items ++ flat_map engine_records conns.now) }
+{
+    for conn in conns {
+        push_engine(records, alloc, key, *conn)?;
+    }
     Ok(())
 }
 
@@ -138,9 +153,7 @@ pub fn opening(alloc: Global, key: &Key) -> Result<VecDeque<TapeRecord>, AllocEr
     ensures { IfOk result (λ records. records.items ≡ opening) }
 {
     let mut records = VecDeque::new(alloc);
-    for conn in ENGINES {
-        push_engine(&mut records, alloc, key, conn)?;
-    }
+    push_engines(&mut records, alloc, key, &ENGINES)?;
     records.push_back(up(alloc, CLIENT, Channel::Task, b"client")?)?;
     Ok(records)
 }
