@@ -36,10 +36,10 @@ unfolding task_header
 header_fits k small =
     let number = number_short k small in
     between_fits
-      (codes "{\"msg_id\":\"t")
-      (decimal k)
-      (codes "\",\"session\":\"work\",\"username\":\"work\",\"date\":\"1970-01-01T00:00:00.000Z\",\"msg_type\":\"execute_request\",\"version\":\"5.3\"}")
-      12 116 refl refl (omega arith) (omega arith)
+    (codes "{\"msg_id\":\"t")
+    (decimal k)
+    (codes "\",\"session\":\"work\",\"username\":\"work\",\"date\":\"1970-01-01T00:00:00.000Z\",\"msg_type\":\"execute_request\",\"version\":\"5.3\"}")
+    12 116 refl refl (omega arith) (omega arith)
 
 after_fits : (j : ℕ) → j < 2 ^ 32 → FitsBlob (after_text j)
 unfolding after_text
@@ -73,7 +73,7 @@ content_fits x =
     let behind = codes "\",\"silent\":false,\"store_history\":true,\"user_expressions\":{},\"allow_stdin\":false,\"stop_on_error\":true}" in
     let short = sum_short left right (number_short (x % 1000) (omega arith)) (number_short (x / 1000 % 1000) (omega arith)) in
     subst FitsBlob (sym (regrouped before left (codes "+") right behind))
-      (between_fits before (left ++ codes "+" ++ right) behind 9 101 refl refl short (omega arith))
+    (between_fits before (left ++ codes "+" ++ right) behind 9 101 refl refl short (omega arith))
 
 tag_length : (key text : List ℕ) → length (tag_of key text) ≡ 64
 unfolding hmac
@@ -152,8 +152,8 @@ joined xs ys = All-append Fits xs ys
 engines_fit : All Fits (flat_map engine_records (1 ∷ 2 ∷ 3 ∷ 4 ∷ []))
 engines_fit =
     joined (engine_records 1) (engine_records 2 ++ (engine_records 3 ++ (engine_records 4 ++ []))) first_fits
-      (joined (engine_records 2) (engine_records 3 ++ (engine_records 4 ++ [])) second_fits
-        (joined (engine_records 3) (engine_records 4 ++ []) third_fits (joined (engine_records 4) [] fourth_fits (All-nil Fits))))
+    (joined (engine_records 2) (engine_records 3 ++ (engine_records 4 ++ [])) second_fits
+    (joined (engine_records 3) (engine_records 4 ++ []) third_fits (joined (engine_records 4) [] fourth_fits (All-nil Fits))))
 
 client_fits : All Fits (up 5 Task (codes "client") ∷ [])
 client_fits = All-from_recursion Fits (up 5 Task (codes "client") ∷ []) (up_fits 5 Task (codes "client") (omega arith) (omega arith), tt)

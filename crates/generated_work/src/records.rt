@@ -48,12 +48,7 @@ fn at_zero(kind: TapeKind) -> TapeRecord
 }
 
 /// A bare connection comes up.
-fn up(
-    alloc: Global,
-    conn: u32,
-    channel: Channel,
-    identity: &[u8],
-) -> Result<TapeRecord, AllocError>
+fn up(alloc: Global, conn: u32, channel: Channel, identity: &[u8]) -> Result<TapeRecord, AllocError>
     ensures { IfOk result (λ r. r ≡ up conn channel identity.now) }
 {
     let identity = Octets::new(alloc, identity)?;

@@ -34,12 +34,7 @@ fn push_line(text: &mut String, word: &str, number: &str) -> Result<(), AllocErr
 }
 
 /// Appends a line of a word and a count.
-fn push_count(
-    text: &mut String,
-    alloc: Global,
-    word: &str,
-    count: u64,
-) -> Result<(), AllocError>
+fn push_count(text: &mut String, alloc: Global, word: &str, count: u64) -> Result<(), AllocError>
     ensures { OnOk result (string_bytes text.new ≡ string_bytes text.old ++ line word.now (decimal count)) }
 {
     let digits = count.to_string(alloc)?;
