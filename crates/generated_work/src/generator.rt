@@ -1,7 +1,7 @@
 //! The tape, record by record or as a whole.
 
-ghost use Rattle.std.specs.Prelude.{◌≡◌, ◌<◌, ◌≤◌, ◌^◌, ◌∷◌, [], IfOk, OnErr, MatchOption};
-ghost use Rattle.tape.specs.Spelling.{all_spelled};
+ghost use Rattle.std.specs.Prelude.{◌≡◌, ◌<◌, ◌≤◌, ◌^◌, ◌∷◌, ◌++◌, [], IfOk, OnOk, OnErr, MatchOption};
+ghost use Rattle.tape.specs.Spelling.{Fits, spelled, all_spelled};
 ghost use Rattle.generated_work.specs.Generated.{most_tasks, generated};
 
 use crate::draws::next_draw;
@@ -84,6 +84,14 @@ impl Generator {
     }
 }
 
+/// Appends a record that isn't needed any more.
+fn put(octets: &mut Vec<u8>, item: TapeRecord) -> Result<(), AllocError>
+    requires { Fits item }
+    ensures { OnOk result (octets.new.items ≡ octets.old.items ++ spelled item) }
+{
+    write_tape(octets, &item)
+}
+
 /// The octets of the tape of a seed and so many tasks.
 #[tactic(auto, using(crate::proofs::Fitting::generated_fits, crate::proofs::Writing::first_fits, crate::proofs::Writing::rest_fits, crate::proofs::Writing::spelled_more))]
 pub fn generate(alloc: Global, seed: u32, tasks: u32) -> Result<Vec<u8>, AllocError>
@@ -94,7 +102,7 @@ pub fn generate(alloc: Global, seed: u32, tasks: u32) -> Result<Vec<u8>, AllocEr
     let mut generator = Generator::new(alloc, seed, tasks)?;
     let mut octets = Vec::new(alloc);
     while let Some(record) = generator.next()? {
-        write_tape(&mut octets, &record)?;
+        put(&mut octets, record)?;
     }
     Ok(octets)
 }
