@@ -1,0 +1,5 @@
+mod Fitting
+mod Rows
+mod ToCome
+mod Uuids
+mod Writing
