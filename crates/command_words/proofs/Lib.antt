@@ -1,2 +1,6 @@
+mod Command
+mod Matches
 mod Numbers
+mod Steps
+mod Walk
 mod Words

@@ -1,6 +1,6 @@
 //! The values of options.
 
-ghost use Rattle.std.specs.Prelude.{◌≡◌, ◌≤◌, ◌^◌, true, Some, MatchOption, option_map, bytes_eq};
+ghost use Rattle.std.specs.Prelude.{◌≡◌, ◌≤◌, ◌^◌, true, Some, map, MatchOption, option_map, bytes_eq};
 ghost use Rattle.std.specs.List.{list_all};
 ghost use Rattle.std.specs.Char.{is_ascii_digit};
 ghost use Rattle.std.specs.Str.Parse.{digits_value};
@@ -8,13 +8,12 @@ ghost use Rattle.cluster_types.specs.declared.config.Scheme.{Scheme};
 ghost use Rattle.command_words.specs.Values.{needed, optional, key_from, scheme_from, within, number_from, is_number, lru_word, leastload_word, plainrandom_word, twobin_word};
 
 use cluster_types::config::Scheme;
-use cluster_types::text::Text;
 
 /// The most octets of a key.
 const LONGEST_KEY: usize = 4096;
 
 /// The key that a value is.
-fn key_from(value: &[u8]) -> Option<&[u8]>
+fn key_from(value: &str) -> Option<&str>
     ensures { option_map (λ k. k.now) result ≡ key_from value.now }
 {
     if value.len() > 0 && value.len() <= LONGEST_KEY {
@@ -25,11 +24,11 @@ fn key_from(value: &[u8]) -> Option<&[u8]>
 }
 
 /// The key, which is needed once.
-pub fn needed_key(values: &[Text]) -> Option<&[u8]>
-    ensures { option_map (λ k. k.now) result ≡ needed key_from values.now }
+pub fn needed_key<'a>(values: &[&'a str]) -> Option<&'a str>
+    ensures { option_map (λ k. k.now) result ≡ needed key_from (map (λ v. v.now) values.now) }
 {
     match values {
-        [value] => key_from(value.as_slice()),
+        [value] => key_from(*value),
         _ => None,
     }
 }
@@ -53,12 +52,12 @@ fn scheme_from(value: &[u8]) -> Option<Scheme>
 }
 
 /// The scheme, or the first engine of the least load where none is given.
-pub fn optional_scheme(values: &[Text]) -> Option<Scheme>
-    ensures { result ≡ optional Scheme.LeastLoad scheme_from values.now }
+pub fn optional_scheme(values: &[&str]) -> Option<Scheme>
+    ensures { result ≡ optional Scheme.LeastLoad scheme_from (map (λ v. v.now) values.now) }
 {
     match values {
         [] => Some(Scheme::LeastLoad),
-        [value] => scheme_from(value.as_slice()),
+        [value] => scheme_from(value.as_bytes()),
         _ => None,
     }
 }
@@ -81,21 +80,21 @@ fn is_number(text: &[u8]) -> bool
 }
 
 /// The number that digits write, or none where it is above the greatest of its type.
-fn parsed(text: &Text) -> Option<u32>
+fn parsed(text: &str) -> Option<u32>
     requires { is_number text.now ≡ true }
     ensures { MatchOption result (2 ^ 32 ≤ digits_value 10 text.now) (λ n. n ≡ digits_value 10 text.now) }
 {
-    match text.as_str().parse::<u32>() {
+    match text.parse::<u32>() {
         Ok(number) => Some(number),
         Err(_) => None,
     }
 }
 
 /// The number from low to high that a value is.
-fn number_from(low: u32, high: u32, value: &Text) -> Option<u32>
+fn number_from(low: u32, high: u32, value: &str) -> Option<u32>
     ensures { result ≡ number_from low high value.now }
 {
-    if !is_number(value.as_slice()) {
+    if !is_number(value.as_bytes()) {
         return None;
     }
     match parsed(value) {
@@ -105,8 +104,8 @@ fn number_from(low: u32, high: u32, value: &Text) -> Option<u32>
 }
 
 /// The number from low to high, or another where none is given.
-pub fn optional_number(default: u32, low: u32, high: u32, values: &[Text]) -> Option<u32>
-    ensures { result ≡ optional default (number_from low high) values.now }
+pub fn optional_number(default: u32, low: u32, high: u32, values: &[&str]) -> Option<u32>
+    ensures { result ≡ optional default (number_from low high) (map (λ v. v.now) values.now) }
 {
     match values {
         [] => Some(default),
