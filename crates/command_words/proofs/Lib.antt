@@ -1,6 +1,6 @@
-mod Command
-mod Matches
 mod Numbers
+mod Parses
+mod Rules
 mod Steps
 mod Walk
 mod Words

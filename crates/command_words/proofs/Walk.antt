@@ -1,14 +1,14 @@
 -- The walk of `clap` over words, for a command of options with one value each, and of positional words.
-use Rattle.std.proofs.Common.{◌≡◌, ◌∙◌, refl, sym, ap, ap₂, subst, ℕ, Bool, true, false, cond, ◌&&◌, true≢false, List, [], ◌∷◌, ◌++◌, drop, Option, Some, None}
+use Rattle.std.proofs.Common.{◌≡◌, ◌∙◌, refl, sym, ap, subst, Bool, true, false, ◌&&◌, true≢false, List, [], ◌∷◌, drop, Option, Some, None}
 use Rattle.std.specs.Option.{option_map_or}
-use Rattle.std.specs.List.{fold, list_all, list_any}
+use Rattle.std.specs.List.{fold, list_all}
 use Rattle.std.specs.Str.{bytes_eq}
 use Rattle.std.proofs.lemmas.Slice.Eq.{bytes_eq-Decides}
 use Rattle.clap.specs.Kinds.{Kinds, or_else}
 use Rattle.clap.specs.Walk.{Held, Row, Rule, Text, Waiting, idle, option, positional, Walk, arg_by_id, arg_by_index, arg_by_long, is_pending, pushed, reacted, settled, used, used_by_id, walked}
 use Rattle.clap.specs.Simple.{Shape, filled, with_index}
 use Rattle.clap.specs.Faults.{settle_fault, turn_fault, use_fault, walk_fault}
-use Rattle.command_words.specs.Items.{Item, place, choice, dashed, is_formed, is_known, alone, ahead, items_of}
+use Rattle.command_words.specs.Items.{Item, place, choice, dashed, is_formed, is_known, ahead, items_of}
 use Rattle.command_words.specs.Simple.{option_rule, word_id, word_rule, has_option}
 use Rattle.command_words.proofs.Words.{Form, IsNamed, IsOption, IsPlain, IsWhole, form_of, items_alone, items_dashed, items_name, items_parted, named, plain, plain_item, plain_name, whole}
 
@@ -264,7 +264,7 @@ module _ (s : Shape) (options : List Text) (r : IsRead s.rules options) where
         | true ↦ λ k. gains (stand held (rested b)) (word ∷ next ∷ rest) rows (choice (dashed name) next) k (items_of rest)
             (moves (stand held (rested b)) (stand (pending_on name (settled s.rules held)) (option name)) word (next ∷ rest) (named_turn b held rows S word name p.option k) (put name next rows) (items_of rest)
             (moves (stand (pending_on name (settled s.rules held)) (option name)) (stand (record (settled s.rules held) { pending = Some (name, next ∷ []) }) idle) next rest
-                (value_turn (settled s.rules held) name next k q) (put name next rows) (items_of rest)
+            (value_turn (settled s.rules held) name next k q) (put name next rows) (items_of rest)
             (runs true (record (settled s.rules held) { pending = Some (name, next ∷ []) }) (put name next rows) (settles_value (settled s.rules held) rows S.rows_are name next k))))
         | false ↦ λ k. spoils (stand held (rested b)) (word ∷ next ∷ rest) rows (choice (dashed name) next) k
             (faults (stand held (rested b)) word (next ∷ rest) (unknown_faults (rested b) held word name None p.option k)) (items_of rest)

@@ -1,9 +1,9 @@
 -- What a word is to `clap`, and what it is as an item.
-use Rattle.std.proofs.Common.{◌≡◌, ◌∙◌, ◌⊎◌, inl, inr, refl, sym, ap, subst, arith, ℕ, suc, ◌+◌, Bool, true, false, cond, not, ◌&&◌, ◌||◌, true≢false, eqb, eqb-true, eq-eqb, List, [], ◌∷◌, ◌++◌, length, take, drop, Option, Some, None}
-use Rattle.std.specs.List.{list_any, position_or_len, before_first, after_first}
+use Rattle.std.proofs.Common.{◌≡◌, ◌∙◌, ◌⊎◌, inl, inr, refl, sym, ap, subst, arith, ℕ, suc, ◌+◌, Bool, true, false, cond, not, ◌||◌, true≢false, eqb, eqb-true, eq-eqb, List, [], ◌∷◌, Option, Some, None}
+use Rattle.std.specs.List.{position_or_len, before_first, after_first}
 use Rattle.std.specs.Str.{bytes_eq}
-use Rattle.clap.specs.Lexer.{long_of, short_of, has_byte}
-use Rattle.command_words.specs.Items.{Item, place, choice, dash, dashes, dashed, is_dashed, is_formed, is_equals, has_equals, is_name, alone, ahead, items_of}
+use Rattle.clap.specs.Lexer.{long_of, short_of}
+use Rattle.command_words.specs.Items.{place, choice, dash, dashes, dashed, is_dashed, is_formed, is_equals, has_equals, is_name, alone, ahead, items_of}
 
 -- a word without a dash ahead
 pub record IsPlain (word : List ℕ) : Type 0 where

@@ -1,10 +1,10 @@
 //! What a command line asks for.
 
 ghost use Rattle.std.specs.Prelude.{◌≡◌, Some, None, Err, IfOk, bytes_eq};
-ghost use Rattle.command_words.specs.Reading.{reading, replay_of, replay_options, replay_word, key_name, scheme_name, hwm_name, misses_name, entries_name, bytes_name};
-ghost use Rattle.command_words.specs.Simple.{values_of};
+ghost use Rattle.command_words.specs.Reading.{reading, replay_of, replay_behind, replay_options, replay_word, key_name, scheme_name, hwm_name, misses_name, entries_name, bytes_name};
+ghost use Rattle.command_words.specs.Simple.{values_of, word_id};
 
-use crate::matches::{are_formed, borrowed, parted, values, words};
+use crate::matches::{are_formed, borrowed, parted, words};
 use crate::values::{needed_key, optional_number, optional_scheme};
 use clap::ArgMatches;
 use clap::error::ErrorKind;
@@ -116,23 +116,23 @@ fn replay_options(alloc: Global, matches: &ArgMatches<'_>) -> Result<Command, Co
     ensures ok { IfOk result (λ c. replay_options (values_of matches.now) ≡ Some c) }
     ensures usage { result ≡ Err CommandError.Usage → replay_options (values_of matches.now) ≡ None }
 {
-    let Some(key) = needed_key(values(matches, KEY)) else {
+    let Some(key) = needed_key(matches.get_strs(KEY)) else {
         return Err(CommandError::Usage);
     };
-    let Some(scheme) = optional_scheme(values(matches, SCHEME)) else {
+    let Some(scheme) = optional_scheme(matches.get_strs(SCHEME)) else {
         return Err(CommandError::Usage);
     };
-    let Some(hwm) = optional_number(1, 0, GREATEST_HWM, values(matches, HWM)) else {
+    let Some(hwm) = optional_number(1, 0, GREATEST_HWM, matches.get_strs(HWM)) else {
         return Err(CommandError::Usage);
     };
-    let Some(misses) = optional_number(10, 1, GREATEST_MISSES, values(matches, MISSES)) else {
+    let Some(misses) = optional_number(10, 1, GREATEST_MISSES, matches.get_strs(MISSES)) else {
         return Err(CommandError::Usage);
     };
-    let entries = values(matches, ENTRIES);
+    let entries = matches.get_strs(ENTRIES);
     let Some(entries) = optional_number(GREATEST_ENTRIES, 1, GREATEST_ENTRIES, entries) else {
         return Err(CommandError::Usage);
     };
-    let bytes = values(matches, BYTES);
+    let bytes = matches.get_strs(BYTES);
     let Some(bytes) = optional_number(GREATEST_BYTES, 1, GREATEST_BYTES, bytes) else {
         return Err(CommandError::Usage);
     };
@@ -146,6 +146,18 @@ fn replay_options(alloc: Global, matches: &ArgMatches<'_>) -> Result<Command, Co
     }))
 }
 
+/// `replay` with what stands behind it.
+fn replay_behind(alloc: Global, matches: &ArgMatches<'_>) -> Result<Command, CommandError>
+    ensures ok { IfOk result (λ c. replay_behind (values_of matches.now word_id) (values_of matches.now) ≡ Some c) }
+    ensures usage { result ≡ Err CommandError.Usage → replay_behind (values_of matches.now word_id) (values_of matches.now) ≡ None }
+{
+    let words = words(alloc, matches)?;
+    match words.as_slice() {
+        [] => replay_options(alloc, matches),
+        _ => Err(CommandError::Usage),
+    }
+}
+
 /// What the words behind `replay` ask for.
 fn replay_of(alloc: Global, behind: &[Text]) -> Result<Command, CommandError>
     ensures ok { IfOk result (λ c. replay_of behind.now ≡ Some c) }
@@ -156,10 +168,7 @@ fn replay_of(alloc: Global, behind: &[Text]) -> Result<Command, CommandError>
     }
     let texts = borrowed(alloc, behind)?;
     let matches = parted(alloc, "replay", &REPLAY, texts.as_slice())?;
-    match words(&matches) {
-        [] => replay_options(alloc, &matches),
-        _ => Err(CommandError::Usage),
-    }
+    replay_behind(alloc, &matches)
 }
 
 /// Whether a word is the command `replay`.

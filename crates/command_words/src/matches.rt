@@ -95,19 +95,12 @@ pub fn parted<'a>(
     Ok(command.try_get_matches_from(words)?)
 }
 
-/// The values of an option, in order.
-pub fn values<'m, 'a>(matches: &'m ArgMatches<'a>, name: &str) -> &'m [&'a str]
-    ensures { map (λ v. v.now) result.now ≡ values_of matches.now name.now }
-{
-    match matches.get_strs(name) {
-        Some(values) => values,
-        None => &[],
-    }
-}
-
 /// The positional words, in order.
-pub fn words<'m, 'a>(matches: &'m ArgMatches<'a>) -> &'m [&'a str]
-    ensures { map (λ w. w.now) result.now ≡ values_of matches.now word_id }
+pub fn words<'a>(alloc: Global, matches: &ArgMatches<'a>) -> Result<Vec<&'a str>, AllocError>
+    ensures { IfOk result (λ list. map (λ w. w.now) list.items ≡ values_of matches.now word_id) }
 {
-    values(matches, WORD_ID)
+    match matches.get_strs(WORD_ID) {
+        Some(words) => Vec::from_slice(alloc, words),
+        None => Ok(Vec::new(alloc)),
+    }
 }

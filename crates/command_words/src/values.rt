@@ -1,11 +1,11 @@
 //! The values of options.
 
-ghost use Rattle.std.specs.Prelude.{◌≡◌, ◌≤◌, ◌^◌, true, Some, map, MatchOption, option_map, bytes_eq};
+ghost use Rattle.std.specs.Prelude.{◌≡◌, ◌≤◌, ◌^◌, true, Some, MatchOption, option_map, bytes_eq};
 ghost use Rattle.std.specs.List.{list_all};
 ghost use Rattle.std.specs.Char.{is_ascii_digit};
 ghost use Rattle.std.specs.Str.Parse.{digits_value};
 ghost use Rattle.cluster_types.specs.declared.config.Scheme.{Scheme};
-ghost use Rattle.command_words.specs.Values.{needed, optional, key_from, scheme_from, within, number_from, is_number, lru_word, leastload_word, plainrandom_word, twobin_word};
+ghost use Rattle.command_words.specs.Values.{listed, needed, optional, key_from, scheme_from, within, number_from, is_number, lru_word, leastload_word, plainrandom_word, twobin_word};
 
 use cluster_types::config::Scheme;
 
@@ -24,11 +24,11 @@ fn key_from(value: &str) -> Option<&str>
 }
 
 /// The key, which is needed once.
-pub fn needed_key<'a>(values: &[&'a str]) -> Option<&'a str>
-    ensures { option_map (λ k. k.now) result ≡ needed key_from (map (λ v. v.now) values.now) }
+pub fn needed_key<'a>(values: Option<&[&'a str]>) -> Option<&'a str>
+    ensures { option_map (λ k. k.now) result ≡ needed key_from (listed values.entry) }
 {
     match values {
-        [value] => key_from(*value),
+        Some([value]) => key_from(*value),
         _ => None,
     }
 }
@@ -52,12 +52,12 @@ fn scheme_from(value: &[u8]) -> Option<Scheme>
 }
 
 /// The scheme, or the first engine of the least load where none is given.
-pub fn optional_scheme(values: &[&str]) -> Option<Scheme>
-    ensures { result ≡ optional Scheme.LeastLoad scheme_from (map (λ v. v.now) values.now) }
+pub fn optional_scheme(values: Option<&[&str]>) -> Option<Scheme>
+    ensures { result ≡ optional Scheme.LeastLoad scheme_from (listed values.entry) }
 {
     match values {
-        [] => Some(Scheme::LeastLoad),
-        [value] => scheme_from(value.as_bytes()),
+        None | Some([]) => Some(Scheme::LeastLoad),
+        Some([value]) => scheme_from(value.as_bytes()),
         _ => None,
     }
 }
@@ -104,12 +104,12 @@ fn number_from(low: u32, high: u32, value: &str) -> Option<u32>
 }
 
 /// The number from low to high, or another where none is given.
-pub fn optional_number(default: u32, low: u32, high: u32, values: &[&str]) -> Option<u32>
-    ensures { result ≡ optional default (number_from low high) (map (λ v. v.now) values.now) }
+pub fn optional_number(default: u32, low: u32, high: u32, values: Option<&[&str]>) -> Option<u32>
+    ensures { result ≡ optional default (number_from low high) (listed values.entry) }
 {
     match values {
-        [] => Some(default),
-        [value] => number_from(low, high, value),
+        None | Some([]) => Some(default),
+        Some([value]) => number_from(low, high, value),
         _ => None,
     }
 }

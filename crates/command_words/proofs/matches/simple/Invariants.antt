@@ -6,4 +6,4 @@ use Rattle.command_words.proofs.matches.simple.Given as goal
 
 -- the options so far
 abbrev pub invariant-loop-long : goal.invariant-loop-long
-invariant-loop-long l = app_of l.command ≡ simple_with l.name.now (map option_rule (texts (take l.long-index l.options)))
+invariant-loop-long l = app_of l.command ≡ simple_with l.name (map option_rule (texts (take l.long-index l.options)))

@@ -1,5 +1,5 @@
 -- What the matches of a simple command have.
-use Rattle.std.proofs.Common.{◌≡◌, ◌∙◌, ◌⊎◌, refl, sym, ap, subst, ℕ, Bool, true, false, cond, ◌&&◌, ◌||◌, true≢false, List, [], ◌∷◌, ◌++◌, drop, append_assoc, append-nil, Option, Some, None, Result, Ok, Err, IfOk, IfErr, unwrap_or, inl, inr}
+use Rattle.std.proofs.Common.{◌≡◌, ◌∙◌, ◌⊎◌, refl, sym, ap, subst, Bool, true, false, cond, ◌||◌, true≢false, List, [], ◌∷◌, ◌++◌, drop, append_assoc, append-nil, Option, Some, None, Result, Ok, Err, IfOk, IfErr, unwrap_or, inl, inr}
 use Rattle.std.specs.Prelude.{IsSomeAnd, option_and_then, option_map, option_to_list}
 use Rattle.std.specs.List.{cons_option, filter_map, find, fold, list_all, list_any}
 use Rattle.std.specs.Str.{bytes_eq}
@@ -7,17 +7,17 @@ use Rattle.std.proofs.lemmas.Slice.Eq.{bytes_eq-Decides}
 use Rattle.clap.specs.Kinds.{FailsBy, HasKind, Kinds}
 use Rattle.clap.specs.Values.{kind_of}
 use Rattle.clap.specs.Matches.{found_of}
-use Rattle.clap.specs.Walk.{Row, Text, all_of, idle, nothing_held, rows_of, with_default}
+use Rattle.clap.specs.Walk.{Row, Text, all_of, idle, nothing_held, rows_of}
 use Rattle.clap.specs.Simple.{App, HasMatchesOf, built, is_simple}
 use Rattle.clap.specs.Faults.{fault_of, is_free_app, is_simple_and_free}
 use Rattle.clap.specs.declared.error.Error.{Error}
 use Rattle.clap.specs.declared.error.kind.ErrorKind.TheVariants as kind
 use Rattle.clap.specs.declared.parser.matches.ArgMatches.{ArgMatches}
 use Rattle.clap.proofs.WalkLemmas.{raw_values-rows}
-use Rattle.command_words.specs.Items.{Item, place, choice, dashed, is_formed, is_known, items_of, known, known_items, place_in, places, value_under, values}
+use Rattle.command_words.specs.Items.{Item, place, choice, dashed, is_formed, is_known, items_of, known, known_items, place_in, value_under}
 use Rattle.command_words.specs.Simple.{HasItems, has_option, simple_of, values_of, word_id}
-use Rattle.command_words.proofs.Walk.{IsWell, Judged, Verdict, both, fault_from, put, put_item, run, same_bytes, stand}
-use Rattle.command_words.proofs.Command.{apart, faultless, faulty, none_added_for, or_true, read_for, rows_for, shape_for, simple_and_free}
+use Rattle.command_words.proofs.Walk.{IsWell, Judged, Verdict, both, put, put_item, run, same_bytes, stand}
+use Rattle.command_words.proofs.Rules.{apart, faultless, faulty, none_added_for, or_true, read_for, rows_for, shape_for, simple_and_free}
 
 -- THE VALUES OF AN ID
 

@@ -1,24 +1,17 @@
 -- A simple command of options and positional words, and what its matches have.
-use Rattle.std.proofs.Common.{◌≡◌, ◌∙◌, ◌≢◌, refl, sym, ap, ap₂, subst, arith, ℕ, ◌+◌, Bool, true, false, cond, not, ◌&&◌, ◌||◌, true≢false, eqb, List, [], ◌∷◌, ◌++◌, map, drop, append_assoc, append-nil, Option, Some, None, Result, Ok, Err, IfOk, IfErr, unwrap_or, inl, inr}
-use Rattle.std.specs.Prelude.{IsSomeAnd, option_map, is_some}
+use Rattle.std.proofs.Common.{◌≡◌, ◌∙◌, refl, sym, ap, ap₂, subst, arith, ℕ, ◌+◌, Bool, true, false, cond, not, ◌&&◌, ◌||◌, true≢false, eqb, List, [], ◌∷◌, ◌++◌, map, Option, Some, None}
+use Rattle.std.specs.Prelude.{is_some}
 use Rattle.std.specs.Option.{option_map_or}
-use Rattle.std.specs.List.{count_by, filter_map, cons_option, find, fold, list_all, list_any}
+use Rattle.std.specs.List.{count_by, find, fold, list_all, list_any}
 use Rattle.std.specs.Str.{bytes_eq}
 use Rattle.std.proofs.lemmas.Slice.Eq.{bytes_eq-Decides}
-use Rattle.clap.specs.Kinds.{FailsBy, Kinds, check_kinds, or_else}
-use Rattle.clap.specs.Values.{kind_of}
-use Rattle.clap.specs.Matches.{found_of, matched_of, raw_values}
-use Rattle.clap.specs.Walk.{Held, Row, Rule, Text, Walk, idle, all_of, arg_by_id, arg_by_index, arg_by_long, at_row, has_row, is_early_multiple, nothing_held, rows_of, settled, walk, with_default}
-use Rattle.clap.specs.Simple.{App, HasMatchesOf, Shape, app_of, built, entered, filled_from, is_in_order, is_simple}
+use Rattle.clap.specs.Kinds.{Kinds, or_else}
+use Rattle.clap.specs.Walk.{Row, Rule, Text, Walk, idle, has_row, is_early_multiple, nothing_held, settled, walk, with_default}
+use Rattle.clap.specs.Simple.{Shape, built, entered, filled_from}
 use Rattle.clap.specs.Takes.{is_given}
-use Rattle.clap.specs.Faults.{check_fault, defaults_fault, entered_fault, fault_of, is_simple_and_free, level_fault, settle_fault, walk_fault}
-use Rattle.clap.specs.declared.error.Error.{Error}
-use Rattle.clap.specs.declared.error.kind.ErrorKind.TheVariants as kind
-use Rattle.clap.specs.declared.parser.matches.ArgMatches.{ArgMatches}
-use Rattle.clap.proofs.WalkLemmas.{raw_values-rows}
-use Rattle.command_words.specs.Items.{Item, place, choice, dashed, is_formed, is_known, items_of, known_items, place_in, places, value_under, values}
-use Rattle.command_words.specs.Simple.{HasItems, has_option, option_rule, simple_of, values_of, word_id, word_rule}
-use Rattle.command_words.proofs.Walk.{IsRead, IsWell, Judged, Verdict, fault_from, first_nil, second_nil, same_bytes, option_filled, put, put_item, run, stand, word_filled}
+use Rattle.clap.specs.Faults.{check_fault, defaults_fault, entered_fault, fault_of, is_simple_and_free, settle_fault, walk_fault}
+use Rattle.command_words.specs.Simple.{has_option, option_rule, simple_of, word_id, word_rule}
+use Rattle.command_words.proofs.Walk.{IsRead, IsWell, fault_from, first_nil, second_nil, option_filled, stand, word_filled}
 
 -- ITS RULES
 
