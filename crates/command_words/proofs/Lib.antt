@@ -1,2 +1,6 @@
 mod Numbers
+mod Parses
+mod Rules
+mod Steps
+mod Walk
 mod Words

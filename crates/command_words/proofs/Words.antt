@@ -1,118 +1,132 @@
--- Words that are read one after another.
-use Rattle.std.proofs.Common.{arith, ◌≡◌, subst, ℕ, ◌+◌, ◌<◌, Bool, true, false, List, [], ◌∷◌, ◌++◌, length, take, drop, get_or, Option, Some, None, refl, sym, ap, ◌∙◌, append_assoc}
-use Rattle.std.specs.Prelude.{option_to_list, IfSome}
-use Rattle.std.specs.List.{position_or_len, filter_map, cons_option}
-use Rattle.std.proofs.lemmas.List.{take_more, append-nil, at_drop_more}
-use Rattle.std.proofs.lemmas.List.Elements.{filter_map-append}
-use Rattle.command_words.specs.declared.item.Item.{Item}
-use Rattle.command_words.specs.declared.item.Item.TheVariants.{Choice}
-use Rattle.command_words.specs.Items.{is_dashed, is_equals, has_equals, is_name, alone, ahead, items_of}
+-- What a word is to `clap`, and what it is as an item.
+use Rattle.std.proofs.Common.{◌≡◌, ◌∙◌, ◌⊎◌, inl, inr, refl, sym, ap, subst, arith, ℕ, suc, ◌+◌, Bool, true, false, cond, not, ◌||◌, true≢false, eqb, eqb-true, eq-eqb, List, [], ◌∷◌, Option, Some, None}
+use Rattle.std.specs.List.{position_or_len, before_first, after_first}
+use Rattle.std.specs.Str.{bytes_eq}
+use Rattle.clap.specs.Lexer.{long_of, short_of}
+use Rattle.command_words.specs.Items.{place, choice, dash, dashes, dashed, is_dashed, is_formed, is_equals, has_equals, is_name, alone, ahead, items_of}
 
--- items that were read, and those of the words behind them
-abbrev pub onto : List Item → Option (List Item) → Option (List Item)
-onto items None = None
-onto items (Some more) = Some (items ++ more)
+-- a word without a dash ahead
+pub record IsPlain (word : List ℕ) : Type 0 where
+  pub dashed : is_dashed word ≡ false
+  pub trailing : bytes_eq word (45 ∷ 45 ∷ []) ≡ false
+  pub long : long_of word ≡ None
+  pub short : short_of word ≡ None
 
-onto_more : (items : List Item) (item : Item) (more : Option (List Item)) → onto items (ahead (Some item) more) ≡ onto (items ++ item ∷ []) more
-onto_more items item None = refl
-onto_more items item (Some more) = ap Some (sym (append_assoc items (item ∷ []) more))
+-- an option, with its value in the same word or not
+pub record IsOption (word name : List ℕ) (value : Option (List ℕ)) : Type 0 where
+  pub dashed : is_dashed word ≡ true
+  pub trailing : bytes_eq word (45 ∷ 45 ∷ []) ≡ false
+  pub long : long_of word ≡ Some (name, value)
 
--- a word that isn't a name alone
-items_alone : (word : List ℕ) (words : List (List ℕ)) → is_name word ≡ false → items_of (word ∷ words) ≡ ahead (Some (alone word)) (items_of words)
+pub record IsNamed (word name : List ℕ) : Type 0 where
+  pub option : IsOption word name None
+  pub named : is_name word ≡ true
+  pub word_is : word ≡ dashed name
+
+pub record IsWhole (word name value : List ℕ) : Type 0 where
+  pub option : IsOption word name (Some value)
+  pub named : is_name word ≡ false
+  pub item : alone word ≡ choice (dashed name) value
+
+-- what a word is
+pub data Form (word : List ℕ) : Type 0 where
+  plain : IsPlain word → Form word
+  named : (name : List ℕ) → IsNamed word name → Form word
+  whole : (name value : List ℕ) → IsWhole word name value → Form word
+
+not_true : (b : Bool) → (b ≡ true → ⊥) → b ≡ false
+not_true true n = absurd (n refl)
+not_true false n = refl
+
+-- an octet is a dash, or no test finds one
+dash_or : (c : ℕ) → (c ≡ 45) ⊎ ((eqb c 45 ≡ false) × (eqb 45 c ≡ false))
+dash_or c = elim (eqb c 45) as (λ b. eqb c 45 ≡ b → (c ≡ 45) ⊎ ((eqb c 45 ≡ false) × (eqb 45 c ≡ false))) [
+  | true ↦ λ e. inl (eqb-true c 45 e)
+  | false ↦ λ e. inr (e, not_true (eqb 45 c) (λ f. true≢false (sym (eq-eqb c 45 (sym (eqb-true 45 c f))) ∙ e)))
+] refl
+
+plain_at : (c : ℕ) (cs : List ℕ) → eqb c 45 ≡ false → eqb 45 c ≡ false → IsPlain (c ∷ cs)
+unfolding dash
+plain_at c cs e f = record { dashed = rw f refl; trailing = rw e refl; long = rw e refl; short = rw e refl }
+
+plain_nil : IsPlain []
+unfolding dash
+plain_nil = record { dashed = refl; trailing = refl; long = refl; short = refl }
+
+-- a first octet that is no equals sign stays ahead
+before_cons : (c : ℕ) (cs : List ℕ) → is_equals c ≡ false → before_first is_equals (c ∷ cs) ≡ c ∷ before_first is_equals cs
+before_cons c cs e = rw e (let one : 1 + position_or_len is_equals cs ≡ suc (position_or_len is_equals cs) = omega arith in rw one refl)
+
+after_cons : (c : ℕ) (cs : List ℕ) → is_equals c ≡ false → after_first is_equals (c ∷ cs) ≡ after_first is_equals cs
+after_cons c cs e = rw e (let one : 1 + position_or_len is_equals cs + 1 ≡ suc (position_or_len is_equals cs + 1) = omega arith in rw one refl)
+
+-- without an equals sign all stands before it
+all_before : (cs : List ℕ) → has_equals cs ≡ false → before_first is_equals cs ≡ cs
+all_before [] e = refl
+all_before (c ∷ cs) e = go (is_equals c) refl (all_before cs)
+  where
+    go : (b : Bool) → is_equals c ≡ b → (has_equals cs ≡ false → before_first is_equals cs ≡ cs) → before_first is_equals (c ∷ cs) ≡ c ∷ cs
+    go true is rest = absurd (true≢false (sym (ap (λ (b : Bool). b || has_equals cs) is) ∙ e))
+    go false is rest = before_cons c cs is ∙ ap (λ (ds : List ℕ). c ∷ ds) (rest (sym (ap (λ (b : Bool). b || has_equals cs) is) ∙ e))
+
+option_named : (x : ℕ) (xs : List ℕ) → has_equals (x ∷ xs) ≡ false → IsNamed (dashed (x ∷ xs)) (x ∷ xs)
+unfolding dash
+option_named x xs e = record {
+  option = record { dashed = refl; trailing = refl; long = ap (λ (b : Bool). Some (before_first is_equals (x ∷ xs), cond b (Some (after_first is_equals (x ∷ xs))) None)) e ∙ ap (λ (n : List ℕ). Some (n, None)) (all_before (x ∷ xs) e) };
+  named = ap not e;
+  word_is = refl;
+}
+
+option_whole : (x : ℕ) (xs : List ℕ) → has_equals (x ∷ xs) ≡ true → IsWhole (dashed (x ∷ xs)) (before_first is_equals (x ∷ xs)) (after_first is_equals (x ∷ xs))
+unfolding dash
+option_whole x xs e = record {
+  option = record { dashed = refl; trailing = refl; long = ap (λ (b : Bool). Some (before_first is_equals (x ∷ xs), cond b (Some (after_first is_equals (x ∷ xs))) None)) e };
+  named = ap not e;
+  item = (λ i. choice ((before_cons 45 (45 ∷ x ∷ xs) refl ∙ ap (λ (ds : List ℕ). 45 ∷ ds) (before_cons 45 (x ∷ xs) refl)) i)
+      ((after_cons 45 (45 ∷ x ∷ xs) refl ∙ after_cons 45 (x ∷ xs) refl) i));
+}
+
+option_form : (x : ℕ) (xs : List ℕ) (b : Bool) → has_equals (x ∷ xs) ≡ b → Form (dashed (x ∷ xs))
+option_form x xs true e = whole _ _ (option_whole x xs e)
+option_form x xs false e = named _ (option_named x xs e)
+
+-- behind one dash
+dashed_form : (cs : List ℕ) → is_formed (45 ∷ cs) ≡ true → Form (45 ∷ cs)
+unfolding dash dashes
+dashed_form [] e = absurd (true≢false (sym e))
+dashed_form (d ∷ []) e = elim (dash_or d) [
+  | inl is ↦ absurd (true≢false (sym e ∙ ap (λ (k : ℕ). is_formed (45 ∷ k ∷ [])) is))
+  | inr isnt ↦ absurd (true≢false (sym e ∙ rw isnt.1 refl))
+]
+dashed_form (d ∷ x ∷ xs) e = elim (dash_or d) [
+  | inl is ↦ subst (λ (k : ℕ). Form (45 ∷ k ∷ x ∷ xs)) (sym is) (option_form x xs (has_equals (x ∷ xs)) refl)
+  | inr isnt ↦ absurd (true≢false (sym e ∙ rw isnt.1 refl))
+]
+
+pub form_of : (word : List ℕ) → is_formed word ≡ true → Form word
+form_of [] e = plain plain_nil
+form_of (c ∷ cs) e = elim (dash_or c) [
+  | inl is ↦ subst (λ (k : ℕ). Form (k ∷ cs)) (sym is) (dashed_form cs (ap (λ (k : ℕ). is_formed (k ∷ cs)) (sym is) ∙ e))
+  | inr isnt ↦ plain (plain_at c cs isnt.0 isnt.1)
+]
+
+-- ITEMS
+
+pub items_alone : (word : List ℕ) (words : List (List ℕ)) → is_name word ≡ false → items_of (word ∷ words) ≡ ahead (Some (alone word)) (items_of words)
 items_alone word [] e = rw e refl
 items_alone word (next ∷ words) e = rw e refl
 
--- a name and its value
-items_parted : (name value : List ℕ) (words : List (List ℕ)) → is_name name ≡ true → is_dashed value ≡ false → items_of (name ∷ value ∷ words) ≡ ahead (Some (Choice name value)) (items_of words)
+pub items_parted : (name value : List ℕ) (words : List (List ℕ)) → is_name name ≡ true → is_dashed value ≡ false → items_of (name ∷ value ∷ words) ≡ ahead (Some (choice name value)) (items_of words)
 items_parted name value words e f = rw (e, f) refl
 
--- a name whose value begins with a dash
-items_dashed : (name value : List ℕ) (words : List (List ℕ)) → is_name name ≡ true → is_dashed value ≡ true → items_of (name ∷ value ∷ words) ≡ None
+pub items_dashed : (name value : List ℕ) (words : List (List ℕ)) → is_name name ≡ true → is_dashed value ≡ true → items_of (name ∷ value ∷ words) ≡ None
 items_dashed name value words e f = rw (e, f) refl
 
--- a name without a value
-items_name : (name : List ℕ) → is_name name ≡ true → items_of (name ∷ []) ≡ None
+pub items_name : (name : List ℕ) → is_name name ≡ true → items_of (name ∷ []) ≡ None
 items_name name e = rw e refl
 
--- SO FAR
+pub plain_name : (word : List ℕ) → IsPlain word → is_name word ≡ false
+plain_name word p = rw p.dashed refl
 
--- the items that were read, a name that waits for its value, and the words that are left
-pub record Reads (words : List (List ℕ)) (items : List Item) (name : Option (List ℕ)) (rest : List (List ℕ)) : Type 0 where
-  pub is : items_of words ≡ onto items (items_of (option_to_list name ++ rest))
-  pub waits : IfSome name (λ w. is_name w ≡ true)
-
-waiting : {name : Option (List ℕ)} (given : List ℕ) → name ≡ Some given → IfSome name (λ w. is_name w ≡ true) → is_name given ≡ true
-waiting given is fact = subst (λ (o : Option (List ℕ)). IfSome o (λ w. is_name w ≡ true)) is fact
-
-waits_none : (name : Option (List ℕ)) → name ≡ None → IfSome name (λ w. is_name w ≡ true)
-waits_none name is = subst (λ (o : Option (List ℕ)). IfSome o (λ w. is_name w ≡ true)) (sym is) tt
-
--- the value of the name that waits
-pub reads_value : {words : List (List ℕ)} {items : List Item} {name : Option (List ℕ)} {rest : List (List ℕ)} → Reads words items name rest
-    → (given value : List ℕ) (more : List (List ℕ)) (items' : List Item) (name' : Option (List ℕ)) → name ≡ Some given → rest ≡ value ∷ more → is_dashed value ≡ false
-    → items' ≡ items ++ Choice given value ∷ [] → name' ≡ None → Reads words items' name' more
-reads_value {items = items} r given value more items' name' name-is rest-is plain items-are none = record {
-  is = r.is ∙ (λ k. onto items (items_of (option_to_list (name-is k) ++ rest-is k))) ∙ ap (onto items) (items_parted given value more (waiting given name-is r.waits) plain)
-      ∙ onto_more items (Choice given value) (items_of more) ∙ (λ k. onto (sym items-are k) (items_of (option_to_list (sym none k) ++ more)));
-  waits = waits_none name' none;
-}
-
--- a name that begins to wait
-pub reads_name : {words : List (List ℕ)} {items : List Item} {name : Option (List ℕ)} {rest : List (List ℕ)} → Reads words items name rest
-    → (word : List ℕ) (more : List (List ℕ)) (items' : List Item) (name' : Option (List ℕ)) → name ≡ None → rest ≡ word ∷ more → is_name word ≡ true
-    → items' ≡ items → name' ≡ Some word → Reads words items' name' more
-reads_name {items = items} r word more items' name' name-is rest-is named items-are waits-is = record {
-  is = r.is ∙ (λ k. onto items (items_of (option_to_list (name-is k) ++ rest-is k))) ∙ (λ k. onto (sym items-are k) (items_of (option_to_list (sym waits-is k) ++ more)));
-  waits = subst (λ (o : Option (List ℕ)). IfSome o (λ w. is_name w ≡ true)) (sym waits-is) named;
-}
-
--- a word that isn't a name alone
-pub reads_alone : {words : List (List ℕ)} {items : List Item} {name : Option (List ℕ)} {rest : List (List ℕ)} → Reads words items name rest
-    → (word : List ℕ) (more : List (List ℕ)) (items' : List Item) (name' : Option (List ℕ)) → name ≡ None → rest ≡ word ∷ more → is_name word ≡ false
-    → items' ≡ items ++ alone word ∷ [] → name' ≡ None → Reads words items' name' more
-reads_alone {items = items} r word more items' name' name-is rest-is plain items-are none = record {
-  is = r.is ∙ (λ k. onto items (items_of (option_to_list (name-is k) ++ rest-is k))) ∙ ap (onto items) (items_alone word more plain)
-      ∙ onto_more items (alone word) (items_of more) ∙ (λ k. onto (sym items-are k) (items_of (option_to_list (sym none k) ++ more)));
-  waits = waits_none name' none;
-}
-
--- the value of a name begins with a dash
-pub reads_dashed : {words : List (List ℕ)} {items : List Item} {name : Option (List ℕ)} {rest : List (List ℕ)} → Reads words items name rest
-    → (given value : List ℕ) (more : List (List ℕ)) → name ≡ Some given → rest ≡ value ∷ more → is_dashed value ≡ true → items_of words ≡ None
-reads_dashed {items = items} r given value more name-is rest-is dashed =
-    r.is ∙ (λ k. onto items (items_of (option_to_list (name-is k) ++ rest-is k))) ∙ ap (onto items) (items_dashed given value more (waiting given name-is r.waits) dashed)
-
--- no word is left for a name
-pub reads_waiting : {words : List (List ℕ)} {items : List Item} {name : Option (List ℕ)} {rest : List (List ℕ)} → Reads words items name rest
-    → (given : List ℕ) → name ≡ Some given → rest ≡ [] → items_of words ≡ None
-reads_waiting {items = items} r given name-is rest-is =
-    r.is ∙ (λ k. onto items (items_of (option_to_list (name-is k) ++ rest-is k))) ∙ ap (onto items) (items_name given (waiting given name-is r.waits))
-
--- all words were read
-pub reads_all : {words : List (List ℕ)} {items : List Item} {name : Option (List ℕ)} {rest : List (List ℕ)} → Reads words items name rest
-    → name ≡ None → rest ≡ [] → items_of words ≡ Some items
-reads_all {items = items} r name-is rest-is =
-    r.is ∙ (λ k. onto items (items_of (option_to_list (name-is k) ++ rest-is k))) ∙ ap Some (append-nil items)
-
--- a word without an equals sign
-equals_step : (c : ℕ) (cs : List ℕ) (b : Bool) → is_equals c ≡ b → (position_or_len is_equals cs ≡ length cs → has_equals cs ≡ false) → position_or_len is_equals (c ∷ cs) ≡ length (c ∷ cs) → has_equals (c ∷ cs) ≡ false
-equals_step c cs true is rest e = absurd (grind arith)
-equals_step c cs false is rest e = let tail : position_or_len is_equals cs ≡ length cs = grind arith in rw is (rest tail)
-
-pub no_equals : (word : List ℕ) → position_or_len is_equals word ≡ length word → has_equals word ≡ false
-no_equals [] e = refl
-no_equals (c ∷ cs) e = equals_step c cs (is_equals c) refl (no_equals cs) e
-
--- ITEMS THAT ARE GATHERED
-
-gather_one : {Y : Type 0} (f : Item → Option Y) (item : Item) → filter_map f (item ∷ []) ≡ option_to_list (f item)
-gather_one f item = elim (f item) as (λ o. cons_option o [] ≡ option_to_list o) [ Some y ↦ refl | None ↦ refl ]
-
-pub gather_more : {Y : Type 0} (f : Item → Option Y) (items : List Item) (i : ℕ) (item : Item) → i < length items → item ≡ get_or items i item → filter_map f (take (i + 1) items) ≡ filter_map f (take i items) ++ option_to_list (f item)
-gather_more f items i item lt is =
-    ap (filter_map f) (take_more items i item lt) ∙ filter_map-append f (take i items) (get_or items i item ∷ [])
-    ∙ ap (λ (x : Item). filter_map f (take i items) ++ filter_map f (x ∷ [])) (sym is) ∙ ap (λ ys. filter_map f (take i items) ++ ys) (gather_one f item)
-
--- the word at a place, and those behind it
-pub next_word : (words : List (List ℕ)) (i : ℕ) (word : List ℕ) → i < length words → word ≡ get_or words i word → drop i words ≡ word ∷ drop (i + 1) words
-next_word words i word lt is = at_drop_more (λ (xs : List (List ℕ)). xs) words i word lt ∙ ap (λ (w : List ℕ). w ∷ drop (i + 1) words) (sym is)
+pub plain_item : (word : List ℕ) → IsPlain word → alone word ≡ place word
+plain_item word p = rw p.dashed refl

@@ -1,10 +1,15 @@
 -- What the value of an option may be.
-use Rattle.std.specs.Prelude.{ℕ, ◌==◌, ◌&&◌, ◌||◌, Bool, false, not, List, [], ◌∷◌, length, nat_lt, nat_le, Option, Some, None, bytes_eq, codes, if◌then◌else◌}
+use Rattle.std.specs.Prelude.{map, option_map, unwrap_or, ℕ, ◌==◌, ◌&&◌, ◌||◌, Bool, false, not, List, [], ◌∷◌, length, nat_lt, nat_le, Option, Some, None, bytes_eq, codes, if◌then◌else◌}
+use Rattle.std.specs.Borrow.{Bor}
 use Rattle.std.specs.List.{list_all}
 use Rattle.std.specs.Char.{is_ascii_digit}
 use Rattle.std.specs.Str.Parse.{digits_value}
 use Rattle.cluster_types.specs.declared.config.Scheme.{Scheme}
 use Rattle.cluster_types.specs.declared.config.Scheme.TheVariants.{Lru, LeastLoad, PlainRandom, TwoBin}
+
+-- the texts of a slice, or none
+abbrev pub listed : Option (Bor (List (Bor (List ℕ)))) → List (List ℕ)
+listed slice = unwrap_or (option_map (λ texts. map (λ text. text.now) texts.now) slice) []
 
 -- an option that is needed, and comes once
 abbrev pub needed : {A : Type 0} → (List ℕ → Option A) → List (List ℕ) → Option A

@@ -1,11 +1,13 @@
 //! What a command line asks for.
 
-ghost use Rattle.std.specs.Prelude.{◌≡◌, Some, None, Err, IfOk, option_map, bytes_eq};
-ghost use Rattle.std.specs.List.{list_all};
-ghost use Rattle.command_words.specs.Reading.{reading, replay_of, replay_options, replay_names, replay_word, key_name, scheme_name, hwm_name, misses_name, entries_name, bytes_name, place_in, places, value_under, values, is_known};
+ghost use Rattle.std.specs.Prelude.{◌≡◌, Some, None, Err, IfOk, bytes_eq};
+ghost use Rattle.command_words.specs.Reading.{reading, replay_of, replay_behind, replay_options, replay_word, key_name, scheme_name, hwm_name, misses_name, entries_name, bytes_name};
+ghost use Rattle.command_words.specs.Simple.{values_of, word_id};
 
-use crate::item::{Item, items_of};
+use crate::matches::{are_formed, borrowed, parted, words};
 use crate::values::{needed_key, optional_number, optional_scheme};
+use clap::ArgMatches;
+use clap::error::ErrorKind;
 use cluster_types::config::Scheme;
 use cluster_types::message::WordList;
 use cluster_types::octets::Octets;
@@ -58,59 +60,43 @@ impl From<AllocError> for CommandError {
     }
 }
 
-/// The positional words.
-fn places(alloc: Global, items: &[Item]) -> Result<WordList, AllocError>
-    ensures { IfOk result (λ list. list ≡ places items.now) }
-{
-    let mut list = WordList::new(alloc);
-    for item in items {
-        if let Item::Place(word) = item {
-            list.push(word.clone()?)?;
+impl From<clap::Error> for CommandError {
+    ghost use Rattle.std.specs.Prelude.{◌≡◌, ◌≢◌};
+    ghost use Rattle.clap.specs.Words.{kind_of};
+    ghost use Rattle.clap.specs.declared.error.kind.ErrorKind.{ErrorKind};
+    ghost use Rattle.command_words.specs.declared.command.CommandError.{CommandError};
+
+    ghost from_gives = { λ error e. (kind_of error ≡ ErrorKind.OutOfMemory → e ≡ CommandError.OutOfMemory) × (kind_of error ≢ ErrorKind.OutOfMemory → e ≡ CommandError.Usage) };
+
+    fn from(error: clap::Error) -> Self {
+        if error.kind() == ErrorKind::OutOfMemory {
+            CommandError::OutOfMemory
+        } else {
+            CommandError::Usage
         }
     }
-    Ok(list)
-}
-
-/// The value of an item that is an option of this name.
-fn value_under<'a>(name: &[u8], item: &'a Item) -> Option<&'a Text>
-    ensures { option_map (λ v. v.now) result ≡ value_under name.now item.now }
-{
-    match item {
-        Item::Choice { name: given, value } if given.as_slice() == name => Some(value),
-        _ => None,
-    }
-}
-
-/// The values of the options of a name.
-fn values(alloc: Global, name: &[u8], items: &[Item]) -> Result<WordList, AllocError>
-    ensures { IfOk result (λ list. list ≡ values name.now items.now) }
-{
-    let mut list = WordList::new(alloc);
-    for item in items {
-        if let Some(value) = value_under(name, item) {
-            list.push(value.clone()?)?;
-        }
-    }
-    Ok(list)
 }
 
 /// The name of the option of the key.
-const KEY: &[u8] = b"--key";
+const KEY: &str = "key";
 
 /// The name of the option of the scheme.
-const SCHEME: &[u8] = b"--scheme";
+const SCHEME: &str = "scheme";
 
 /// The name of the option of the greatest load.
-const HWM: &[u8] = b"--hwm";
+const HWM: &str = "hwm";
 
 /// The name of the option of the missed beats.
-const MISSES: &[u8] = b"--misses";
+const MISSES: &str = "misses";
 
 /// The name of the option of the most entries.
-const ENTRIES: &[u8] = b"--entries";
+const ENTRIES: &str = "entries";
 
 /// The name of the option of the most octets.
-const BYTES: &[u8] = b"--bytes";
+const BYTES: &str = "bytes";
+
+/// The options of `replay`.
+const REPLAY: [&str; 6] = [KEY, SCHEME, HWM, MISSES, ENTRIES, BYTES];
 
 /// The greatest bound of a load.
 const GREATEST_HWM: u32 = 1_000_000;
@@ -124,84 +110,65 @@ const GREATEST_ENTRIES: u32 = 4_000_000;
 /// The greatest limit of octets.
 const GREATEST_BYTES: u32 = 1_073_741_824;
 
-/// Whether an item is no option of another name than those of `replay`.
+/// `replay` with the values of its options.
 #[tactic(auto, unfolding(crate::specs::Reading::key_name, crate::specs::Reading::scheme_name, crate::specs::Reading::hwm_name, crate::specs::Reading::misses_name, crate::specs::Reading::entries_name, crate::specs::Reading::bytes_name))]
-fn is_known(item: &Item) -> bool
-    ensures { result ≡ is_known replay_names item.now }
+fn replay_options(alloc: Global, matches: &ArgMatches<'_>) -> Result<Command, CommandError>
+    ensures ok { IfOk result (λ c. replay_options (values_of matches.now) ≡ Some c) }
+    ensures usage { result ≡ Err CommandError.Usage → replay_options (values_of matches.now) ≡ None }
 {
-    match item {
-        Item::Place(_) => true,
-        Item::Choice { name, .. } => {
-            let name = name.as_slice();
-            name == KEY
-                || name == SCHEME
-                || name == HWM
-                || name == MISSES
-                || name == ENTRIES
-                || name == BYTES
-        }
-    }
-}
-
-/// The options of `replay`.
-#[tactic(auto, unfolding(crate::specs::Reading::key_name, crate::specs::Reading::scheme_name, crate::specs::Reading::hwm_name, crate::specs::Reading::misses_name, crate::specs::Reading::entries_name, crate::specs::Reading::bytes_name))]
-fn replay_options(alloc: Global, items: &[Item]) -> Result<Option<Command>, AllocError>
-    ensures { IfOk result (λ c. c ≡ replay_options items.now) }
-{
-    let keys = values(alloc, KEY, items)?;
-    let schemes = values(alloc, SCHEME, items)?;
-    let hwms = values(alloc, HWM, items)?;
-    let misses = values(alloc, MISSES, items)?;
-    let entries = values(alloc, ENTRIES, items)?;
-    let bytes = values(alloc, BYTES, items)?;
-    let Some(key) = needed_key(keys.as_slice()) else {
-        return Ok(None);
+    let Some(key) = needed_key(matches.get_strs(KEY)) else {
+        return Err(CommandError::Usage);
     };
-    let Some(scheme) = optional_scheme(schemes.as_slice()) else {
-        return Ok(None);
+    let Some(scheme) = optional_scheme(matches.get_strs(SCHEME)) else {
+        return Err(CommandError::Usage);
     };
-    let Some(hwm) = optional_number(1, 0, GREATEST_HWM, hwms.as_slice()) else {
-        return Ok(None);
+    let Some(hwm) = optional_number(1, 0, GREATEST_HWM, matches.get_strs(HWM)) else {
+        return Err(CommandError::Usage);
     };
-    let Some(misses) = optional_number(10, 1, GREATEST_MISSES, misses.as_slice()) else {
-        return Ok(None);
+    let Some(misses) = optional_number(10, 1, GREATEST_MISSES, matches.get_strs(MISSES)) else {
+        return Err(CommandError::Usage);
     };
-    let Some(entries) = optional_number(GREATEST_ENTRIES, 1, GREATEST_ENTRIES, entries.as_slice())
-    else {
-        return Ok(None);
+    let entries = matches.get_strs(ENTRIES);
+    let Some(entries) = optional_number(GREATEST_ENTRIES, 1, GREATEST_ENTRIES, entries) else {
+        return Err(CommandError::Usage);
     };
-    let Some(bytes) = optional_number(GREATEST_BYTES, 1, GREATEST_BYTES, bytes.as_slice()) else {
-        return Ok(None);
+    let bytes = matches.get_strs(BYTES);
+    let Some(bytes) = optional_number(GREATEST_BYTES, 1, GREATEST_BYTES, bytes) else {
+        return Err(CommandError::Usage);
     };
-    Ok(Some(Command::Replay(ReplayOptions {
-        key: Octets::new(alloc, key)?,
+    Ok(Command::Replay(ReplayOptions {
+        key: Octets::new(alloc, key.as_bytes())?,
         scheme,
         hwm,
         misses,
         entries: u64::from(entries),
         bytes: u64::from(bytes),
-    })))
+    }))
 }
 
-/// Whether each option is one of `replay`.
-fn are_known(items: &[Item]) -> bool
-    ensures { result ≡ list_all (is_known replay_names) items.now }
+/// `replay` with what stands behind it.
+fn replay_behind(alloc: Global, matches: &ArgMatches<'_>) -> Result<Command, CommandError>
+    ensures ok { IfOk result (λ c. replay_behind (values_of matches.now word_id) (values_of matches.now) ≡ Some c) }
+    ensures usage { result ≡ Err CommandError.Usage → replay_behind (values_of matches.now word_id) (values_of matches.now) ≡ None }
 {
-    items.iter().all(|item| is_known(item))
+    let words = words(alloc, matches)?;
+    match words.as_slice() {
+        [] => replay_options(alloc, matches),
+        _ => Err(CommandError::Usage),
+    }
 }
 
-/// What these items ask `replay` for.
-fn replay_of(alloc: Global, items: &[Item]) -> Result<Option<Command>, AllocError>
-    ensures { IfOk result (λ c. c ≡ replay_of items.now) }
+/// What the words behind `replay` ask for.
+fn replay_of(alloc: Global, behind: &[Text]) -> Result<Command, CommandError>
+    ensures ok { IfOk result (λ c. replay_of behind.now ≡ Some c) }
+    ensures usage { result ≡ Err CommandError.Usage → replay_of behind.now ≡ None }
 {
-    if !are_known(items) {
-        return Ok(None);
+    if !are_formed(behind) {
+        return Err(CommandError::Usage);
     }
-    let places = places(alloc, items)?;
-    match places.as_slice() {
-        [] => replay_options(alloc, items),
-        _ => Ok(None),
-    }
+    let texts = borrowed(alloc, behind)?;
+    let matches = parted(alloc, "replay", &REPLAY, texts.as_slice())?;
+    replay_behind(alloc, &matches)
 }
 
 /// Whether a word is the command `replay`.
@@ -212,26 +179,13 @@ fn is_replay(word: &Text) -> bool
     word.as_slice() == b"replay".as_slice()
 }
 
-/// What words ask for, where they have a reading.
-fn reading(alloc: Global, words: &[Text]) -> Result<Option<Command>, AllocError>
-    ensures { IfOk result (λ c. c ≡ reading words.now) }
-{
-    match words {
-        [command, behind @ ..] if is_replay(command) => match items_of(alloc, behind)? {
-            Some(items) => replay_of(alloc, items.as_slice()),
-            None => Ok(None),
-        },
-        _ => Ok(None),
-    }
-}
-
 /// What the words ask for.
 pub fn command_of(alloc: Global, words: &WordList) -> Result<Command, CommandError>
     ensures ok { IfOk result (λ c. reading words.now ≡ Some c) }
     ensures usage { result ≡ Err CommandError.Usage → reading words.now ≡ None }
 {
-    match reading(alloc, words.as_slice())? {
-        Some(command) => Ok(command),
-        None => Err(CommandError::Usage),
+    match words.as_slice() {
+        [command, behind @ ..] if is_replay(command) => replay_of(alloc, behind),
+        _ => Err(CommandError::Usage),
     }
 }

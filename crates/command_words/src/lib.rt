@@ -3,7 +3,7 @@
 
 pub mod command;
 pub mod ending;
-pub mod item;
+mod matches;
 #[cfg(test)]
 mod tests;
 mod values;

@@ -5,16 +5,15 @@ ghost use Rattle.std.specs.List.{list_all};
 ghost use Rattle.std.specs.Char.{is_ascii_digit};
 ghost use Rattle.std.specs.Str.Parse.{digits_value};
 ghost use Rattle.cluster_types.specs.declared.config.Scheme.{Scheme};
-ghost use Rattle.command_words.specs.Values.{needed, optional, key_from, scheme_from, within, number_from, is_number, lru_word, leastload_word, plainrandom_word, twobin_word};
+ghost use Rattle.command_words.specs.Values.{listed, needed, optional, key_from, scheme_from, within, number_from, is_number, lru_word, leastload_word, plainrandom_word, twobin_word};
 
 use cluster_types::config::Scheme;
-use cluster_types::text::Text;
 
 /// The most octets of a key.
 const LONGEST_KEY: usize = 4096;
 
 /// The key that a value is.
-fn key_from(value: &[u8]) -> Option<&[u8]>
+fn key_from(value: &str) -> Option<&str>
     ensures { option_map (λ k. k.now) result ≡ key_from value.now }
 {
     if value.len() > 0 && value.len() <= LONGEST_KEY {
@@ -25,11 +24,11 @@ fn key_from(value: &[u8]) -> Option<&[u8]>
 }
 
 /// The key, which is needed once.
-pub fn needed_key(values: &[Text]) -> Option<&[u8]>
-    ensures { option_map (λ k. k.now) result ≡ needed key_from values.now }
+pub fn needed_key<'a>(values: Option<&[&'a str]>) -> Option<&'a str>
+    ensures { option_map (λ k. k.now) result ≡ needed key_from (listed values.entry) }
 {
     match values {
-        [value] => key_from(value.as_slice()),
+        Some([value]) => key_from(*value),
         _ => None,
     }
 }
@@ -53,12 +52,12 @@ fn scheme_from(value: &[u8]) -> Option<Scheme>
 }
 
 /// The scheme, or the first engine of the least load where none is given.
-pub fn optional_scheme(values: &[Text]) -> Option<Scheme>
-    ensures { result ≡ optional Scheme.LeastLoad scheme_from values.now }
+pub fn optional_scheme(values: Option<&[&str]>) -> Option<Scheme>
+    ensures { result ≡ optional Scheme.LeastLoad scheme_from (listed values.entry) }
 {
     match values {
-        [] => Some(Scheme::LeastLoad),
-        [value] => scheme_from(value.as_slice()),
+        None | Some([]) => Some(Scheme::LeastLoad),
+        Some([value]) => scheme_from(value.as_bytes()),
         _ => None,
     }
 }
@@ -81,21 +80,21 @@ fn is_number(text: &[u8]) -> bool
 }
 
 /// The number that digits write, or none where it is above the greatest of its type.
-fn parsed(text: &Text) -> Option<u32>
+fn parsed(text: &str) -> Option<u32>
     requires { is_number text.now ≡ true }
     ensures { MatchOption result (2 ^ 32 ≤ digits_value 10 text.now) (λ n. n ≡ digits_value 10 text.now) }
 {
-    match text.as_str().parse::<u32>() {
+    match text.parse::<u32>() {
         Ok(number) => Some(number),
         Err(_) => None,
     }
 }
 
 /// The number from low to high that a value is.
-fn number_from(low: u32, high: u32, value: &Text) -> Option<u32>
+fn number_from(low: u32, high: u32, value: &str) -> Option<u32>
     ensures { result ≡ number_from low high value.now }
 {
-    if !is_number(value.as_slice()) {
+    if !is_number(value.as_bytes()) {
         return None;
     }
     match parsed(value) {
@@ -105,12 +104,12 @@ fn number_from(low: u32, high: u32, value: &Text) -> Option<u32>
 }
 
 /// The number from low to high, or another where none is given.
-pub fn optional_number(default: u32, low: u32, high: u32, values: &[Text]) -> Option<u32>
-    ensures { result ≡ optional default (number_from low high) values.now }
+pub fn optional_number(default: u32, low: u32, high: u32, values: Option<&[&str]>) -> Option<u32>
+    ensures { result ≡ optional default (number_from low high) (listed values.entry) }
 {
     match values {
-        [] => Some(default),
-        [value] => number_from(low, high, value),
+        None | Some([]) => Some(default),
+        Some([value]) => number_from(low, high, value),
         _ => None,
     }
 }

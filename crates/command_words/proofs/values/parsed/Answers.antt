@@ -1,5 +1,6 @@
+use Rattle.std.proofs.Common.{refl}
 use Rattle.command_words.proofs.Numbers.{number_err}
 use Rattle.command_words.proofs.values.parsed.Goals as goal
 
 pub returns-in-Err : goal.returns-in-Err
-returns-in-Err c = number_err _ c.args.text.now c.as_str.result.now c.in-Err.field-0 c.as_str.ensures c.requires c.in-Err.ensures.value.0
+returns-in-Err c = number_err _ c.args.text.now c.args.text.now c.in-Err.field-0 refl c.requires c.in-Err.ensures.value.0
