@@ -3,6 +3,6 @@
 #![tactic(auto)]
 
 #[cfg(test)]
-mod core;
+mod steps;
 #[cfg(test)]
 mod tapes;
