@@ -5,7 +5,7 @@ ghost use Rattle.cluster_types.specs.Causes.{Rose};
 ghost use Rattle.task_journal.specs.Reads.{OnlyReads};
 ghost use Rattle.octet_fields.specs.Difference.{difference};
 ghost use Rattle.task_journal.specs.Journal.{Gives, Fails, with_front, records_at, found_from, head, journal, holding, last_of};
-ghost use Rattle.task_journal.specs.Window.{Ready, Shows, span, Steps, HasHead};
+ghost use Rattle.task_journal.specs.Window.{Ready, Shows, span, Steps, Rises, HasHead};
 
 use crate::disk_calls::{read_into, size_of};
 use crate::fault::OpenFault;
@@ -54,6 +54,7 @@ fn next_batch<D: Disk>(
 ) -> Result<Option<u64>, OpenFault>
     requires { D.tells → size ≡ length (D.content disk.old) }
     ensures value { D.tells → Steps size (D.content disk.old) gate found.old found.new result }
+    ensures rises { IfOk result (Rises gate size) }
     ensures reads { OnlyReads D.content D.image D.moment D.image_since D.faults disk.old disk.new }
     ensures cause { IsErrOf result OpenFault.DiskFault → Rose (D.faults disk.old) (D.faults disk.new) }
 {
@@ -90,7 +91,7 @@ fn read_batches<D: Disk>(alloc: Global, disk: &mut D, size: u64) -> Result<(Foun
     };
     let mut window = Window::new(alloc);
     let mut gate = 31;
-    for _ in 0..size {
+    loop {
         match next_batch(alloc, disk, &mut window, size, gate, &mut found)? {
             None => {
                 found.places.push(gate)?;
@@ -99,7 +100,6 @@ fn read_batches<D: Disk>(alloc: Global, disk: &mut D, size: u64) -> Result<(Foun
             Some(next) => gate = next,
         }
     }
-    Err(OpenFault::OutOfMemory)
 }
 
 /// The place of the first octet that differs.

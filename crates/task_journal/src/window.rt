@@ -90,6 +90,7 @@ impl Window {
         requires fits { D.tells → self.old.place + length self.old.octets < 2 ^ 64 }
         ensures octets { D.tells → OnOk result (self.new.octets
             ≡ self.old.octets ++ take n (drop (self.old.place + length self.old.octets) (D.content disk.old))) }
+        ensures more { OnOk result (length self.new.octets ≡ length self.old.octets + n) }
         ensures place { self.new.place ≡ self.old.place }
         ensures reads { OnlyReads D.content D.image D.moment D.image_since D.faults disk.old disk.new }
         ensures fault { IfErr result IsOfDisk }
@@ -113,6 +114,7 @@ fn read_behind<D: Disk>(
     requires { D.tells → at + n ≤ length (D.content disk.old) }
     ensures octets { D.tells → OnOk result (octets.new.items
         ≡ octets.old.items ++ take n (drop at (D.content disk.old))) }
+    ensures more { OnOk result (length octets.new.items ≡ length octets.old.items + n) }
     ensures reads { OnlyReads D.content D.image D.moment D.image_since D.faults disk.old disk.new }
     ensures fault { IfErr result IsOfDisk }
     ensures cause { IsErrOf result OpenFault.DiskFault → Rose (D.faults disk.old) (D.faults disk.new) }
@@ -146,7 +148,7 @@ pub fn next_record<D: Disk>(
     ensures reads { OnlyReads D.content D.image D.moment D.image_since D.faults disk.old disk.new }
     ensures cause { IsErrOf result OpenFault.DiskFault → Rose (D.faults disk.old) (D.faults disk.new) }
 {
-    for _ in 0..u64::MAX {
+    loop {
         match front_record(alloc, window.octets()) {
             Ok((entry, taken)) => {
                 window.take(taken);
@@ -165,5 +167,4 @@ pub fn next_record<D: Disk>(
             }
         }
     }
-    Err(OpenFault::OutOfMemory)
 }
