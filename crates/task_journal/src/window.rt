@@ -3,6 +3,7 @@
 ghost use Rattle.std.specs.Prelude.{◌≡◌, ◌≤◌, ◌<◌, ◌+◌, ◌^◌, ◌++◌, [], length, take, drop, IfOk, IfErr, OnOk, IsErrOf};
 ghost use Rattle.octet_fields.specs.Reading.{Gives as FieldGives};
 ghost use Rattle.record_codec.specs.Reading.{entry_at};
+ghost use Rattle.record_codec.specs.Spelling.{HasRecord};
 ghost use Rattle.cluster_types.specs.Causes.{Rose};
 ghost use Rattle.task_journal.specs.Reads.{OnlyReads};
 ghost use Rattle.task_journal.specs.Journal.{Gives, IsOfDisk, record_at};
@@ -129,6 +130,7 @@ fn read_behind<D: Disk>(
 fn front_record(alloc: Global, octets: &[u8]) -> Result<(Entry, usize), ReadError>
     ensures value { FieldGives (λ x. (x.0, drop x.1 octets.now)) result (entry_at octets.now) }
     ensures inside { IfOk result (λ x. x.1 ≤ length octets.now) }
+    ensures has { IfOk result (λ x. HasRecord x.0) }
 {
     let (entry, rest) = read_front(alloc, octets)?;
     Ok((entry, octets.len().saturating_sub(rest.len())))
@@ -145,6 +147,7 @@ pub fn next_record<D: Disk>(
     ensures value { D.tells → Gives (λ e. (e, span window.new.place end (D.content disk.old))) result
         (record_at end (span window.old.place end (D.content disk.old))) }
     ensures shows { D.tells → OnOk result (Shows window.new end (D.content disk.old)) }
+    ensures has { IfOk result HasRecord }
     ensures reads { OnlyReads D.content D.image D.moment D.image_since D.faults disk.old disk.new }
     ensures cause { IsErrOf result OpenFault.DiskFault → Rose (D.faults disk.old) (D.faults disk.new) }
 {
