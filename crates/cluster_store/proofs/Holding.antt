@@ -1,6 +1,6 @@
 -- What a store keeps to, after a step, a flush and a take.
-use Rattle.std.proofs.Common.{◌≡◌, ◌⊎◌, ⊎_elim, ◌^◌, Err, ℕ, suc, ◌+◌, ◌-◌, ◌<◌, ◌≤◌, List, [], ◌∷◌, ◌++◌, length, drop, Bool, true, false, cond, refl, sym, ap, ◌∙◌, subst, arith, Option, Some, None, map}
-use Rattle.std.specs.Prelude.{nat_le, ◌==◌}
+use Rattle.std.proofs.Common.{◌≡◌, ◌⊎◌, inl, inr, ⊎_elim, ◌^◌, Err, ℕ, suc, ◌+◌, ◌-◌, ◌<◌, ◌≤◌, List, [], ◌∷◌, ◌++◌, length, drop, Bool, true, false, cond, refl, sym, ap, ◌∙◌, subst, arith, Option, Some, None, map}
+use Rattle.std.specs.Prelude.{nat_le, ◌==◌, Result}
 use Rattle.std.proofs.lemmas.Bool.{le-leb}
 use Rattle.std.proofs.lemmas.List.{drop_all}
 use Rattle.cluster_types.specs.declared.out.Out.{Out}
@@ -25,6 +25,11 @@ use Rattle.cluster_store.specs.declared.waiting.Waiting.{Waiting}
 use Rattle.cluster_store.specs.Queues.{waits, after, need_after}
 use Rattle.cluster_store.specs.Stores.{up_to, written, IsRefused}
 use Rattle.cluster_store.specs.Held.{judged, judged_by, IsWaiting, IsHeld, told_of}
+use Rattle.disk_model.specs.Crashes.{LeavesOnly}
+use Rattle.task_journal.specs.Journal.{StandsFor}
+use Rattle.task_journal.specs.Settled.{Outcome}
+use Rattle.cluster_store.proofs.Images.{weakened}
+use Rattle.cluster_store.proofs.Opens.{same_stands}
 use Rattle.cluster_store.proofs.Remade.{plan_keeps, plan_allows}
 use Rattle.cluster_store.proofs.Stepping.{Step, step_of, step_longer, step_legal, step_keeps, step_front, whole_front, none_behind, all_written}
 use Rattle.cluster_store.proofs.Waits.{Stepped, stepped, left_before, waiting_after, told_stays}
@@ -75,6 +80,14 @@ held_flushed h mark need left batch held = record {
 -- what is safe, and then the batch, is all that is kept
 pub batch_completes : (h : History) (mark need : ℕ) (left : ℕ → List Waiting) (batch : List Entry) → IsHeld h mark need left batch → written (up_to mark h) ++ batch ≡ written h
 batch_completes h mark need left batch held = ap (λ (es : List Entry). written (up_to mark h) ++ es) held.batch_is ∙ all_written mark h held.mark_fits
+
+-- what a crash leaves while a batch is written
+pub flush_moment : {D : Type 0} (content : D → List ℕ) (moment : D → ℕ) (image_since : D → ℕ → List ℕ → Type 0) (old new : D) (h : History) (mark need : ℕ) (left : ℕ → List Waiting) (batch : List Entry) → IsHeld h mark need left batch →
+    StandsFor (content old) (written (up_to mark h)) → ((list : List Entry) → StandsFor (content old) list → LeavesOnly moment image_since old new (Outcome list batch)) → (list : List Entry) → StandsFor (content old) list →
+    LeavesOnly moment image_since old new (λ c. StandsFor c list ⊎ StandsFor c (written h))
+flush_moment content moment image_since old new h mark need left batch held safe leaves list stands =
+    let all : list ++ batch ≡ written h = ap (λ (es : List Entry). es ++ batch) (same_stands (content old) list (written (up_to mark h)) stands safe) ∙ batch_completes h mark need left batch held in
+    weakened moment image_since old new (Outcome list batch) (λ c. StandsFor c list ⊎ StandsFor c (written h)) (leaves list stands) (λ c either. ⊎_elim (λ a. inl a) (λ b. inr (subst (StandsFor c) all b)) either)
 
 -- A TAKE
 
@@ -178,9 +191,12 @@ grown core p old mark need left batch input new outs kept size need' left' batch
       batch_is = d.batch_is ∙ ap (λ (es : List Entry). batch ++ es) (plan_keeps core p old input d.plan d.same d.is ∙ ap (kept_from (length old)) (sym history));
     }
 
+abbrev pub refused : StepError → Result (Unit {0}) StepError
+refused error = Err error
+
 -- why a step is refused whose memory wasn't taken
 pub refused_memory : (mark : ℕ) (limit : HistorySize) (new : History) (es : List Entry) (error : StepError) → es ≡ kept_from mark new → is_past limit (size_since new) ≡ false →
-    (Err error ≡ Err {T = Unit {0}} BatchFull → 2 ^ 32 ≤ length (spellings es)) → (error ≡ BatchFull) ⊎ (error ≡ OutOfMemory) → IsRefused false mark limit new error
+    (refused error ≡ refused BatchFull → 2 ^ 32 ≤ length (spellings es)) → (error ≡ BatchFull) ⊎ (error ≡ OutOfMemory) → IsRefused false mark limit new error
 refused_memory mark limit new es Reopen same fits long either = ⊎_elim (λ is. cc) (λ is. cc) either
 refused_memory mark limit new es (HistoryFull entries bytes) same fits long either = ⊎_elim (λ is. cc) (λ is. cc) either
 refused_memory mark limit new es BatchFull same fits long either = (refl, fits, subst (λ (xs : List Entry). 2 ^ 32 ≤ length (spellings xs)) same (long refl))

@@ -1,6 +1,6 @@
 -- What an opening goes on from, and why it is refused.
 use Rattle.std.proofs.Common.{◌≡◌, ◌⊎◌, inl, inr, ⊎_elim, ℕ, List, [], ◌∷◌, ◌++◌, reverse, append-nil, refl, sym, ap, ◌∙◌, subst}
-use Rattle.std.specs.Prelude.{Ok, Err}
+use Rattle.std.specs.Prelude.{Result, Ok, Err, OnOk, IfOk, IfErr, is_err, false}
 use Rattle.cluster_types.specs.declared.config.Config.{Config}
 use Rattle.cluster_types.specs.declared.entry.Entry.{Entry}
 use Rattle.cluster_defs.specs.Scheduling.{due}
@@ -26,6 +26,14 @@ fit_written list fit =
 -- two disks that stand for one list
 pub same_list : (octets others : List ℕ) (list : List Entry) → StandsFor octets list → StandsFor others list → IsSame octets others
 same_list octets others list a b = ap entries_of a.1 ∙ sym (ap entries_of b.1)
+
+entries_or : Result Found OpenFault → List Entry
+entries_or (Ok found) = found.entries
+entries_or (Err e) = []
+
+pub same_stands : (octets : List ℕ) (a b : List Entry) → StandsFor octets a → StandsFor octets b → a ≡ b
+unfolding entries_or
+same_stands octets a b x y = ap entries_or (sym x.1 ∙ y.1)
 
 -- why no journal was opened is why no store is
 pub journal_refused : (octets : List ℕ) (why : OpenFault) → Fails why (journal octets) → WhyNot octets why
@@ -80,3 +88,23 @@ either_list octets content image config moment list core history stands fit same
     ⊎_elim
     (λ a. inl (inr (same_list content octets list (subst (StandsFor content) (ap written same ∙ fit_written list fit) a) stands)))
     (λ b. inr (record { history = history; from = opened_so octets config moment list core history stands fit same is; stands = b }))
+
+-- what holds where a result is Ok, of one that is
+pub ok_of : {T E : Type 0} (r : Result T E) (P : Type 0) → is_err r ≡ false → OnOk r P → P
+ok_of (Ok x) P is on = on
+ok_of (Err e) P is on = cc
+
+-- what follows of two facts of what a call returned, or of three of why it was refused
+pub both_ok : {T E : Type 0} (r : Result T E) (P Q R : T → Type 0) → IfOk r P → IfOk r Q → ((x : T) → P x → Q x → R x) → IfOk r R
+both_ok (Ok x) P Q R p q f = f x p q
+both_ok (Err e) P Q R p q f = tt
+
+pub three_err : {T E : Type 0} (r : Result T E) (P Q S R : E → Type 0) → IfErr r P → IfErr r Q → IfErr r S → ((e : E) → P e → Q e → S e → R e) → IfErr r R
+three_err (Ok x) P Q S R p q s f = tt
+three_err (Err e) P Q S R p q s f = f e p q s
+
+pub of_disk_or_memory : (A : Type 0) (why : OpenFault) → IsOfDisk why → (why ≡ DiskFault → A) → (why ≡ OutOfMemory → A) → A
+of_disk_or_memory A (NotAJournal place) refused a b = absurd refused
+of_disk_or_memory A (Damaged place) refused a b = absurd refused
+of_disk_or_memory A DiskFault refused a b = a refl
+of_disk_or_memory A OutOfMemory refused a b = b refl

@@ -53,7 +53,7 @@ turn_more : (h : History) (ds : List Entry) (d : Entry) → InTurn h ds → due 
 turn_more h [] d each is = (is, tt)
 turn_more h (e ∷ ds) d each is = (each.0, turn_more (e ∷ h) ds d each.1 (ap (λ (x : History). due (facts x)) (sym (turned e ds h)) ∙ is))
 
-reverse_twice : (xs : List Entry) → reverse (reverse xs) ≡ xs
+pub reverse_twice : (xs : List Entry) → reverse (reverse xs) ≡ xs
 reverse_twice [] = refl
 reverse_twice (x ∷ xs) = ap reverse (reverse-append (x ∷ []) xs) ∙ reverse-append (reverse xs) (x ∷ []) ∙ ap (λ (ys : List Entry). x ∷ ys) (reverse_twice xs)
 
@@ -164,13 +164,13 @@ some_kept h input k decisions new rests is kept_is =
     let s : Step h input new = subst (Step h input) (sym is) (step_of h input rests) in
     ⊎_elim
     (λ on.
-        let all : k ∷ decisions ≡ Input input ∷ reverse s.decisions = kept_is ∙ ap (kept_from (length h)) s.appended ∙ kept_step h input s.decisions s.each_due on in
-        let same : decisions ≡ reverse s.decisions = cc in
-        record {
-          on = on;
-          each = subst (InTurn (Input input ∷ h)) (sym same) (in_turn (Input input ∷ h) s.decisions s.each_due);
-          is = s.appended ∙ ap (λ (xs : List Entry). xs ++ Input input ∷ h) (sym (ap reverse same ∙ reverse_twice s.decisions));
-        })
+    let all : k ∷ decisions ≡ Input input ∷ reverse s.decisions = kept_is ∙ ap (kept_from (length h)) s.appended ∙ kept_step h input s.decisions s.each_due on in
+    let same : decisions ≡ reverse s.decisions = cc in
+    record {
+      on = on;
+      each = subst (InTurn (Input input ∷ h)) (sym same) (in_turn (Input input ∷ h) s.decisions s.each_due);
+      is = s.appended ∙ ap (λ (xs : List Entry). xs ++ Input input ∷ h) (sym (ap reverse same ∙ reverse_twice s.decisions));
+    })
     (λ alone. absurd (not_nil k decisions (kept_is ∙ ap (kept_from (length h)) alone.1 ∙ kept_first (Input input) h ∙ ap (λ b. kept_one b (Input input)) alone.0)))
     s.kinds
 
@@ -181,9 +181,9 @@ none_kept h input new rests is none all s =
     ⊎_elim
     (λ on. let some : true ≡ false = ap is_nil (sym (ap (kept_from (length h)) (sym step.appended) ∙ none)) ∙ kept_some h input step.decisions on in cc)
     (λ alone.
-        let short : kept (Input input ∷ h) ≡ h = ap (λ b. cond b (Input input ∷ kept h) (kept h)) alone.0 ∙ all in
-        let long : length h ≡ suc (length h) = ap length (sym short ∙ s.all_kept) in
-        absurd (omega (arith, long)))
+    let short : kept (Input input ∷ h) ≡ h = ap (λ b. cond b (Input input ∷ kept h) (kept h)) alone.0 ∙ all in
+    let long : length h ≡ suc (length h) = ap length (sym short ∙ s.all_kept) in
+    absurd (omega (arith, long)))
     step.kinds
 
 -- an input that may not come may not stand
@@ -276,6 +276,10 @@ refused_bad entries places n place bad is = inl (n, bad, is)
 pub refused_cut : (entries : List Entry) (places : List ℕ) (place : ℕ) → length places ≡ length entries + 1 → IsCut [] entries → slice_get places (length entries) ≡ Some place → Refuses (holding entries places) (Damaged place)
 refused_cut entries places place long cut is = inr (cut, last_get places (length entries) place (omega (arith, long)) is)
 
+-- a list from a place on, as a slice of so many items
+pub rest_is : (made : ℕ) (list : List Entry) → take (length list - made) (drop made list) ≡ drop made list
+rest_is made list = let long = length-drop made list in take_all (length list - made) (drop made list) (omega (arith, long))
+
 -- behind entries that were made, the rest of a list
 split : (made : ℕ) (list : List Entry) (n : ℕ) → made ≤ length list → take (made + n) list ≡ take made list ++ take n (drop made list)
 split zero list n le = let same : 0 + n ≡ n = omega arith in ap (λ k. take k list) same
@@ -353,8 +357,8 @@ so_far_cut made list history s c =
     let whole : take (made + length (drop made list)) list ≡ list = take_all (made + length (drop made list)) list (omega (arith, long, within)) in
     let rest : take (length (drop made list)) (drop made list) ≡ drop made list = take_all (length (drop made list)) (drop made list) (omega arith) in
     let same : reverse (drop made list) ++ history ≡ reverse list ++ [] =
-        ap (λ (xs : List Entry). reverse xs ++ history) (sym rest) ∙ ap (λ (h : History). reverse (take (length (drop made list)) (drop made list)) ++ h) s.is ∙ behind made list (length (drop made list)) s.within
-        ∙ ap (λ (xs : List Entry). reverse xs ++ []) whole in
+    ap (λ (xs : List Entry). reverse xs ++ history) (sym rest) ∙ ap (λ (h : History). reverse (take (length (drop made list)) (drop made list)) ++ h) s.is ∙ behind made list (length (drop made list)) s.within
+    ∙ ap (λ (xs : List Entry). reverse xs ++ []) whole in
     record {
       all = record { legal = subst Legal same c.all.legal; all_kept = subst (λ (h : History). kept h ≡ h) same c.all.all_kept };
       not = λ rests. c.not (ap (λ (h : History). due (facts h)) same ∙ rests);

@@ -106,7 +106,7 @@ abbrev pub first_of : {X : Type 0} → List X → Option X
 first_of [] = None
 first_of (x ∷ xs) = Some x
 
-get_first : {X : Type 0} (xs : List X) (n : ℕ) → slice_get xs n ≡ first_of (drop n xs)
+pub get_first : {X : Type 0} (xs : List X) (n : ℕ) → slice_get xs n ≡ first_of (drop n xs)
 get_first [] zero = refl
 get_first [] (suc n) = refl
 get_first (x ∷ xs) zero = refl

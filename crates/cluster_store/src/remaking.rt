@@ -32,9 +32,13 @@ fn is_decision(entry: &Entry, decision: &Entry) -> bool
     ensures { (result ≡ true) ↔ (entry.now ≡ decision.now) }
 {
     match (entry, decision) {
-        (Entry::Hand { id, engine }, Entry::Hand { id: other, engine: number }) => {
-            id.is(other) && engine == number
-        }
+        (
+            Entry::Hand { id, engine },
+            Entry::Hand {
+                id: other,
+                engine: number,
+            },
+        ) => { id.is(other) && engine == number }
         (
             Entry::Settle { id, verdict, cause },
             Entry::Settle {
@@ -111,11 +115,7 @@ fn remake_step(
 }
 
 /// Makes the first step of a list again.
-fn remake_first(
-    core: &mut Core,
-    chooser: &Chooser,
-    list: &[Entry],
-) -> Result<Remade, AllocError>
+fn remake_first(core: &mut Core, chooser: &Chooser, list: &[Entry]) -> Result<Remade, AllocError>
     requires some { 0 < length list.now }
     requires stands { MayStand core.old.history [] }
     requires rests { Rests core.old.history [] }

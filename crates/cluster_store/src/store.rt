@@ -88,6 +88,7 @@ fn take_memory(batch: &mut Batch, queues: &mut Queues, plan: &Plan) -> Result<()
 /// Writes a batch and empties it. Where it has no entries no call of the disk is made.
 fn write_batch<D: Disk>(journal: &mut Journal<D>, batch: &mut Batch) -> Result<(), AppendFault>
     ensures ok { OnOk result (batch.new ≡ []) }
+    ensures working { OnOk result (journal.old.failed ≡ false) }
     ensures err { OnErr result (batch.new ≡ batch.old) }
     ensures stands { D.tells → OnOk result ((list : List Entry) → StandsFor (D.content journal.old.disk) list → StandsFor (D.content journal.new.disk) (list ++ batch.old)) }
     ensures any_moment { D.tells → journal.old.failed ≡ false → (list : List Entry) → StandsFor (D.content journal.old.disk) list
@@ -222,12 +223,7 @@ impl<D: Disk> Store<D> {
     }
 
     /// Takes the step of an input. Where it is an Open, no outs wait.
-    fn grow(
-        &mut self,
-        chooser: &Chooser,
-        input: Input,
-        meaning: Meaning,
-    ) -> Result<(), StepError>
+    fn grow(&mut self, chooser: &Chooser, input: Input, meaning: Meaning) -> Result<(), StepError>
         requires event { meaning.event ≡ event_in (facts self.old.history) (Entry.Input input) }
         requires kind { meaning.msg_type ≡ told_type meaning.event (type_on (Entry.Input input)) }
         requires taken { may_take (facts self.old.history) input meaning.event ≡ true }
@@ -240,7 +236,10 @@ impl<D: Disk> Store<D> {
         ensures taken { OnOk result (IsTaken false self.old.mark self.old.limits (decide_all (Entry.Input input ∷ self.old.history))) }
     {
         let plan = self.core.plan(chooser, input, meaning)?;
-        take_memory(&mut self.batch, &mut self.queues, &plan)?;
+        match take_memory(&mut self.batch, &mut self.queues, &plan) {
+            Ok(()) => {}
+            Err(error) => return Err(error),
+        }
         let Made { outs, kept } = self.core.apply(plan);
         let size = self.core.history().len() as u64;
         self.need = need_after(self.need, kept.as_slice(), size);
@@ -249,12 +248,7 @@ impl<D: Disk> Store<D> {
     }
 
     /// Takes the step of an Open, where no outs wait.
-    fn open_step(
-        &mut self,
-        chooser: &Chooser,
-        config: Config,
-        moment: u64,
-    ) -> Result<(), StepError>
+    fn open_step(&mut self, chooser: &Chooser, config: Config, moment: u64) -> Result<(), StepError>
         requires moment { moment ≤ last_moment }
         requires working { self.old.failed ≡ false }
         requires calm { (c : ℕ) → told self.old c ≡ length (sendings_to self.old.history c) }

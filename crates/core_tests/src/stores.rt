@@ -136,11 +136,7 @@ fn said(alloc: Global, conn: u32, header: &[u8], content: &[u8]) -> Result<Input
 }
 
 /// Takes the step of an input where it may come.
-fn enter(
-    store: &mut Store<FuseDisk>,
-    chooser: &Chooser,
-    input: Input,
-) -> Result<bool, StepError>
+fn enter(store: &mut Store<FuseDisk>, chooser: &Chooser, input: Input) -> Result<bool, StepError>
     requires fits { IsWithinLimits (Entry.Input input) }
     requires no_open { is_open (Entry.Input input) ≡ false }
 {

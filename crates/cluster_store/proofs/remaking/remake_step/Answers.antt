@@ -51,7 +51,7 @@ returns-clause-remade g c =
     let kept = step_kept c.plan.new.self c.in-Ok.plan c.args.core.now.history c.args.input.now c.kept.result.now c.in-Ok.ensures.ok same is c.requires.rests c.kept.ensures (omega (arith, c.in-len1-up.len_at_least)) in
     let one : suc c.agreeing-same.result ≡ c.agreeing-same.result + 1 = omega arith in
     let new : c.apply-made.new.self.history ≡ decide_all (Input c.args.input.now ∷ c.args.core.now.history) =
-        c.apply-made.ensures.history ∙ ap (λ (x : History). decide_all (Input c.in-Ok.plan.input ∷ x)) same ∙ ap (λ i. decide_all (Input i ∷ c.args.core.now.history)) is in
+    c.apply-made.ensures.history ∙ ap (λ (x : History). decide_all (Input c.in-Ok.plan.input ∷ x)) same ∙ ap (λ i. decide_all (Input i ∷ c.args.core.now.history)) is in
     subst (IsRemade c.args.core.now.history c.apply-made.new.self.history (Input c.args.input.now ∷ c.args.behind.now)) one
     (subst (λ (x : History). IsRemade c.args.core.now.history x (Input c.args.input.now ∷ c.args.behind.now) (suc c.agreeing-same.result)) (sym new)
     (step_made c.args.core.now.history c.args.input.now (take (length c.kept.result.now - 1) (drop 1 c.kept.result.now)) c.args.behind.now (decide_all (Input c.args.input.now ∷ c.args.core.now.history)) c.agreeing-same.result
