@@ -1,13 +1,11 @@
 -- What is within the limits of records: each due decision, and so all of a history whose inputs are.
-use Rattle.std.proofs.Common.{◌≡◌, ℕ, zero, suc, ◌<◌, ◌≤◌, List, [], ◌∷◌, ◌++◌, length, Bool, true, false, cond, refl, sym, ap, ◌∙◌, subst, arith, Option, Some, None}
-use Rattle.std.specs.Prelude.{All, find, nat_lt}
+use Rattle.std.proofs.Common.{◌≡◌, ℕ, zero, suc, ◌≤◌, List, [], ◌∷◌, ◌++◌, length, Bool, true, false, cond, refl, sym, ap, ◌∙◌, subst, arith, Some, None}
+use Rattle.std.specs.Prelude.{All, find}
 use Rattle.std.specs.List.{AllByRecursion as Each}
 use Rattle.std.proofs.lemmas.List.Elements.{All-from_recursion, recursion_from_All}
 use Rattle.cluster_types.specs.declared.entry.Input.{Input as InputType}
 use Rattle.cluster_types.specs.declared.entry.Entry.{Entry}
 use Rattle.cluster_types.specs.declared.entry.Entry.TheVariants.{Input, Hand, Settle, Lose}
-use Rattle.cluster_defs.specs.Words.{Id}
-use Rattle.cluster_defs.specs.Facts.{Facts}
 use Rattle.cluster_defs.specs.Scheduling.{due, is_kept, open_work}
 use Rattle.cluster_defs.specs.Histories.{History, facts, Legal, kept, go_on, decided, decide_all}
 use Rattle.cluster_defs.specs.Runs.{Decided}

@@ -1,5 +1,5 @@
 -- What a store keeps to, after a step, a flush and a take.
-use Rattle.std.proofs.Common.{◌≡◌, ◌⊎◌, inl, inr, ⊎_elim, ◌^◌, Err, ℕ, suc, ◌+◌, ◌-◌, ◌<◌, ◌≤◌, List, [], ◌∷◌, ◌++◌, length, drop, Bool, true, false, cond, refl, sym, ap, ◌∙◌, subst, arith, Option, Some, None, map}
+use Rattle.std.proofs.Common.{◌≡◌, ◌⊎◌, inl, inr, ⊎_elim, ◌^◌, Err, ℕ, ◌-◌, ◌≤◌, List, [], ◌∷◌, ◌++◌, length, drop, true, false, cond, refl, sym, ap, ◌∙◌, subst, arith, None, map}
 use Rattle.std.specs.Prelude.{nat_le, ◌==◌, Result}
 use Rattle.std.proofs.lemmas.Bool.{le-leb}
 use Rattle.std.proofs.lemmas.List.{drop_all}
@@ -24,7 +24,7 @@ use Rattle.cluster_store.specs.declared.fault.StepError.TheVariants.{Reopen, His
 use Rattle.cluster_store.specs.declared.waiting.Waiting.{Waiting}
 use Rattle.cluster_store.specs.Queues.{waits, after, need_after}
 use Rattle.cluster_store.specs.Stores.{up_to, written, IsRefused}
-use Rattle.cluster_store.specs.Held.{judged, judged_by, IsWaiting, IsHeld, told_of}
+use Rattle.cluster_store.specs.Held.{judged, judged_by, IsHeld, told_of}
 use Rattle.disk_model.specs.Crashes.{LeavesOnly}
 use Rattle.task_journal.specs.Journal.{StandsFor}
 use Rattle.task_journal.specs.Settled.{Outcome}

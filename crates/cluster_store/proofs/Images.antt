@@ -1,5 +1,5 @@
 -- What a crash leaves of a disk that no call has touched.
-use Rattle.std.proofs.Common.{◌≡◌, ◌≤◌, ◌⊎◌, inl, inr, ⊎_elim, ℕ, List, subst, sym, arith}
+use Rattle.std.proofs.Common.{◌≤◌, inl, inr, ⊎_elim, ℕ, List, subst, sym, arith}
 use Rattle.cluster_types.specs.declared.entry.Entry.{Entry}
 use Rattle.disk_model.specs.Crashes.{Only, LeavesOnly}
 use Rattle.task_journal.specs.Journal.{StandsFor}

@@ -1,5 +1,5 @@
 -- The calls of a store are moves of a life.
-use Rattle.std.proofs.Common.{◌≡◌, ℕ, ◌+◌, ◌-◌, ◌≤◌, List, [], ◌∷◌, ◌++◌, length, take, drop, Bool, true, false, refl, sym, ap, ◌∙◌, subst, arith, Option, Some, None}
+use Rattle.std.proofs.Common.{◌≡◌, ℕ, ◌-◌, ◌≤◌, List, [], ◌∷◌, ◌++◌, length, take, Bool, true, false, refl, sym, ap, ◌∙◌, subst, arith, Some, None}
 use Rattle.std.specs.Prelude.{slice_get}
 use Rattle.std.proofs.lemmas.List.{take-append-drop, length-drop}
 use Rattle.cluster_types.specs.declared.entry.Input.{Input as InputType}
@@ -16,7 +16,6 @@ use Rattle.cluster_store.specs.Stores.{up_to, told_by}
 use Rattle.cluster_store.specs.Worlds.{world_after, MayGo}
 use Rattle.cluster_store.proofs.Fits.{decides_to}
 use Rattle.cluster_store.proofs.Waits.{due_no_open}
-use Rattle.cluster_store.proofs.Stepping.{whole_front}
 
 told_kept : (e : Entry) (told : ℕ → ℕ) → is_open e ≡ false → told_after e told ≡ told
 told_kept (Input (Open moment scheme hwm misses)) told off = cc

@@ -1,5 +1,5 @@
 -- Every known id is a name: a header's id is one, and so is the id of a copy.
-use Rattle.std.proofs.Common.{◌≡◌, ℕ, suc, ◌+◌, ◌*◌, ◌^◌, ◌<◌, ◌≤◌, List, [], ◌∷◌, ◌++◌, length, Bool, true, false, cond, ◌&&◌, refl, sym, ap, ◌∙◌, subst, arith, Option, Some, None, Result, Ok, Err, map}
+use Rattle.std.proofs.Common.{◌≡◌, ℕ, ◌+◌, ◌<◌, ◌≤◌, List, [], ◌∷◌, ◌++◌, length, Bool, true, false, cond, refl, sym, ap, subst, arith, Option, Some, None, Result, Ok, Err, map}
 use Rattle.std.specs.Prelude.{All, codes, decimal, nat_lt, nat_le, ◌==◌}
 use Rattle.std.specs.List.{AllByRecursion as Each}
 use Rattle.std.specs.Option.{option_and_then}
@@ -16,7 +16,7 @@ use Rattle.cluster_types.specs.declared.message.Message.{Message}
 use Rattle.cluster_types.specs.declared.event.Event.{Event}
 use Rattle.cluster_types.specs.declared.event.Event.TheVariants.{Submit, Direct, Reply, Join as JoinEvent, Leave, Pong as PongEvent, Purge as PurgeEvent, Resubmit as ResubmitEvent, Ask}
 use Rattle.cluster_types.specs.declared.event.Reason.{Reason}
-use Rattle.cluster_types.specs.declared.event.Reason.TheVariants.{BadHeader, BadType, NoTarget, BadReply}
+use Rattle.cluster_types.specs.declared.event.Reason.TheVariants.{BadType, NoTarget}
 use Rattle.cluster_types.specs.declared.entry.Input.TheVariants.{Open, Up, Down, In, Beat, Time}
 use Rattle.cluster_types.specs.declared.entry.Entry.{Entry}
 use Rattle.cluster_types.specs.declared.entry.Entry.TheVariants.{Input, Hand, Settle, Lose}
@@ -28,13 +28,13 @@ use Rattle.message_defs.specs.declared.content.HubContent.TheVariants.{Connectio
 use Rattle.message_defs.specs.declared.request.Request.{Request}
 use Rattle.message_defs.specs.declared.request.Request.TheVariants.{Registration, Beat as BeatRequest}
 use Rattle.message_defs.specs.Json.{Reading, reading_then, read_object}
-use Rattle.message_defs.specs.Fields.{is_id, id_of, id_in, or_bad, id_from, text_from}
+use Rattle.message_defs.specs.Fields.{is_id, id_of, or_bad, id_from, text_from}
 use Rattle.message_defs.specs.Header.{header_from, read_header}
 use Rattle.message_defs.specs.Submit.{read_submit}
 use Rattle.message_defs.specs.Reply.{read_reply}
 use Rattle.message_defs.specs.Hub.{request_of, read_content}
 use Rattle.message_defs.specs.Texts.{resubmit_id}
-use Rattle.message_defs.specs.Event.{event_of, event_under, event_of_content, request_event, hub_request, hub_event, submitted, task_event, mux_event, echo_event, replied, reply_event, engine_event, submission, direct_meta, is_request, is_leave, is_reply, is_registration, is_echo}
+use Rattle.message_defs.specs.Event.{event_of, event_under, event_of_content, request_event, hub_request, hub_event, submitted, mux_event, echo_event, replied, reply_event, engine_event, submission, direct_meta, is_request, is_leave, is_reply, is_registration, is_echo}
 use Rattle.record_codec.specs.Spelling.{IsName}
 use Rattle.cluster_defs.specs.Words.{Id}
 use Rattle.cluster_defs.specs.Connections.{channel_on}

@@ -1,17 +1,16 @@
 -- What an opening goes on from, and why it is refused.
-use Rattle.std.proofs.Common.{◌≡◌, ◌⊎◌, inl, inr, ⊎_elim, ℕ, List, [], ◌∷◌, ◌++◌, reverse, append-nil, refl, sym, ap, ◌∙◌, subst}
+use Rattle.std.proofs.Common.{◌≡◌, ◌⊎◌, inl, inr, ⊎_elim, ℕ, List, [], ◌++◌, reverse, append-nil, refl, sym, ap, ◌∙◌, subst}
 use Rattle.std.specs.Prelude.{Result, Ok, Err, OnOk, IfOk, IfErr, is_err, false}
 use Rattle.cluster_types.specs.declared.config.Config.{Config}
 use Rattle.cluster_types.specs.declared.entry.Entry.{Entry}
-use Rattle.cluster_defs.specs.Scheduling.{due}
-use Rattle.cluster_defs.specs.Histories.{History, facts, kept}
+use Rattle.cluster_defs.specs.Histories.{History, kept}
 use Rattle.disk_model.specs.Crashes.{Only}
 use Rattle.task_journal.specs.declared.fault.OpenFault.{OpenFault}
 use Rattle.task_journal.specs.declared.fault.OpenFault.TheVariants.{NotAJournal, Damaged, DiskFault, OutOfMemory}
 use Rattle.task_journal.specs.declared.found.Found.{Found}
 use Rattle.task_journal.specs.Journal.{journal, StandsFor, IsSame, IsOfDisk, Fails, holding, entries_of}
 use Rattle.task_journal.specs.Settled.{Spared, OnRefusal, Unharmed}
-use Rattle.cluster_store.specs.Openings.{MayStand, IsFit, IsOpened, HasOpen, WhyNot, opened}
+use Rattle.cluster_store.specs.Openings.{IsFit, IsOpened, HasOpen, WhyNot, opened}
 use Rattle.cluster_store.specs.Remaking.{Refuses}
 use Rattle.cluster_store.specs.Stores.{written}
 use Rattle.cluster_store.proofs.Remade.{reverse_twice}

@@ -1,22 +1,17 @@
 -- A step of a history, and what becomes of the parts of it that a store keeps.
-use Rattle.std.proofs.Common.{◌≡◌, ◌⊎◌, inl, inr, ℕ, zero, suc, ◌+◌, ◌-◌, ◌<◌, ◌≤◌, List, [], ◌∷◌, ◌++◌, length, drop, reverse, append_assoc, append-nil, Bool, true, false, cond, refl, sym, ap, ◌∙◌, subst, arith, Option, Some, None, ⊎_elim}
-use Rattle.std.specs.Prelude.{nat_lt, nat_le}
-use Rattle.std.proofs.lemmas.Bool.{ltb-true, ltb-false, le-ltb, lt-ltb, le-leb, lt-leb, cases_lt}
+use Rattle.std.proofs.Common.{◌≡◌, ◌⊎◌, inl, inr, ℕ, suc, ◌+◌, ◌-◌, ◌<◌, ◌≤◌, List, [], ◌∷◌, ◌++◌, length, drop, reverse, append_assoc, append-nil, Bool, true, false, cond, refl, sym, ap, ◌∙◌, subst, arith, None, ⊎_elim}
+use Rattle.std.proofs.lemmas.Bool.{lt-ltb, cases_lt}
 use Rattle.std.proofs.lemmas.List.{length-append, drop_all, reverse-append}
 use Rattle.cluster_types.specs.declared.entry.Input.{Input as InputType}
-use Rattle.cluster_types.specs.declared.entry.Input.TheVariants.{Open, Up, Down, In, Beat, Time}
 use Rattle.cluster_types.specs.declared.entry.Entry.{Entry}
-use Rattle.cluster_types.specs.declared.entry.Entry.TheVariants.{Input, Hand, Settle, Lose}
+use Rattle.cluster_types.specs.declared.entry.Entry.TheVariants.{Input}
 use Rattle.cluster_defs.specs.Scheduling.{due, Allowed, is_kept}
 use Rattle.cluster_defs.specs.Histories.{History, facts, Legal, kept, decide_all}
-use Rattle.cluster_defs.specs.Lives.{kept_end, is_open}
 use Rattle.cluster_defs.specs.Runs.{Decided}
-use Rattle.cluster_defs.proofs.Says.{due_says}
 use Rattle.cluster_defs.proofs.Decide.{decide_all_none}
 use Rattle.cluster_laws.proofs.Kept.{not_kept_same}
 use Rattle.cluster_core.specs.Steps.{kept_from, kept_one}
-use Rattle.cluster_core.proofs.Growing.{due_kept, due_allowed, kept_more, kept_first}
-use Rattle.cluster_core.proofs.Plans.{decide_all_rests}
+use Rattle.cluster_core.proofs.Growing.{due_allowed, kept_more, kept_first}
 use Rattle.cluster_store.specs.Stores.{up_to, written}
 use Rattle.cluster_store.proofs.Fits.{decides_to, length_more}
 

@@ -1,9 +1,9 @@
 -- The outs that wait, once all is safe, and after a take.
-use Rattle.std.proofs.Common.{◌≡◌, ◌⊎◌, inl, inr, ⊎_elim, ℕ, zero, suc, ◌+◌, ◌-◌, ◌<◌, ◌≤◌, List, [], ◌∷◌, ◌++◌, length, drop, Bool, true, false, cond, not, ◌||◌, refl, sym, ap, ◌∙◌, subst, arith, Option, Some, None, map}
-use Rattle.std.specs.Prelude.{nat_lt, nat_le, slice_get, ◌==◌}
+use Rattle.std.proofs.Common.{◌≡◌, ℕ, zero, suc, ◌+◌, ◌-◌, ◌≤◌, List, [], ◌∷◌, ◌++◌, length, drop, Bool, true, false, cond, not, ◌||◌, refl, sym, ap, ◌∙◌, subst, arith, Option, Some, None, map}
+use Rattle.std.specs.Prelude.{nat_le, slice_get, ◌==◌}
 use Rattle.std.specs.List.{list_all}
-use Rattle.std.proofs.lemmas.Bool.{le-leb, lt-leb, leb-true, and_parts, and_from, eqb-true, eqb-false}
-use Rattle.std.proofs.lemmas.List.{length-append, length-map, map-append, drop-drop, length-drop}
+use Rattle.std.proofs.lemmas.Bool.{le-leb, leb-true, and_parts, and_from, eqb-true, eqb-false}
+use Rattle.std.proofs.lemmas.List.{drop-drop}
 use Rattle.std.proofs.lemmas.List.Folds.{list_all-append}
 use Rattle.cluster_types.specs.declared.out.Out.{Out}
 use Rattle.cluster_types.specs.declared.entry.Input.TheVariants.{Open, Up, Down, In, Beat, Time}
@@ -14,10 +14,9 @@ use Rattle.cluster_defs.specs.Histories.{History, facts}
 use Rattle.cluster_defs.specs.Outs.{outs, outs_on}
 use Rattle.cluster_defs.specs.Lives.{Sending, kept_end, sendings, sendings_to}
 use Rattle.cluster_store.specs.declared.waiting.Waiting.{Waiting}
-use Rattle.cluster_store.specs.declared.taken.Taken.{Taken}
 use Rattle.cluster_store.specs.declared.taken.Taken.TheVariants.{Out as Hands, NothingYet, Closed}
 use Rattle.cluster_store.specs.Queues.{released, after, handed, is_none_left}
-use Rattle.cluster_store.specs.Stores.{answer, one_more, told_by}
+use Rattle.cluster_store.specs.Stores.{answer, told_by}
 use Rattle.cluster_store.specs.Held.{judged, judged_by, told_of, IsWaiting}
 use Rattle.cluster_store.proofs.Waits.{marked, with_mark, WaitsAt, at_of}
 

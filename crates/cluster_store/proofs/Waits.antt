@@ -1,6 +1,6 @@
 -- The outs that wait, after a step, a flush and a take.
-use Rattle.std.proofs.Common.{◌≡◌, ◌⊎◌, inl, inr, ⊎_elim, ℕ, zero, suc, ◌+◌, ◌-◌, ◌<◌, ◌≤◌, List, [], ◌∷◌, ◌++◌, length, drop, append_assoc, append-nil, Bool, true, false, cond, refl, sym, ap, ◌∙◌, subst, arith, Option, Some, None, map}
-use Rattle.std.specs.Prelude.{nat_le, filter, ◌==◌, if◌then◌else◌}
+use Rattle.std.proofs.Common.{◌≡◌, ⊎_elim, ℕ, suc, ◌+◌, ◌-◌, ◌<◌, ◌≤◌, List, [], ◌∷◌, ◌++◌, length, drop, append_assoc, Bool, true, false, cond, refl, sym, ap, ◌∙◌, subst, arith, Some, map}
+use Rattle.std.specs.Prelude.{nat_le, ◌==◌, if◌then◌else◌}
 use Rattle.std.specs.List.{list_all}
 use Rattle.std.proofs.lemmas.Bool.{le-leb, lt-leb, leb-true, and_parts, and_from}
 use Rattle.std.proofs.lemmas.List.{length-append, length-map, map-append, drop-append-le}
@@ -23,7 +23,7 @@ use Rattle.cluster_store.specs.declared.waiting.Waiting.{Waiting}
 use Rattle.cluster_store.specs.Queues.{waiting_of, waits, need_after}
 use Rattle.cluster_store.specs.Held.{judged, judged_by, told_of, IsWaiting}
 use Rattle.cluster_store.proofs.Fits.{length_more}
-use Rattle.cluster_store.proofs.Stepping.{Step, step_longer}
+use Rattle.cluster_store.proofs.Stepping.{Step}
 
 -- SENDINGS
 

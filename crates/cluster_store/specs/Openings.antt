@@ -1,5 +1,5 @@
 -- Which lists of entries a store goes on from.
-use Rattle.std.specs.Prelude.{◌≡◌, ◌<◌, ℕ, suc, ◌⊎◌, List, [], ◌∷◌, ◌++◌, length, take, reverse, slice_get, Option, Some, None, Result, Ok, Err}
+use Rattle.std.specs.Prelude.{◌≡◌, ◌<◌, ℕ, suc, ◌⊎◌, List, [], ◌∷◌, ◌++◌, length, take, reverse, slice_get, Some, None, Ok, Err}
 use Rattle.cluster_types.specs.declared.config.Config.{Config}
 use Rattle.cluster_types.specs.declared.entry.Input.TheVariants.{Open}
 use Rattle.cluster_types.specs.declared.entry.Entry.{Entry}

@@ -1,5 +1,5 @@
 -- Which entries have records: all of a history whose inputs are within the limits.
-use Rattle.std.specs.Prelude.{◌≡◌, ℕ, length, ◌∷◌, Some, All}
+use Rattle.std.specs.Prelude.{◌≡◌, length, ◌∷◌, Some, All}
 use Rattle.cluster_types.specs.declared.entry.Input.{Input as InputType}
 use Rattle.cluster_types.specs.declared.entry.Entry.{Entry}
 use Rattle.cluster_types.specs.declared.entry.Entry.TheVariants.{Input}

@@ -1,11 +1,8 @@
 -- What contracts see of a store, and the world that it stands in.
-use Rattle.std.specs.Prelude.{◌≡◌, ◌≤◌, ℕ, suc, ◌-◌, ◌+◌, ◌^◌, min, ◌==◌, nat_le, List, [], ◌∷◌, ◌++◌, length, drop, map, slice_get, reverse, Option, Some, None, Bool, true, false, Result, Ok, Err, is_some, if◌then◌else◌}
-use Rattle.std.specs.List.{list_all}
-use Rattle.cluster_types.specs.declared.out.Out.{Out}
+use Rattle.std.specs.Prelude.{◌≡◌, ◌≤◌, ℕ, suc, ◌-◌, ◌+◌, ◌^◌, min, ◌==◌, nat_le, List, length, drop, slice_get, reverse, Option, Some, None, Bool, true, false, is_some, if◌then◌else◌}
 use Rattle.cluster_types.specs.declared.entry.Entry.{Entry}
 use Rattle.cluster_defs.specs.Connections.{channel_on}
-use Rattle.cluster_defs.specs.Scheduling.{due}
-use Rattle.cluster_defs.specs.Histories.{History, facts, Legal, kept}
+use Rattle.cluster_defs.specs.Histories.{History, facts, kept}
 use Rattle.cluster_defs.specs.Lives.{Sending, World, kept_end, sendings_to}
 use Rattle.cluster_core.specs.Steps.{kept_from}
 use Rattle.cluster_store.specs.Queues.{Lines, left_at}

@@ -1,5 +1,5 @@
-use Rattle.std.proofs.Common.{◌≡◌, ◌∙◌, List, [], length, sym, ap, subst}
-use Rattle.std.specs.Prelude.{slice_get, Some}
+use Rattle.std.proofs.Common.{◌∙◌, List, [], sym, ap, subst}
+use Rattle.std.specs.Prelude.{slice_get}
 use Rattle.cluster_types.specs.declared.entry.Entry.{Entry}
 use Rattle.cluster_store.specs.Openings.{IsCut}
 use Rattle.cluster_store.specs.Remaking.{Remakes}

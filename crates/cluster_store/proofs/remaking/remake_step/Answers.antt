@@ -2,10 +2,9 @@ use Rattle.std.proofs.Common.{◌≡◌, ◌∙◌, ◌+◌, ◌-◌, ◌<◌, �
 use Rattle.cluster_types.specs.declared.entry.Entry.TheVariants.{Input}
 use Rattle.cluster_defs.specs.Histories.{History, decide_all}
 use Rattle.cluster_core.proofs.Plans.{decide_all_rests}
-use Rattle.cluster_core.specs.Steps.{kept_from}
 use Rattle.cluster_store.specs.Openings.{IsFirstBad}
 use Rattle.cluster_store.specs.Remaking.{IsRemade}
-use Rattle.cluster_store.proofs.Remade.{Kept, plan_keeps, plan_allows, none_there, step_kept, none_kept, first_bad, decisions_are, step_bad, step_cut, step_made}
+use Rattle.cluster_store.proofs.Remade.{plan_keeps, plan_allows, none_there, step_kept, none_kept, first_bad, decisions_are, step_bad, step_cut, step_made}
 use Rattle.cluster_store.proofs.remaking.remake_step.Goals as goal
 
 pub returns-in-empty-clause-remade : goal.returns-in-empty-clause-remade

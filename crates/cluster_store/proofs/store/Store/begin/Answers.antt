@@ -1,9 +1,9 @@
-use Rattle.std.proofs.Common.{◌≡◌, ◌∙◌, ◌⊎◌, ℕ, sym, ap, subst, Result, OnOk, false}
+use Rattle.std.proofs.Common.{◌≡◌, ◌∙◌, ◌⊎◌, sym, ap, subst}
 use Rattle.cluster_defs.specs.Histories.{History}
 use Rattle.disk_model.specs.Crashes.{LeavesOnly}
 use Rattle.task_journal.specs.Journal.{StandsFor}
 use Rattle.cluster_store.specs.Openings.{opened}
-use Rattle.cluster_store.specs.Stores.{StoreView, Becomes, written}
+use Rattle.cluster_store.specs.Stores.{Becomes, written}
 use Rattle.cluster_store.proofs.Opens.{ok_of}
 use Rattle.cluster_store.proofs.store.Store.begin.Goals as goal
 

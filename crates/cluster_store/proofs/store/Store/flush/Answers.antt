@@ -1,7 +1,6 @@
-use Rattle.std.proofs.Common.{◌≡◌, ◌∙◌, ◌⊎◌, ℕ, List, length, false, sym, ap, subst}
+use Rattle.std.proofs.Common.{◌≡◌, ◌∙◌, ◌⊎◌, List, length, false, sym, ap, subst}
 use Rattle.std.proofs.lemmas.List.{length-reverse}
 use Rattle.cluster_types.specs.declared.entry.Entry.{Entry}
-use Rattle.cluster_defs.specs.Histories.{History}
 use Rattle.disk_model.specs.Crashes.{LeavesOnly}
 use Rattle.task_journal.specs.Journal.{StandsFor}
 use Rattle.cluster_store.specs.Held.{IsHeld}

@@ -1,13 +1,11 @@
-use Rattle.std.proofs.Common.{◌≡◌, ◌∙◌, ◌⊎◌, inl, inr, ℕ, List, reverse, refl, sym, ap, subst}
-use Rattle.cluster_types.specs.declared.entry.Entry.{Entry}
-use Rattle.cluster_defs.specs.Histories.{History}
+use Rattle.std.proofs.Common.{◌≡◌, ◌∙◌, ◌⊎◌, inl, reverse, refl, sym, ap, subst}
 use Rattle.cluster_core.specs.Steps.{CoreView}
 use Rattle.disk_model.specs.Crashes.{LeavesOnly}
 use Rattle.task_journal.specs.declared.fault.OpenFault.TheVariants.{DiskFault, OutOfMemory}
 use Rattle.task_journal.specs.Journal.{StandsFor, IsOfDisk}
 use Rattle.task_journal.specs.Settled.{Unharmed}
-use Rattle.cluster_store.specs.Openings.{IsFit, HasOpen, opened}
-use Rattle.cluster_store.specs.Stores.{StoreView, written}
+use Rattle.cluster_store.specs.Openings.{HasOpen, opened}
+use Rattle.cluster_store.specs.Stores.{written}
 use Rattle.cluster_store.proofs.Images.{chained, weakened}
 use Rattle.cluster_store.proofs.Opens.{fit_written, either_list, both_ok, three_err, of_disk_or_memory}
 use Rattle.cluster_store.proofs.store.Store.open.Goals as goal

@@ -1,4 +1,4 @@
-use Rattle.std.proofs.Common.{◌≡◌, ◌∙◌, ℕ, sym, ap, refl, subst, drop}
+use Rattle.std.proofs.Common.{◌≡◌, ◌∙◌, sym, ap, refl, subst, drop}
 use Rattle.cluster_defs.specs.Lives.{sendings_to}
 use Rattle.cluster_store.specs.declared.taken.Taken.{Taken}
 use Rattle.cluster_store.specs.Queues.{left_at, handed, released, after, is_none_left}
