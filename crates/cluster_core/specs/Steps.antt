@@ -7,11 +7,12 @@ use Rattle.cluster_types.specs.declared.entry.Entry.TheVariants.{Input}
 use Rattle.cluster_types.specs.declared.entry.Input.TheVariants.{Open}
 use Rattle.cluster_types.specs.declared.entry.Input.{Input as InputType}
 use Rattle.cluster_types.specs.declared.out.Out.{Out}
-use Rattle.cluster_defs.specs.Scheduling.{is_kept}
+use Rattle.cluster_defs.specs.Scheduling.{due, is_kept}
 use Rattle.cluster_defs.specs.Histories.{History, facts, Legal, place, asks_shutdown, is_stopping, decide_all}
 use Rattle.cluster_defs.specs.Outs.{outs_from}
 use Rattle.cluster_state.specs.Plain.{Plain, plain_of, InTime}
 use Rattle.cluster_core.specs.declared.size.HistorySize.{HistorySize}
+use Rattle.cluster_core.specs.Size.{size_since}
 
 -- what contracts see of a core: its history, the newest entry first, for how many entries it has room, and how much may
 -- come after an Open
@@ -55,6 +56,15 @@ pub record IsReadOff (history : History) (p : Plain) (at : ℕ) : Type 0 where
   pub time : AllInTime history
   pub data_are : p ≡ plain_of (facts history)
   pub place_is : at ≡ place history
+
+-- a legal history in time after which no decision is due, with what a core has counted of it
+pub record IsCounted (history : History) (live : ℕ) (stops : Bool) (size : HistorySize) : Type 0 where
+  pub legal : Legal history
+  pub rests : due (facts history) ≡ None
+  pub time : AllInTime history
+  pub live_is : live ≡ length (facts history).connections
+  pub stops_is : stops ≡ is_stopping history
+  pub size_is : size ≡ size_since history
 
 -- outs, kept entries and data are those of the input and the decisions so far
 pub record IsGrown (old : History) (p : PlanView) : Type 0 where

@@ -7,5 +7,3 @@ pub mod machine;
 pub mod meaning;
 pub mod plan;
 pub mod size;
-#[cfg(test)]
-mod tests;

@@ -59,19 +59,16 @@ pub struct Core {
 }
 
 impl Model for Core {
-    ghost use Rattle.std.specs.Prelude.{◌≡◌, ◌-◌, reverse, length, vec_len, vec_capacity, None};
+    ghost use Rattle.std.specs.Prelude.{◌-◌, reverse, vec_len, vec_capacity};
     ghost use Rattle.std.specs.Option.{ForSome};
-    ghost use Rattle.cluster_defs.specs.Scheduling.{due};
-    ghost use Rattle.cluster_defs.specs.Histories.{facts, Legal, is_stopping};
     ghost use Rattle.cluster_state.specs.Stands.{plain};
-    ghost use Rattle.cluster_core.specs.Size.{size_since};
-    ghost use Rattle.cluster_core.specs.Steps.{CoreView, AllInTime, IsReadOff};
+    ghost use Rattle.cluster_core.specs.Steps.{CoreView, IsCounted, IsReadOff};
 
     ghost Value = { CoreView };
 
     ghost view = { λ c. record { history = reverse c.entries.items; spare = vec_capacity c.entries - vec_len c.entries; limits = c.limits } };
 
-    ghost invariant = { λ c. Legal (reverse c.entries.items) × (due (facts (reverse c.entries.items)) ≡ None) × AllInTime (reverse c.entries.items) × (c.live ≡ length (facts (reverse c.entries.items)).connections) × (c.stops ≡ is_stopping (reverse c.entries.items)) × (c.size ≡ size_since (reverse c.entries.items)) × ForSome c.known (λ k. IsReadOff (reverse c.entries.items) (plain k.state) k.place) };
+    ghost invariant = { λ c. IsCounted (reverse c.entries.items) c.live c.stops c.size × ForSome c.known (λ k. IsReadOff (reverse c.entries.items) (plain k.state) k.place) };
 }
 
 impl Core {

@@ -191,6 +191,20 @@ impl Plan {
         before.behind_step(&self.input, self.decisions.as_slice())
     }
 
+    /// What the step sends, in order.
+    pub fn outs(&self) -> &[Out]
+        ensures { result.now ≡ self.now.outs }
+    {
+        self.outs.as_slice()
+    }
+
+    /// The entries of the step that a journal keeps, in order.
+    pub fn kept(&self) -> &[Entry]
+        ensures { result.now ≡ self.now.kept }
+    {
+        self.kept.as_slice()
+    }
+
     /// How many entries it has.
     pub(crate) fn steps(&self) -> usize
         ensures { result ≡ length self.now.decisions + 1 }

@@ -14,5 +14,3 @@ pub mod request;
 pub mod state;
 pub mod task;
 pub mod tasks;
-#[cfg(test)]
-mod tests;

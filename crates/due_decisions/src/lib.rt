@@ -8,5 +8,3 @@ mod handing;
 mod losing;
 mod rooms;
 mod settling;
-#[cfg(test)]
-mod tests;

@@ -11,5 +11,3 @@ mod rules;
 mod sends;
 mod sizes;
 mod steps;
-#[cfg(test)]
-mod tests;

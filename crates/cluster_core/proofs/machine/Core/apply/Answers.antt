@@ -18,15 +18,17 @@ add_step-requires c =
 pub invariant_of-self : goal.invariant_of-self
 invariant_of-self c =
     let a = applied_in c.args.self.now c.args.plan _ _ (reverse c.add_step.new.entries.items) c.self.view_is c.plan.view_is c.requires c.add_step.ensures in (
-      a.stands.legal,
-      a.rests,
-      a.stands.time,
-      c.live-self-inside.ensures ∙ ap (λ (p : Plain). length p.connections) a.stands.data_are,
-      a.stops,
-      c.size_behind-self-inside.ensures
-          ∙ ap (λ (s : HistorySize). sizes_next (size_next s (Input c.args.plan.input)) c.args.plan.decisions) c.self.invariant.5
-          ∙ planned_size (reverse c.self.inside.entries.items) c.args.plan
-          ∙ ap size_since (ap (planned (reverse c.self.inside.entries.items)) (sym c.plan.view_is) ∙ sym c.add_step.ensures),
+      record {
+        legal = a.stands.legal;
+        rests = a.rests;
+        time = a.stands.time;
+        live_is = c.live-self-inside.ensures ∙ ap (λ (p : Plain). length p.connections) a.stands.data_are;
+        stops_is = a.stops;
+        size_is = c.size_behind-self-inside.ensures
+            ∙ ap (λ (s : HistorySize). sizes_next (size_next s (Input c.args.plan.input)) c.args.plan.decisions) c.self.invariant.0.size_is
+            ∙ planned_size (reverse c.self.inside.entries.items) c.args.plan
+            ∙ ap size_since (ap (planned (reverse c.self.inside.entries.items)) (sym c.plan.view_is) ∙ sym c.add_step.ensures);
+      },
       only_some (λ k. IsReadOff (reverse c.add_step.new.entries.items) (plain k.state) k.place) c.plan.inside.known a.stands,
     )
 

@@ -7,10 +7,5 @@ use Rattle.cluster_core.proofs.machine.Core.keep_known.Goals as goal
 pub invariant_of-self : goal.invariant_of-self
 invariant_of-self c = (
   c.self.invariant.0,
-  c.self.invariant.1,
-  c.self.invariant.2,
-  c.self.invariant.3,
-  c.self.invariant.4,
-  c.self.invariant.5,
   only_some _ _ (subst (λ (core : CoreView). IsReadOff core.history (plain c.args.known.state) c.args.known.place) (sym c.self.view_is) c.requires),
 )

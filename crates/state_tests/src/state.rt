@@ -4,17 +4,17 @@ ghost use Rattle.std.specs.Prelude.{◌≡◌, None, IfOk};
 ghost use Rattle.cluster_types.specs.declared.entry.Entry.{Entry};
 ghost use Rattle.cluster_state.specs.Plain.{InTime};
 
-use crate::acceptance::{connection_on, is_invalid, is_known, targets_of};
-use crate::attempts::{Attempts, Ending, engine_of, is_never, one_more, runs, runs_at};
-use crate::engines::{
+use cluster_defs::acceptance::Acceptance;
+use cluster_defs::engine::{Engine, Joining};
+use cluster_state::acceptance::{connection_on, is_invalid, is_known, targets_of};
+use cluster_state::attempts::{Attempts, Ending, engine_of, is_never, one_more, runs, runs_at};
+use cluster_state::engines::{
     conn_of, end_engine, engine_named, engine_on, joining, mark_on, number_on, raises_some,
     use_engine,
 };
-use crate::outcomes::outcome_for;
-use crate::state::State;
-use crate::task::Settled;
-use cluster_defs::acceptance::Acceptance;
-use cluster_defs::engine::{Engine, Joining};
+use cluster_state::outcomes::outcome_for;
+use cluster_state::state::State;
+use cluster_state::task::Settled;
 use cluster_types::config::{Channel, Scheme};
 use cluster_types::entry::{Entry, Input};
 use cluster_types::event::{Dep, Event, Submission};

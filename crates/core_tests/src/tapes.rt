@@ -3,7 +3,6 @@
 ghost use Rattle.std.specs.Prelude.{◌≡◌, ◌<◌, length};
 ghost use Rattle.cluster_defs.specs.Scheduling.{pick};
 
-use crate::drive::{Drive, Stop};
 use cluster_core::machine::Core;
 use cluster_core::size::HistorySize;
 use cluster_types::config::{Channel, Scheme};
@@ -15,6 +14,7 @@ use load_schemes::place::place_of;
 use std::alloc::{AllocError, Global};
 use std::test::Fail;
 use tape::record::{TapeKind, TapeRecord};
+use tape_drive::drive::{Drive, Stop};
 
 /// A greeting as libzmq sends it: a length in the padding, and version 3.1.
 const GREETING: &[u8; 64] =

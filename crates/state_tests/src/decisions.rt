@@ -3,7 +3,6 @@
 ghost use Rattle.std.specs.Prelude.{◌≡◌, ◌<◌, length, None, IfOk};
 ghost use Rattle.cluster_defs.specs.Scheduling.{pick};
 
-use crate::due::due;
 use cluster_defs::engine::Engine;
 use cluster_state::request::Request;
 use cluster_state::state::State;
@@ -16,6 +15,7 @@ use cluster_types::sequence::Sequence;
 use cluster_types::shared_message::SharedMessage;
 use cluster_types::text::Text;
 use cluster_types::verdict::{Cause, Verdict};
+use due_decisions::due::due;
 use load_schemes::chooser::{Choose, Chooser};
 use load_schemes::place::place_of;
 use std::alloc::{AllocError, Global};

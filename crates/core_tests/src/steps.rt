@@ -5,9 +5,9 @@ ghost use Rattle.cluster_types.specs.declared.entry.Entry.{Entry};
 ghost use Rattle.cluster_defs.specs.Scheduling.{pick};
 ghost use Rattle.cluster_state.specs.Plain.{InTime};
 
-use crate::machine::Core;
-use crate::plan::PlanError;
-use crate::size::HistorySize;
+use cluster_core::machine::Core;
+use cluster_core::plan::PlanError;
+use cluster_core::size::HistorySize;
 use cluster_types::config::{Channel, Scheme};
 use cluster_types::entry::Input;
 use cluster_types::octets::Octets;

@@ -1,0 +1,8 @@
+//! Tests of the core, and of what stands on it. They stand in a crate of their own since a crate that has tests is proved
+//! twice.
+#![tactic(auto)]
+
+#[cfg(test)]
+mod steps;
+#[cfg(test)]
+mod tapes;
