@@ -1,5 +1,5 @@
 -- Octets of a disk that were read and not yet taken.
-use Rattle.std.specs.Prelude.{◌≡◌, ℕ, ◌+◌, ◌-◌, ◌≤◌, List, [], ◌∷◌, length, take, drop, Option, Some, None, Result, Ok, Err}
+use Rattle.std.specs.Prelude.{◌≡◌, ℕ, ◌+◌, ◌-◌, ◌<◌, ◌≤◌, List, [], ◌∷◌, length, take, drop, Option, Some, None, Result, Ok, Err}
 use Rattle.task_journal.specs.declared.fault.OpenFault.{OpenFault}
 use Rattle.task_journal.specs.declared.fault.OpenFault.TheVariants.{NotAJournal, Damaged, DiskFault, OutOfMemory}
 use Rattle.task_journal.specs.declared.found.Found.{Found}
@@ -27,6 +27,11 @@ abbrev pub Steps : ℕ → List ℕ → ℕ → Found → Found → Result (Opti
 Steps size disk gate old new (Ok None) = with_front old (found_from size 0 (drop gate disk)) ≡ Ok (behind new (record { entries = []; places = gate ∷ [] }))
 Steps size disk gate old new (Ok (Some next)) = with_front old (found_from size 0 (drop gate disk)) ≡ with_front new (found_from size 0 (drop next disk))
 Steps size disk gate old new (Err e) = Fails e (with_front old (found_from size 0 (drop gate disk)))
+
+-- The next gate, where there is one, lies behind the gate before it, and that one before the disk's end.
+abbrev pub Rises : ℕ → ℕ → Option ℕ → Type 0
+Rises gate size None = Unit {0}
+Rises gate size (Some next) = (gate < size) × (gate < next)
 
 -- whether a disk has the head of a journal, as a call answered it
 abbrev pub HasHead : List ℕ → Result (Unit {0}) OpenFault → Type 0

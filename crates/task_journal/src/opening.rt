@@ -1,9 +1,10 @@
 //! Opening a journal.
 
-ghost use Rattle.std.specs.Prelude.{◌≡◌, ◌≤◌, ◌<◌, ◌⊎◌, List, ℕ, [], ◌∷◌, ◌++◌, length, false, Ok, Err, IfOk, IfErr, OnOk, IsErr, IsErrOf};
+ghost use Rattle.std.specs.Prelude.{◌≡◌, ◌≤◌, ◌<◌, ◌+◌, ◌⊎◌, List, ℕ, [], ◌∷◌, ◌++◌, length, false, Ok, Err, All, IfOk, IfErr, OnOk, IsErr, IsErrOf};
 ghost use Rattle.cluster_types.specs.declared.entry.Entry.{Entry as EntryType};
 ghost use Rattle.cluster_types.specs.Causes.{Rose};
 ghost use Rattle.disk_model.specs.Crashes.{Only, NoMore, LeavesOnly};
+ghost use Rattle.record_codec.specs.Spelling.{HasRecord};
 ghost use Rattle.task_journal.specs.Journal.{StandsFor, Gives, Fails, IsSame, head, holding, journal};
 ghost use Rattle.task_journal.specs.Settled.{IsReady, Unharmed, Spared, OnRefusal};
 
@@ -45,6 +46,8 @@ fn make<D: Disk>(disk: &mut D) -> Result<(), Failed>
 /// Reads a journal, and makes its head where it has none. What was read is what the disk held before.
 fn prepare<D: Disk>(alloc: Global, disk: &mut D) -> Result<(Found, u64), OpenFault>
     ensures value { D.tells → Gives (λ x. x.0) result (journal (D.content disk.old)) }
+    ensures has { IfOk result (λ x. All HasRecord x.0.entries) }
+    ensures count { IfOk result (λ x. length x.0.places ≡ length x.0.entries + 1) }
     ensures ready { D.tells → IfOk result (λ x. IsReady D.content D.image disk.new x.1) }
     ensures same { D.tells → OnOk result (IsSame (D.content disk.new) (D.content disk.old)) }
     ensures kept { D.tells → 33 ≤ length (D.content disk.old) → OnOk result (D.content disk.new ≡ D.content disk.old) }
@@ -71,6 +74,8 @@ impl<D: Disk> Journal<D> {
     /// made. A refusal hands the disk back: it is untouched where it holds no journal or a damaged one.
     pub fn open(alloc: Global, disk: D) -> Result<(Journal<D>, Entries, Places), Refused<D>>
         ensures found { D.tells → IfOk result (λ x. journal (D.content disk) ≡ Ok (holding x.1 x.2)) }
+        ensures has { IfOk result (λ x. All HasRecord x.1) }
+        ensures count { IfOk result (λ x. length x.2 ≡ length x.1 + 1) }
         // Nothing is written but the head of a disk of fewer than 33 octets.
         ensures kept { D.tells → 33 ≤ length (D.content disk) → IfOk result (λ x. D.content x.0.disk ≡ D.content disk) }
         ensures made { D.tells → length (D.content disk) < 33 → IfOk result (λ x. D.content x.0.disk ≡ head ++ 0 ∷ 0 ∷ []) }

@@ -1,11 +1,12 @@
 //! Reading a journal.
 
-ghost use Rattle.std.specs.Prelude.{◌≡◌, ◌≤◌, ◌<◌, ◌^◌, length, drop, Some, IfOk, OnOk, IsErrOf};
+ghost use Rattle.std.specs.Prelude.{◌≡◌, ◌≤◌, ◌<◌, ◌+◌, ◌^◌, length, drop, Some, All, IfOk, OnOk, IsErrOf};
 ghost use Rattle.cluster_types.specs.Causes.{Rose};
+ghost use Rattle.record_codec.specs.Spelling.{HasRecord};
 ghost use Rattle.task_journal.specs.Reads.{OnlyReads};
 ghost use Rattle.octet_fields.specs.Difference.{difference};
 ghost use Rattle.task_journal.specs.Journal.{Gives, Fails, with_front, records_at, found_from, head, journal, holding, last_of};
-ghost use Rattle.task_journal.specs.Window.{Ready, Shows, span, Steps, HasHead};
+ghost use Rattle.task_journal.specs.Window.{Ready, Shows, span, Steps, Rises, HasHead};
 
 use crate::disk_calls::{read_into, size_of};
 use crate::fault::OpenFault;
@@ -28,6 +29,8 @@ fn read_records<D: Disk>(
     requires { D.tells → Shows window.old end (D.content disk.old) }
     ensures value { D.tells → Gives (λ _. found.new) result
         (with_front found.old (records_at count end (span window.old.place end (D.content disk.old)))) }
+    ensures has { All HasRecord found.old.entries → OnOk result (All HasRecord found.new.entries) }
+    ensures count { length found.old.places ≡ length found.old.entries → OnOk result (length found.new.places ≡ length found.new.entries) }
     ensures reads { OnlyReads D.content D.image D.moment D.image_since D.faults disk.old disk.new }
     ensures cause { IsErrOf result OpenFault.DiskFault → Rose (D.faults disk.old) (D.faults disk.new) }
 {
@@ -54,6 +57,9 @@ fn next_batch<D: Disk>(
 ) -> Result<Option<u64>, OpenFault>
     requires { D.tells → size ≡ length (D.content disk.old) }
     ensures value { D.tells → Steps size (D.content disk.old) gate found.old found.new result }
+    ensures rises { IfOk result (Rises gate size) }
+    ensures has { All HasRecord found.old.entries → OnOk result (All HasRecord found.new.entries) }
+    ensures count { length found.old.places ≡ length found.old.entries → OnOk result (length found.new.places ≡ length found.new.entries) }
     ensures reads { OnlyReads D.content D.image D.moment D.image_since D.faults disk.old disk.new }
     ensures cause { IsErrOf result OpenFault.DiskFault → Rose (D.faults disk.old) (D.faults disk.new) }
 {
@@ -81,6 +87,8 @@ fn read_batches<D: Disk>(alloc: Global, disk: &mut D, size: u64) -> Result<(Foun
     requires { D.tells → size ≡ length (D.content disk.old) }
     ensures value { D.tells → Gives (λ x. x.0) result (found_from size 31 (D.content disk.old)) }
     ensures gate { IfOk result (λ x. last_of x.0.places ≡ Some x.1) }
+    ensures has { IfOk result (λ x. All HasRecord x.0.entries) }
+    ensures count { IfOk result (λ x. length x.0.places ≡ length x.0.entries + 1) }
     ensures reads { OnlyReads D.content D.image D.moment D.image_since D.faults disk.old disk.new }
     ensures cause { IsErrOf result OpenFault.DiskFault → Rose (D.faults disk.old) (D.faults disk.new) }
 {
@@ -90,7 +98,7 @@ fn read_batches<D: Disk>(alloc: Global, disk: &mut D, size: u64) -> Result<(Foun
     };
     let mut window = Window::new(alloc);
     let mut gate = 31;
-    for _ in 0..size {
+    loop {
         match next_batch(alloc, disk, &mut window, size, gate, &mut found)? {
             None => {
                 found.places.push(gate)?;
@@ -99,7 +107,6 @@ fn read_batches<D: Disk>(alloc: Global, disk: &mut D, size: u64) -> Result<(Foun
             Some(next) => gate = next,
         }
     }
-    Err(OpenFault::OutOfMemory)
 }
 
 /// The place of the first octet that differs.
@@ -136,6 +143,8 @@ fn check_head<D: Disk>(disk: &mut D) -> Result<(), OpenFault>
 pub(crate) fn read_found<D: Disk>(alloc: Global, disk: &mut D) -> Result<(Found, u64), OpenFault>
     ensures value { D.tells → Gives (λ x. x.0) result (journal (D.content disk.old)) }
     ensures gate { IfOk result (λ x. last_of x.0.places ≡ Some x.1) }
+    ensures has { IfOk result (λ x. All HasRecord x.0.entries) }
+    ensures count { IfOk result (λ x. length x.0.places ≡ length x.0.entries + 1) }
     ensures fits { D.tells → OnOk result (length (D.content disk.old) < 2 ^ 64) }
     ensures reads { OnlyReads D.content D.image D.moment D.image_since D.faults disk.old disk.new }
     ensures cause { IsErrOf result OpenFault.DiskFault → Rose (D.faults disk.old) (D.faults disk.new) }
@@ -156,6 +165,8 @@ pub(crate) fn read_found<D: Disk>(alloc: Global, disk: &mut D) -> Result<(Found,
 /// A disk of fewer than 33 octets stands for no entries, and the one place is 0. Nothing is written.
 pub fn read_journal<D: Disk>(alloc: Global, disk: &mut D) -> Result<(Entries, Places), OpenFault>
     ensures value { D.tells → Gives (λ x. holding x.0 x.1) result (journal (D.content disk.old)) }
+    ensures has { IfOk result (λ x. All HasRecord x.0) }
+    ensures count { IfOk result (λ x. length x.1 ≡ length x.0 + 1) }
     ensures reads { OnlyReads D.content D.image D.moment D.image_since D.faults disk.old disk.new }
     ensures cause { IsErrOf result OpenFault.DiskFault → Rose (D.faults disk.old) (D.faults disk.new) }
 {

@@ -64,6 +64,46 @@ fn read(alloc: Global, octets: &[u8]) -> Result<usize, OpenFault> {
     Ok(entries.len())
 }
 
+/// The number of entries that are read from a disk whose call of that number fails, or why there are none.
+fn read_failing(alloc: Global, octets: &[u8], call: u64) -> Result<usize, OpenFault> {
+    let mut disk = FuseDisk::new(MemDisk::new(alloc, octets)?, call);
+    let (entries, _) = read_journal(alloc, &mut disk)?;
+    Ok(entries.len())
+}
+
+#[test]
+fn each_read_fails(rt: HostRuntime) -> Result<(), Fail> {
+    // The size and the head; then three gates, each with its records, and the closed gate.
+    for call in 1..11 {
+        let answer = if call < 10 {
+            Err(OpenFault::DiskFault)
+        } else {
+            Ok(4)
+        };
+        assert_eq!(rt; read_failing(rt.alloc(), &THREE, call), answer, "{call}");
+    }
+    Ok(())
+}
+
+/// The number of entries with which a journal of so many batches opens, each the loss of engine 4.
+fn open_batches(alloc: Global, count: usize) -> Result<usize, OpenFault> {
+    let mut octets = Vec::from_slice(alloc, &ONE_OPEN[..31])?;
+    for _ in 0..count {
+        octets.extend_from_slice(&[0xa7, 0, 0, 0, 0, 5, 0, 0, 0, 1, 9, 0, 0, 0, 4])?;
+    }
+    octets.extend_from_slice(&[0, 0])?;
+    match Journal::open(alloc, MemDisk::new(alloc, octets.as_slice())?) {
+        Ok((_, entries, _)) => Ok(entries.len()),
+        Err(refused) => Err(refused.why),
+    }
+}
+
+#[test]
+fn many_batches_open(rt: HostRuntime) -> Result<(), Fail> {
+    assert_eq!(rt; open_batches(rt.alloc(), 1_025), Ok(1_025));
+    Ok(())
+}
+
 /// Opens the journal of a disk whose call of that number fails, appends an Open, and says what came of it: 0 where the
 /// journal wasn't opened, 1 where the batch wasn't appended, 2 where it was. With it the octets of the disk.
 fn opened(rt: &impl Abort, alloc: Global, call: u64) -> Result<(u8, MemDisk), AllocError> {

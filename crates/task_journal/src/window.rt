@@ -3,6 +3,7 @@
 ghost use Rattle.std.specs.Prelude.{◌≡◌, ◌≤◌, ◌<◌, ◌+◌, ◌^◌, ◌++◌, [], length, take, drop, IfOk, IfErr, OnOk, IsErrOf};
 ghost use Rattle.octet_fields.specs.Reading.{Gives as FieldGives};
 ghost use Rattle.record_codec.specs.Reading.{entry_at};
+ghost use Rattle.record_codec.specs.Spelling.{HasRecord};
 ghost use Rattle.cluster_types.specs.Causes.{Rose};
 ghost use Rattle.task_journal.specs.Reads.{OnlyReads};
 ghost use Rattle.task_journal.specs.Journal.{Gives, IsOfDisk, record_at};
@@ -90,6 +91,7 @@ impl Window {
         requires fits { D.tells → self.old.place + length self.old.octets < 2 ^ 64 }
         ensures octets { D.tells → OnOk result (self.new.octets
             ≡ self.old.octets ++ take n (drop (self.old.place + length self.old.octets) (D.content disk.old))) }
+        ensures more { OnOk result (length self.new.octets ≡ length self.old.octets + n) }
         ensures place { self.new.place ≡ self.old.place }
         ensures reads { OnlyReads D.content D.image D.moment D.image_since D.faults disk.old disk.new }
         ensures fault { IfErr result IsOfDisk }
@@ -113,6 +115,7 @@ fn read_behind<D: Disk>(
     requires { D.tells → at + n ≤ length (D.content disk.old) }
     ensures octets { D.tells → OnOk result (octets.new.items
         ≡ octets.old.items ++ take n (drop at (D.content disk.old))) }
+    ensures more { OnOk result (length octets.new.items ≡ length octets.old.items + n) }
     ensures reads { OnlyReads D.content D.image D.moment D.image_since D.faults disk.old disk.new }
     ensures fault { IfErr result IsOfDisk }
     ensures cause { IsErrOf result OpenFault.DiskFault → Rose (D.faults disk.old) (D.faults disk.new) }
@@ -127,6 +130,7 @@ fn read_behind<D: Disk>(
 fn front_record(alloc: Global, octets: &[u8]) -> Result<(Entry, usize), ReadError>
     ensures value { FieldGives (λ x. (x.0, drop x.1 octets.now)) result (entry_at octets.now) }
     ensures inside { IfOk result (λ x. x.1 ≤ length octets.now) }
+    ensures has { IfOk result (λ x. HasRecord x.0) }
 {
     let (entry, rest) = read_front(alloc, octets)?;
     Ok((entry, octets.len().saturating_sub(rest.len())))
@@ -143,10 +147,11 @@ pub fn next_record<D: Disk>(
     ensures value { D.tells → Gives (λ e. (e, span window.new.place end (D.content disk.old))) result
         (record_at end (span window.old.place end (D.content disk.old))) }
     ensures shows { D.tells → OnOk result (Shows window.new end (D.content disk.old)) }
+    ensures has { IfOk result HasRecord }
     ensures reads { OnlyReads D.content D.image D.moment D.image_since D.faults disk.old disk.new }
     ensures cause { IsErrOf result OpenFault.DiskFault → Rose (D.faults disk.old) (D.faults disk.new) }
 {
-    for _ in 0..u64::MAX {
+    loop {
         match front_record(alloc, window.octets()) {
             Ok((entry, taken)) => {
                 window.take(taken);
@@ -165,5 +170,4 @@ pub fn next_record<D: Disk>(
             }
         }
     }
-    Err(OpenFault::OutOfMemory)
 }

@@ -1,5 +1,7 @@
-use Rattle.std.proofs.Common.{◌≡◌, ◌<◌, length, sym, ◌∙◌, arith}
+use Rattle.std.proofs.Common.{◌≡◌, ◌<◌, [], ◌∷◌, length, length-append, sym, ◌∙◌, arith}
 use Rattle.std.proofs.lemmas.Result.{err_from_is_err_and}
+use Rattle.std.proofs.lemmas.List.Elements.{All-push}
+use Rattle.record_codec.specs.Spelling.{HasRecord}
 use Rattle.task_journal.specs.Window.{span}
 use Rattle.task_journal.specs.Journal.{with_front, records_at}
 use Rattle.task_journal.proofs.Calls.{reads_joined}
@@ -25,6 +27,10 @@ loop-preserved g c = record {
       (record_on c.loop.found c.args.count c.loop.counter c.args.end c.place-place.result (span c.loop.window.place c.args.end disk) c.in_ok-entry.entry (span c.next_record.new.window.place c.args.end disk)
       (with_front c.args.found.now (records_at c.args.count c.args.end (span c.args.window.now.place c.args.end disk))) (omega arith) place read (c.loop.invariant.found told));
   reads = reads_joined c.loop.invariant.reads c.next_record.ensures.reads;
+  has = λ old. rw c.in_ok-push.ensures.ok (All-push HasRecord c.loop.found.entries c.in_ok-entry.entry (c.loop.invariant.has old) c.in_ok-entry.ensures.has);
+  count = λ old.
+      rw (c.in_ok-push.ensures.ok, c.in_ok-push-2.ensures.ok)
+      (omega (arith, length-append c.loop.found.places (c.place-place.result ∷ []), length-append c.loop.found.entries (c.in_ok-entry.entry ∷ []), c.loop.invariant.count old));
 }
 
 pub returns-then-place-end-clause-value : goal.returns-then-place-end-clause-value
