@@ -5,4 +5,6 @@
 #[cfg(test)]
 mod steps;
 #[cfg(test)]
+mod stores;
+#[cfg(test)]
 mod tapes;

@@ -1,0 +1,10 @@
+pub mod Fits
+pub mod Holding
+pub mod Images
+pub mod Lived
+pub mod Names
+pub mod Opens
+pub mod Remade
+pub mod Stepping
+pub mod Taking
+pub mod Waits

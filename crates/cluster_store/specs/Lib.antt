@@ -1,0 +1,7 @@
+pub mod Held
+pub mod Openings
+pub mod Queues
+pub mod Records
+pub mod Remaking
+pub mod Stores
+pub mod Worlds

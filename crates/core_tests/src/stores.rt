@@ -1,0 +1,235 @@
+//! A store over disks in memory, one of which fails.
+
+ghost use Rattle.std.specs.Prelude.{◌≡◌, ◌<◌, length, false, IfOk};
+ghost use Rattle.cluster_types.specs.declared.entry.Entry.{Entry};
+ghost use Rattle.cluster_defs.specs.Lives.{is_open};
+ghost use Rattle.cluster_defs.specs.Scheduling.{pick};
+ghost use Rattle.record_codec.specs.Spelling.{IsWithinLimits};
+
+use cluster_store::fault::StepError;
+use cluster_store::store::Store;
+use cluster_store::taken::Taken;
+use cluster_types::config::{Channel, Config, Scheme};
+use cluster_types::entry::Input;
+use cluster_types::octets::Octets;
+use cluster_types::sequence::Sequence;
+use cluster_types::shared_message::SharedMessage;
+use disk_model::fuse::FuseDisk;
+use disk_model::memory::MemDisk;
+use load_schemes::chooser::{Choose, Chooser};
+use load_schemes::place::place_of;
+use std::alloc::{AllocError, Global};
+use std::test::Fail;
+use task_journal::fault::AppendFault;
+use task_journal::reading::read_journal;
+
+/// What a take is to answer.
+#[derive(Clone, Copy, Debug, PartialEq, Eq)]
+enum Answer {
+    Out,
+    NothingYet,
+    Closed,
+}
+
+/// What is done to a store.
+#[derive(Clone, Copy, Debug)]
+enum Act {
+    Up(u32, Channel),
+    Say(u32, &'static [u8], &'static [u8]),
+    Down(u32),
+    Flush(Result<(), AppendFault>),
+    Take(u32, Answer),
+}
+
+const CONFIG: Config = Config {
+    scheme: Scheme::LeastLoad,
+    hwm: 1,
+    misses: 10,
+    entries: 1000,
+    bytes: 1_000_000,
+};
+
+/// An engine joins, and is handed a task; a question is answered without a flush.
+const SESSION: &[Act] = &[
+    Act::Take(1, Answer::Closed),
+    Act::Up(1, Channel::Engine),
+    Act::Take(1, Answer::NothingYet),
+    Act::Say(
+        1,
+        b"{\"msg_id\":\"j\",\"msg_type\":\"registration_request\"}",
+        b"{\"uuid\":\"e0\"}",
+    ),
+    Act::Take(1, Answer::NothingYet),
+    Act::Flush(Ok(())),
+    Act::Take(1, Answer::Out),
+    Act::Take(1, Answer::NothingYet),
+    Act::Up(2, Channel::Task),
+    Act::Say(
+        2,
+        b"{\"msg_id\":\"a\",\"msg_type\":\"execute_request\"}",
+        b"{\"code\":\"6*7\"}",
+    ),
+    Act::Take(1, Answer::NothingYet),
+    Act::Up(3, Channel::Hub),
+    Act::Flush(Ok(())),
+    Act::Take(1, Answer::Out),
+    Act::Say(
+        3,
+        b"{\"msg_id\":\"c\",\"msg_type\":\"connection_request\"}",
+        b"{}",
+    ),
+    Act::Take(3, Answer::Out),
+    Act::Down(3),
+    Act::Take(3, Answer::Closed),
+    Act::Flush(Ok(())),
+];
+
+/// Three steps, and a flush that fails: nothing is let out.
+const FAULT: &[Act] = &[
+    Act::Up(1, Channel::Engine),
+    Act::Up(2, Channel::Task),
+    Act::Up(3, Channel::Hub),
+    Act::Flush(Err(AppendFault::DiskFault)),
+    Act::Flush(Err(AppendFault::Reopen)),
+    Act::Take(1, Answer::NothingYet),
+];
+
+fn up(alloc: Global, conn: u32, channel: Channel) -> Result<Input, AllocError>
+    ensures fits { IfOk result (λ i. IsWithinLimits (Entry.Input i)) }
+    ensures no_open { IfOk result (λ i. is_open (Entry.Input i) ≡ false) }
+{
+    let identity = Octets::new(alloc, b"e")?;
+    Ok(Input::Up {
+        conn,
+        channel,
+        moment: 0,
+        word: 0,
+        identity,
+    })
+}
+
+fn down(conn: u32) -> Input
+    ensures fits { IsWithinLimits (Entry.Input result) }
+    ensures no_open { is_open (Entry.Input result) ≡ false }
+{
+    Input::Down {
+        conn,
+        moment: 0,
+        word: 0,
+    }
+}
+
+fn said(alloc: Global, conn: u32, header: &[u8], content: &[u8]) -> Result<Input, AllocError>
+    requires header { length header.now < 1000 }
+    requires content { length content.now < 1000 }
+    ensures fits { IfOk result (λ i. IsWithinLimits (Entry.Input i)) }
+    ensures no_open { IfOk result (λ i. is_open (Entry.Input i) ≡ false) }
+{
+    let buffers = Sequence::new(alloc);
+    let message = SharedMessage::new(alloc, b"", header, b"{}", b"{}", content, buffers)?;
+    Ok(Input::In {
+        conn,
+        moment: 0,
+        word: 0,
+        message,
+    })
+}
+
+/// Takes the step of an input where it may come.
+fn enter(store: &mut Store<FuseDisk>, chooser: &Chooser, input: Input) -> Result<bool, StepError>
+    requires fits { IsWithinLimits (Entry.Input input) }
+    requires no_open { is_open (Entry.Input input) ≡ false }
+{
+    let meaning = store.understand(&input)?;
+    if !store.may_take(&input, &meaning.event)? {
+        return Ok(false);
+    }
+    store.step(chooser, input, meaning)?;
+    Ok(true)
+}
+
+fn is_answer(taken: &Taken, answer: Answer) -> bool {
+    match taken {
+        Taken::Out(_) => answer == Answer::Out,
+        Taken::NothingYet => answer == Answer::NothingYet,
+        Taken::Closed => answer == Answer::Closed,
+    }
+}
+
+/// Whether an act comes out as it is to.
+fn does(
+    alloc: Global,
+    store: &mut Store<FuseDisk>,
+    chooser: &Chooser,
+    act: Act,
+) -> Result<bool, StepError> {
+    match act {
+        Act::Up(conn, channel) => enter(store, chooser, up(alloc, conn, channel)?),
+        Act::Say(conn, header, content) => {
+            if header.len() >= 1000 || content.len() >= 1000 {
+                return Ok(false);
+            }
+            enter(store, chooser, said(alloc, conn, header, content)?)
+        }
+        Act::Down(conn) => enter(store, chooser, down(conn)),
+        Act::Flush(answer) => Ok(store.flush() == answer),
+        Act::Take(conn, answer) => Ok(is_answer(&store.take_out(conn), answer)),
+    }
+}
+
+/// A store over an empty disk that fails at a call, and what its acts come to.
+fn played(
+    alloc: Global,
+    chooser: &Chooser,
+    call: u64,
+    acts: &[Act],
+) -> Result<Option<Store<FuseDisk>>, StepError> {
+    let disk = FuseDisk::new(MemDisk::new(alloc, b"")?, call);
+    let mut store = match Store::open(alloc, disk, CONFIG, chooser, 0) {
+        Ok(store) => store,
+        Err(_) => return Ok(None),
+    };
+    for act in acts {
+        if !does(alloc, &mut store, chooser, *act)? {
+            return Ok(None);
+        }
+    }
+    Ok(Some(store))
+}
+
+/// Calls of the disk that fail, and what is left then: how many entries the store has, its mark, whether it failed, and
+/// how many entries and octets the disk holds.
+const PLAYED: &[(u64, &[Act], (usize, u64, bool, usize, usize))] = &[
+    (0, SESSION, (9, 9, false, 8, 394)),
+    (11, FAULT, (4, 1, true, 1, 60)),
+    (14, FAULT, (4, 1, true, 4, 142)),
+];
+
+#[test]
+fn stores(rt: HostRuntime) -> Result<(), Fail> {
+    let alloc = rt.alloc();
+    for (call, acts, left) in PLAYED {
+        let choose: Choose = Box::new(
+            alloc,
+            |scheme: Scheme, loads: &[u32], word: u64| -> usize
+                requires { 0 < length loads.now }
+                ensures { result ≡ pick scheme loads.now word }
+            { place_of(scheme, loads, word) },
+        )?;
+        match played(alloc, &Chooser::new(choose), *call, acts) {
+            Ok(Some(store)) => {
+                let told = (store.history().len(), store.mark(), store.failed());
+                let mut disk = store.close().into_disk();
+                let octets = disk.content().len();
+                match read_journal(alloc, &mut disk) {
+                    Ok((entries, _)) => {
+                        assert_eq!(rt; (told.0, told.1, told.2, entries.len(), octets), *left);
+                    }
+                    Err(_) => assert!(rt; false),
+                }
+            }
+            _ => assert!(rt; false, "{call}"),
+        }
+    }
+    Ok(())
+}
