@@ -7,6 +7,7 @@ ghost use Rattle.cluster_defs.specs.Scheduling.{pick};
 ghost use Rattle.record_codec.specs.Spelling.{IsWithinLimits};
 
 use cluster_store::fault::StepError;
+use cluster_store::opening::read_list;
 use cluster_store::store::Store;
 use cluster_store::taken::Taken;
 use cluster_types::config::{Channel, Config, Scheme};
@@ -237,6 +238,100 @@ fn stores(rt: HostRuntime) -> Result<(), Fail> {
     let chooser = Chooser::new(choose);
     for (call, acts, left) in PLAYED {
         assert_eq!(rt; left_of(alloc, &chooser, *call, acts), Ok(Some(*left)));
+    }
+    Ok(())
+}
+
+/// How many entries a session's disk holds before its opening, and after each of its flushes.
+const WHOLE: &[usize] = &[0, 1, 3, 7, 8];
+
+/// How many entries are safe at least where so many outs were let out: those that the answer to the registration, the
+/// task and the answer to the question tell of.
+fn safe_for(outs: usize) -> usize {
+    match outs {
+        0 => 0,
+        1 => 3,
+        _ => 7,
+    }
+}
+
+/// Whether an act lets an out go, where no flush has failed.
+fn lets_out(
+    alloc: Global,
+    store: &mut Store<FuseDisk>,
+    chooser: &Chooser,
+    act: Act,
+) -> Result<bool, StepError> {
+    if let Act::Take(conn, _) = act {
+        return Ok(is_answer(&store.take_out(conn), Answer::Out));
+    }
+    let _ = does(alloc, store, chooser, act)?;
+    Ok(false)
+}
+
+/// Plays a session until a flush fails, and says how many outs were let out.
+fn outs_of(
+    alloc: Global,
+    store: &mut Store<FuseDisk>,
+    chooser: &Chooser,
+) -> Result<usize, StepError> {
+    let mut outs = 0usize;
+    for act in SESSION {
+        if store.failed() {
+            return Ok(outs);
+        }
+        if lets_out(alloc, store, chooser, *act)? {
+            outs = outs.saturating_add(1);
+        }
+    }
+    Ok(outs)
+}
+
+/// Whether a disk holds whole steps, and all that so many outs tell of.
+fn holds(alloc: Global, chooser: &Chooser, disk: FuseDisk, outs: usize) -> bool {
+    let mut disk = disk.into_disk();
+    let Ok(list) = read_list(alloc, &mut disk, chooser) else {
+        return false;
+    };
+    WHOLE.contains(&list.len()) && safe_for(outs) <= list.len()
+}
+
+/// The disk of a session that was played over one whose call of that number fails, how many outs were let out, and whether
+/// a call failed.
+fn disk_of(
+    alloc: Global,
+    chooser: &Chooser,
+    call: u64,
+) -> Result<(FuseDisk, usize, bool), StepError> {
+    let disk = FuseDisk::new(MemDisk::new(alloc, b"")?, call);
+    let mut store = match Store::open(alloc, disk, CONFIG, chooser, 0) {
+        Ok(store) => store,
+        Err(refused) => return Ok((refused.disk, 0, true)),
+    };
+    let outs = outs_of(alloc, &mut store, chooser)?;
+    let failed = store.failed();
+    Ok((store.close(), outs, failed))
+}
+
+/// Whether a call failed, and whether the disk then holds what it has to.
+fn plays(alloc: Global, chooser: &Chooser, call: u64) -> Result<(bool, bool), StepError> {
+    let (disk, outs, failed) = disk_of(alloc, chooser, call)?;
+    Ok((failed, holds(alloc, chooser, disk, outs)))
+}
+
+#[test]
+fn each_call_may_fail(rt: HostRuntime) -> Result<(), Fail> {
+    let alloc = rt.alloc();
+    let choose: Choose = Box::new(
+        alloc,
+        |scheme: Scheme, loads: &[u32], word: u64| -> usize
+            requires { 0 < length loads.now }
+            ensures { result ≡ pick scheme loads.now word }
+        { place_of(scheme, loads, word) },
+    )?;
+    let chooser = Chooser::new(choose);
+    for call in 1..24 {
+        assert_eq!(rt; plays(alloc, &chooser, call), Ok((call < 23, true)));
     }
     Ok(())
 }
