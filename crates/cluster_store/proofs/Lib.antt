@@ -5,6 +5,7 @@ pub mod Lived
 pub mod Names
 pub mod Opens
 pub mod Remade
+pub mod Serving
 pub mod Stepping
 pub mod Taking
 pub mod Waits

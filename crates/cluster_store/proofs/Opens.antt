@@ -10,7 +10,7 @@ use Rattle.task_journal.specs.declared.fault.OpenFault.TheVariants.{NotAJournal,
 use Rattle.task_journal.specs.declared.found.Found.{Found}
 use Rattle.task_journal.specs.Journal.{journal, StandsFor, IsSame, IsOfDisk, Fails, holding, entries_of}
 use Rattle.task_journal.specs.Settled.{Spared, OnRefusal, Unharmed}
-use Rattle.cluster_store.specs.Openings.{IsFit, IsOpened, HasOpen, WhyNot, opened}
+use Rattle.cluster_store.specs.Openings.{IsFit, IsOpened, HasOpen, Exits, WhyNot, opened}
 use Rattle.cluster_store.specs.Remaking.{Refuses}
 use Rattle.cluster_store.specs.Stores.{written}
 use Rattle.cluster_store.proofs.Remade.{reverse_twice}
@@ -77,8 +77,8 @@ pub spared_list : (content new : List ℕ) (old_image image : List ℕ → Type 
 spared_list content new old_image image list only a b = inr (λ c is. subst (λ (d : List ℕ). IsSame d content) (sym (only c is)) (same_list new content list a b))
 
 -- the history that is gone on with
-pub opened_so : (octets : List ℕ) (config : Config) (moment : ℕ) (list : List Entry) (core history : History) → StandsFor octets list → IsFit list → core ≡ reverse list → history ≡ opened config moment core → IsOpened octets config moment history
-opened_so octets config moment list core history stands fit same is = record { list = list; stands = stands; fit = fit; is = is ∙ ap (opened config moment) same }
+pub opened_so : (tells : Type 0) (octets : List ℕ) (config : Config) (moment : ℕ) (list : List Entry) (core history : History) → (tells → StandsFor octets list) → IsFit list → core ≡ reverse list → history ≡ opened config moment core → IsOpened tells octets config moment history
+opened_so tells octets config moment list core history stands fit same is = record { list = list; stands = stands; fit = fit; is = is ∙ ap (opened config moment) same }
 
 -- what a crash leaves while the Open is written
 pub either_list : (octets content : List ℕ) (image : List ℕ → Type 0) (config : Config) (moment : ℕ) (list : List Entry) (core history : History) → StandsFor octets list → IsFit list → core ≡ reverse list → history ≡ opened config moment core →
@@ -86,7 +86,7 @@ pub either_list : (octets content : List ℕ) (image : List ℕ → Type 0) (con
 either_list octets content image config moment list core history stands fit same is =
     ⊎_elim
     (λ a. inl (inr (same_list content octets list (subst (StandsFor content) (ap written same ∙ fit_written list fit) a) stands)))
-    (λ b. inr (record { history = history; from = opened_so octets config moment list core history stands fit same is; stands = b }))
+    (λ b. inr (record { history = history; from = opened_so (Unit {0}) octets config moment list core history (λ t. stands) fit same is; stands = b }))
 
 -- what holds where a result is Ok, of one that is
 pub ok_of : {T E : Type 0} (r : Result T E) (P : Type 0) → is_err r ≡ false → OnOk r P → P
@@ -107,3 +107,21 @@ of_disk_or_memory A (NotAJournal place) refused a b = absurd refused
 of_disk_or_memory A (Damaged place) refused a b = absurd refused
 of_disk_or_memory A DiskFault refused a b = a refl
 of_disk_or_memory A OutOfMemory refused a b = b refl
+
+-- AT A REFUSAL
+
+pub exits_spared : (old : List ℕ → Type 0) (octets : List ℕ) (config : Config) (moment : ℕ) (new : List ℕ → Type 0) → Spared old octets new → Exits old octets config moment new
+exits_spared old octets config moment new spared = ⊎_elim (λ a. inl a) (λ b. inr (λ c is. inl (b c is))) spared
+
+-- of a disk that holds a list and nothing else
+pub exits_list : (old image : List ℕ → Type 0) (octets new : List ℕ) (config : Config) (moment : ℕ) (list : List Entry) → Only new image → StandsFor new list → StandsFor octets list → Exits old octets config moment image
+exits_list old image octets new config moment list only a b = exits_spared old octets config moment image (spared_list octets new old image list only a b)
+
+-- and of one on which the Open was to be written
+pub exits_either : (old image : List ℕ → Type 0) (octets : List ℕ) (config : Config) (moment : ℕ) (list : List Entry) (core : History) → StandsFor octets list → IsFit list → core ≡ reverse list →
+    ((c : List ℕ) → image c → StandsFor c (written core) ⊎ StandsFor c (written (opened config moment core))) → Exits old octets config moment image
+exits_either old image octets config moment list core stands fit same each =
+    inr (λ c is.
+    ⊎_elim (λ a. inl (same_list c octets list (subst (StandsFor c) (ap written same ∙ fit_written list fit) a) stands))
+    (λ b. inr (record { history = opened config moment core; from = opened_so (Unit {0}) octets config moment list core (opened config moment core) (λ t. stands) fit same refl; stands = b }))
+    (each c is))

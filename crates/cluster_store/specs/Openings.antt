@@ -9,7 +9,8 @@ use Rattle.cluster_defs.specs.Histories.{History, facts, Legal, kept, decide_all
 use Rattle.task_journal.specs.declared.fault.OpenFault.{OpenFault}
 use Rattle.task_journal.specs.declared.fault.OpenFault.TheVariants.{NotAJournal, Damaged, DiskFault, OutOfMemory}
 use Rattle.task_journal.specs.declared.found.Found.{Found}
-use Rattle.task_journal.specs.Journal.{journal, last_of, StandsFor}
+use Rattle.disk_model.specs.Crashes.{NoMore}
+use Rattle.task_journal.specs.Journal.{journal, last_of, StandsFor, IsSame}
 
 -- entries in order that may stand behind a history: it is then legal, and all of it is kept
 pub record MayStand (before : History) (list : List Entry) : Type 0 where
@@ -53,15 +54,20 @@ WhyNot octets OutOfMemory = Unit {0}
 abbrev pub opened : Config → ℕ → History → History
 opened config moment history = decide_all (Input (Open moment config.scheme config.hwm config.misses) ∷ history)
 
--- a disk stands for a list that is fit, and the history goes on from it
-pub record IsOpened (octets : List ℕ) (config : Config) (moment : ℕ) (history : History) : Type 0 where
+-- the history goes on from a list that is fit, for which the disk stands where it tells
+pub record IsOpened (tells : Type 0) (octets : List ℕ) (config : Config) (moment : ℕ) (history : History) : Type 0 where
   pub list : List Entry
-  pub stands : StandsFor octets list
+  pub stands : tells → StandsFor octets list
   pub fit : IsFit list
   pub is : history ≡ opened config moment (reverse list)
 
 -- a disk stands for a list that is fit with what is kept of the Open and its decisions behind it
 pub record HasOpen (octets : List ℕ) (config : Config) (moment : ℕ) (content : List ℕ) : Type 0 where
   pub history : History
-  pub from : IsOpened octets config moment history
+  pub from : IsOpened (Unit {0}) octets config moment history
   pub stands : StandsFor content (reverse (kept history))
+
+-- at a refusal a crash leaves what it might have left before, or always what stands for the same entries, or for these with
+-- what is kept of the Open
+abbrev pub Exits : (List ℕ → Type 0) → List ℕ → Config → ℕ → (List ℕ → Type 0) → Type 0
+Exits old octets config moment new = NoMore old new ⊎ ((c : List ℕ) → new c → IsSame c octets ⊎ HasOpen octets config moment c)

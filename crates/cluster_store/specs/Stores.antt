@@ -7,6 +7,8 @@ use Rattle.cluster_defs.specs.Lives.{Sending, World, kept_end, sendings_to}
 use Rattle.cluster_core.specs.Steps.{kept_from}
 use Rattle.cluster_store.specs.Queues.{Lines, left_at}
 use Rattle.cluster_store.specs.declared.fault.StepError.{StepError}
+use Rattle.cluster_store.specs.declared.fault.ServeError.{ServeError}
+use Rattle.cluster_store.specs.declared.fault.ServeError.TheVariants.{Step, DiskFault}
 use Rattle.cluster_store.specs.declared.fault.StepError.TheVariants.{Reopen, HistoryFull, BatchFull, OutOfMemory}
 use Rattle.cluster_core.specs.declared.plan.PlanError.{PlanError}
 use Rattle.cluster_core.specs.declared.plan.PlanError.TheVariants as plans
@@ -94,6 +96,13 @@ IsRefused failed mark limit new OutOfMemory = failed ≡ false
 abbrev pub IsTaken : Bool → ℕ → HistorySize → History → Type 0
 IsTaken failed mark limit new = (failed ≡ false) × (is_past limit (size_since new) ≡ false) × (IsTooLong mark new → ⊥)
 
+-- why a step is refused that would lead to this history, where these entries would be written at once
+abbrev pub IsRefusedFor : HistorySize → History → List Entry → StepError → Type 0
+IsRefusedFor limit new batch Reopen = ⊥
+IsRefusedFor limit new batch (HistoryFull entries bytes) = (record { entries = entries; bytes = bytes } ≡ size_since new) × (is_past limit (size_since new) ≡ true)
+IsRefusedFor limit new batch BatchFull = (is_past limit (size_since new) ≡ false) × (2 ^ 32 ≤ length (spellings batch))
+IsRefusedFor limit new batch OutOfMemory = Unit {0}
+
 -- a step that the limits refuse is counted
 abbrev pub fulls_by : StepError → ℕ → ℕ
 fulls_by (HistoryFull entries bytes) fulls = min (fulls + 1) (2 ^ 64 - 1)
@@ -109,3 +118,31 @@ pub record Becomes {D : Type 0} (old : StoreView D) (history : History) (taken :
   pub taken_are : (conn : ℕ) → told new conn ≡ taken conn
   pub failed : new.failed ≡ old.failed
   pub fulls_are : new.fulls ≡ fulls
+
+-- A STEP THAT IS SERVED
+
+-- a store behind a step that is safe, and all of whose outs were taken
+pub record HasServed {D : Type 0} (old : StoreView D) (history : History) (new : StoreView D) : Type 0 where
+  pub history_is : new.history ≡ history
+  pub limits : new.limits ≡ old.limits
+  pub mark : new.mark ≡ length history
+  pub failed : new.failed ≡ false
+  pub fulls : new.fulls ≡ old.fulls
+
+-- a store behind a step of which a call of the disk failed
+pub record HasFailed {D : Type 0} (old : StoreView D) (history : History) (new : StoreView D) : Type 0 where
+  pub history_is : new.history ≡ history
+  pub limits : new.limits ≡ old.limits
+  pub mark : new.mark ≡ old.mark
+  pub failed : new.failed ≡ true
+  pub fulls : new.fulls ≡ old.fulls
+
+-- what became of a store whose step isn't served: it is as it was, but for the count, or has the step and failed
+abbrev pub IsLeft : {D : Type 0} → StoreView D → History → StoreView D → ServeError → Type 0
+IsLeft old history new (Step error) = Becomes old old.history (told old) (fulls_by error old.fulls) new
+IsLeft old history new DiskFault = HasFailed old history new
+
+-- why a step isn't served that would lead to this history: it is refused, or else it is taken and can't be written
+abbrev pub WhyUnserved : Bool → ℕ → HistorySize → History → ServeError → Type 0
+WhyUnserved failed mark limit new (Step error) = IsRefused failed mark limit new error
+WhyUnserved failed mark limit new DiskFault = IsTaken failed mark limit new

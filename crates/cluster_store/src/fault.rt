@@ -21,6 +21,18 @@ pub enum StepError {
     OutOfMemory,
 }
 
+/// Why a step isn't served.
+#[derive(Clone, Copy, Debug, PartialEq, Eq, Error)]
+pub enum ServeError {
+    /// It isn't taken.
+    #[error("{0}")]
+    Step(StepError),
+    /// It is taken, and a call of the disk failed while what is kept of it was written: the disk may have it or not, and
+    /// the store is to be opened again. What it sends is let go.
+    #[error("a call of the disk failed")]
+    DiskFault,
+}
+
 impl From<AllocError> for StepError {
     ghost use Rattle.std.specs.Prelude.{◌≡◌};
     ghost use Rattle.cluster_store.specs.declared.fault.StepError.{StepError};

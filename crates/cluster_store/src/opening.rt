@@ -7,7 +7,7 @@ ghost use Rattle.disk_model.specs.Crashes.{LeavesOnly};
 ghost use Rattle.task_journal.specs.Journal.{StandsFor};
 ghost use Rattle.task_journal.specs.Reads.{OnlyReads};
 ghost use Rattle.task_journal.specs.Settled.{Unharmed, Spared, OnRefusal};
-ghost use Rattle.cluster_store.specs.Openings.{IsFit, IsOpened, HasOpen, WhyNot};
+ghost use Rattle.cluster_store.specs.Openings.{IsFit, IsOpened, HasOpen, Exits, WhyNot};
 ghost use Rattle.cluster_store.specs.Stores.{told, written};
 
 use crate::remaking::core_of;
@@ -36,7 +36,7 @@ impl<D: Disk> Store<D> {
     ) -> Result<Store<D>, Refused<D>>
         requires { moment ≤ last_moment }
         // The history goes on from the list that the disk stood for.
-        ensures history { D.tells → IfOk result (λ s. IsOpened (D.content disk) config moment s.history) }
+        ensures history { IfOk result (λ s. IsOpened D.tells (D.content disk) config moment s.history) }
         ensures limits { IfOk result (λ s. s.limits ≡ record { entries = config.entries; bytes = config.bytes }) }
         ensures mark { IfOk result (λ s. s.mark ≡ length s.history) }
         ensures fresh { IfOk result (λ s. ((c : ℕ) → told s c ≡ 0) × (s.failed ≡ false) × (s.fulls ≡ 0)) }
@@ -44,6 +44,8 @@ impl<D: Disk> Store<D> {
         ensures refused { D.tells → IfErr result (λ r. WhyNot (D.content disk) r.why) }
         // At a refusal a crash leaves what it might have left before, or always what stands for the same entries.
         ensures spared { D.tells → IfErr result (λ r. OnRefusal r.why (Spared (D.image disk) (D.content disk) (D.image r.disk))) }
+        // So it does at any other error, or what stands for these with what is kept of the Open and its decisions.
+        ensures exits { D.tells → IfErr result (λ r. Exits (D.image disk) (D.content disk) config moment (D.image r.disk)) }
         // A crash at any moment of the call leaves what it might have left before, or what stands for the same entries, or
         // for these with what is kept of the Open and its decisions.
         ensures any_moment { D.tells → IfOk result (λ s.

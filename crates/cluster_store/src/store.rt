@@ -6,9 +6,9 @@ ghost use Rattle.cluster_types.specs.Causes.{Rose};
 ghost use Rattle.cluster_types.specs.Limits.{last_moment};
 ghost use Rattle.disk_model.specs.Crashes.{Only, LeavesOnly};
 ghost use Rattle.cluster_defs.specs.Facts.{event_in};
-ghost use Rattle.cluster_defs.specs.Scheduling.{due, may_take};
+ghost use Rattle.cluster_defs.specs.Scheduling.{due, may_take, Allowed};
 ghost use Rattle.cluster_defs.specs.Histories.{facts, Legal, decide_all};
-ghost use Rattle.cluster_defs.specs.Outs.{outs_on};
+ghost use Rattle.cluster_defs.specs.Outs.{outs_on, outs_from};
 ghost use Rattle.cluster_defs.specs.Lives.{is_open, sendings_to, told_after};
 ghost use Rattle.entry_outs.specs.Asked.{type_on, told_type};
 ghost use Rattle.record_codec.specs.Spelling.{IsWithinLimits};
@@ -17,9 +17,11 @@ ghost use Rattle.task_journal.specs.Journal.{StandsFor, IsOfDisk};
 ghost use Rattle.task_journal.specs.Settled.{Outcome};
 ghost use Rattle.cluster_store.specs.Openings.{opened};
 ghost use Rattle.cluster_store.specs.Queues.{left_at, room_at, waits, need_after};
-ghost use Rattle.cluster_store.specs.Stores.{StoreView, Becomes, told, IsRefused, IsTaken, answer, is_live, next_to, told_by, fulls_by, written};
+ghost use Rattle.cluster_core.specs.Steps.{kept_from};
+ghost use Rattle.cluster_core.specs.Size.{size_since, is_past};
+ghost use Rattle.cluster_store.specs.Stores.{StoreView, Becomes, told, up_to, IsRefused, IsTaken, IsLeft, HasServed, WhyUnserved, IsRefusedFor, answer, is_live, next_to, told_by, fulls_by, written};
 
-use crate::fault::StepError;
+use crate::fault::{ServeError, StepError};
 use crate::queues::Queues;
 use crate::taken::Taken;
 use cluster_core::machine::{Core, Made};
@@ -29,6 +31,7 @@ use cluster_core::size::HistorySize;
 use cluster_types::config::Config;
 use cluster_types::entry::{Entry, Input};
 use cluster_types::event::Event;
+use cluster_types::out::Outs;
 use disk_model::disk::Disk;
 use load_schemes::chooser::Chooser;
 use std::alloc::AllocError;
@@ -81,8 +84,7 @@ fn take_memory(batch: &mut Batch, queues: &mut Queues, plan: &Plan) -> Result<()
     ensures error { IfErr result (λ e. (e ≡ StepError.BatchFull) ⊎ (e ≡ StepError.OutOfMemory)) }
 {
     queues.make_rooms(plan.outs())?;
-    batch.extend(plan.kept())?;
-    Ok(())
+    Ok(batch.extend(plan.kept())?)
 }
 
 /// Writes a batch and empties it. Where it has no entries no call of the disk is made.
@@ -90,6 +92,7 @@ fn write_batch<D: Disk>(journal: &mut Journal<D>, batch: &mut Batch) -> Result<(
     ensures ok { OnOk result (batch.new ≡ []) }
     ensures working { OnOk result (journal.old.failed ≡ false) }
     ensures err { OnErr result (batch.new ≡ batch.old) }
+    ensures idle { batch.old ≡ [] → journal.new.disk ≡ journal.old.disk }
     ensures stands { D.tells → OnOk result ((list : List Entry) → StandsFor (D.content journal.old.disk) list → StandsFor (D.content journal.new.disk) (list ++ batch.old)) }
     ensures any_moment { D.tells → journal.old.failed ≡ false → (list : List Entry) → StandsFor (D.content journal.old.disk) list
         → LeavesOnly D.moment D.image_since journal.old.disk journal.new.disk (Outcome list batch.old) }
@@ -108,6 +111,35 @@ fn write_batch<D: Disk>(journal: &mut Journal<D>, batch: &mut Batch) -> Result<(
     journal.append(batch)?;
     batch.clear();
     Ok(())
+}
+
+/// Takes a step of a core, and what is kept of it into a batch. At an error both stay.
+fn take_step(
+    core: &mut Core,
+    batch: &mut Batch,
+    chooser: &Chooser,
+    input: Input,
+    meaning: Meaning,
+) -> Result<Made, StepError>
+    requires event { meaning.event ≡ event_in (facts core.old.history) (Entry.Input input) }
+    requires kind { meaning.msg_type ≡ told_type meaning.event (type_on (Entry.Input input)) }
+    requires taken { may_take (facts core.old.history) input meaning.event ≡ true }
+    requires fits { IsWithinLimits (Entry.Input input) }
+    ensures history { OnOk result (core.new.history ≡ decide_all (Entry.Input input ∷ core.old.history)) }
+    ensures outs { IfOk result (λ m. m.outs ≡ outs_from (length core.old.history) core.new.history) }
+    ensures kept { IfOk result (λ m. m.kept ≡ kept_from (length core.old.history) core.new.history) }
+    ensures batch { OnOk result (batch.new ≡ batch.old ++ kept_from (length core.old.history) core.new.history) }
+    ensures allowed { OnOk result (Allowed (facts core.old.history) (Entry.Input input)) }
+    ensures within { OnOk result (is_past core.old.limits (size_since (decide_all (Entry.Input input ∷ core.old.history))) ≡ false) }
+    ensures short { OnOk result (2 ^ 32 ≤ length (spellings (batch.old ++ kept_from (length core.old.history) (decide_all (Entry.Input input ∷ core.old.history)))) → ⊥) }
+    ensures same { OnErr result (core.new.history ≡ core.old.history) }
+    ensures stays { OnErr result (batch.new ≡ batch.old) }
+    ensures limits { core.new.limits ≡ core.old.limits }
+    ensures why { IfErr result (IsRefusedFor core.old.limits (decide_all (Entry.Input input ∷ core.old.history)) (batch.old ++ kept_from (length core.old.history) (decide_all (Entry.Input input ∷ core.old.history)))) }
+{
+    let plan = core.plan(chooser, input, meaning)?;
+    batch.extend(plan.kept())?;
+    Ok(core.apply(plan))
 }
 
 /// How many entries are to be safe before what a step sends may be handed out: all up to its end where any of it is
@@ -190,9 +222,12 @@ impl<D: Disk> Store<D> {
         self.fulls
     }
 
-    /// Whether a call of the disk has failed.
+    /// Whether a call of the disk has failed. While none has, a crash leaves what the disk holds, and that is what is kept
+    /// of the entries that are safe.
     pub fn failed(&self) -> bool
-        ensures { result ≡ self.now.failed }
+        ensures is { result ≡ self.now.failed }
+        ensures durable { D.tells → self.now.failed ≡ false → Only (D.content self.now.disk) (D.image self.now.disk) }
+        ensures holds { D.tells → self.now.failed ≡ false → StandsFor (D.content self.now.disk) (written (up_to self.now.mark self.now.history)) }
     {
         self.journal.failed()
     }
@@ -319,6 +354,8 @@ impl<D: Disk> Store<D> {
         ensures failed { self.new.failed ≡ is_err result }
         ensures reopen { (result ≡ Err AppendFault.Reopen) ↔ (self.old.failed ≡ true) }
         ensures unchanged { result ≡ Err AppendFault.Reopen → self.new ≡ self.old }
+        // Where nothing is kept of the entries that aren't safe, no call of the disk is made.
+        ensures idle { kept_from self.old.mark self.old.history ≡ [] → self.new.disk ≡ self.old.disk }
         // At `Ok` the disk holds what is kept of the history.
         ensures stands { D.tells → OnOk result (StandsFor (D.content self.new.disk) (written self.old.history)) }
         // A crash at any moment of the call leaves what was safe before it, or all that is kept.
@@ -330,6 +367,59 @@ impl<D: Disk> Store<D> {
         write_batch(&mut self.journal, &mut self.batch)?;
         self.mark = self.core.history().len() as u64;
         Ok(())
+    }
+
+    /// Takes a step where no outs wait: an input that may come, with its meaning, and all decisions that are then due. It
+    /// writes what is kept of it, and of the steps before it, and gives what it sends. It is a step, a flush and the takes
+    /// of all outs in one.
+    pub fn serve(
+        &mut self,
+        chooser: &Chooser,
+        input: Input,
+        meaning: Meaning,
+    ) -> Result<Outs, ServeError>
+        requires event { meaning.event ≡ event_in (facts self.old.history) (Entry.Input input) }
+        requires kind { meaning.msg_type ≡ told_type meaning.event (type_on (Entry.Input input)) }
+        requires taken { may_take (facts self.old.history) input meaning.event ≡ true }
+        requires fits { IsWithinLimits (Entry.Input input) }
+        requires calm { (c : ℕ) → told self.old c ≡ length (sendings_to self.old.history c) }
+        ensures outs { IfOk result (λ outs. outs ≡ outs_from (length self.old.history) (decide_all (Entry.Input input ∷ self.old.history))) }
+        ensures ok { OnOk result (HasServed self.old (decide_all (Entry.Input input ∷ self.old.history)) self.new) }
+        ensures err { IfErr result (IsLeft self.old (decide_all (Entry.Input input ∷ self.old.history)) self.new) }
+        ensures told { (c : ℕ) → told self.new c ≡ length (sendings_to self.new.history c) }
+        ensures taken { OnOk result (IsTaken self.old.failed self.old.mark self.old.limits (decide_all (Entry.Input input ∷ self.old.history))) }
+        ensures why { IfErr result (WhyUnserved self.old.failed self.old.mark self.old.limits (decide_all (Entry.Input input ∷ self.old.history))) }
+        // A crash at any moment of the call leaves what was safe before it, or all that is kept.
+        ensures any_moment { D.tells → self.old.failed ≡ false → LeavesOnly D.moment D.image_since self.old.disk self.new.disk
+            (λ c. StandsFor c (written (up_to self.old.mark self.old.history)) ⊎ StandsFor c (written (decide_all (Entry.Input input ∷ self.old.history)))) }
+        ensures later { D.faults self.old.disk ≤ D.faults self.new.disk }
+        ensures cause { result ≡ Err ServeError.DiskFault → Rose (D.faults self.old.disk) (D.faults self.new.disk) }
+    {
+        if self.failed() {
+            return Err(ServeError::Step(StepError::Reopen));
+        }
+        let Made { outs, kept } = match take_step(
+            &mut self.core,
+            &mut self.batch,
+            chooser,
+            input,
+            meaning,
+        ) {
+            Ok(made) => made,
+            Err(error) => {
+                self.count_full(error);
+                return Err(ServeError::Step(error));
+            }
+        };
+        let size = self.core.history().len() as u64;
+        self.need = need_after(self.need, kept.as_slice(), size);
+        match write_batch(&mut self.journal, &mut self.batch) {
+            Ok(()) => {
+                self.mark = size;
+                Ok(outs)
+            }
+            Err(_) => Err(ServeError::DiskFault),
+        }
     }
 
     /// Whether a connection is live.

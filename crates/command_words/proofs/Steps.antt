@@ -1,18 +1,19 @@
 -- What the functions that read a command cite.
 use Rattle.std.proofs.Common.{◌≡◌, ◌∙◌, refl, sym, ap, ap₂, subst, ℕ, ◌+◌, ◌<◌, length, take, get_or, map, Bool, true, false, List, [], ◌∷◌, true≢false, Option, Some, None, Result, Ok, Err, IsErrAnd}
-use Rattle.std.specs.Prelude.{IsSomeAnd, option_and_then}
+use Rattle.std.specs.Prelude.{IsSomeAnd, option_and_then, option_map}
 use Rattle.std.specs.Borrow.{Bor}
 use Rattle.std.proofs.lemmas.List.{map_push, take_more}
 use Rattle.clap.specs.Walk.{Rule, Text}
 use Rattle.clap.specs.Simple.{App, with_rule}
 use Rattle.clap.specs.declared.parser.matches.ArgMatches.{ArgMatches}
+use Rattle.command_words.specs.declared.command.Command.TheVariants.{Replay}
 use Rattle.command_words.specs.declared.command.CommandError.{CommandError}
 use Rattle.command_words.specs.declared.command.CommandError.TheVariants.{OutOfMemory, Usage}
 use Rattle.command_words.specs.Items.{Item, known_items, places, values}
 use Rattle.command_words.specs.Simple.{HasItems, has_option, option_rule, simple_with, values_of, word_id}
 use Rattle.command_words.specs.Values.{key_from, needed, number_from, optional, scheme_from}
 use Rattle.cluster_types.specs.declared.config.Scheme.TheVariants.{LeastLoad}
-use Rattle.command_words.specs.Reading.{bytes_name, entries_name, greatest_bytes, greatest_entries, greatest_hwm, greatest_misses, hwm_name, key_name, misses_name, replay_behind, replay_items, replay_names, replay_of, replay_options, replay_with, scheme_name}
+use Rattle.command_words.specs.Reading.{bytes_name, entries_name, greatest_bytes, greatest_entries, greatest_hwm, greatest_misses, hwm_name, key_name, misses_name, database_items, database_in, only_word, replay_behind, replay_items, replay_names, replay_of, replay_options, replay_with, scheme_name}
 
 abbrev pub texts : List (Bor Text) → List Text
 texts = map (λ t. t.now)
@@ -41,8 +42,9 @@ options_same f g is =
     (optional 10 (number_from 1 greatest_misses) (d i)) (optional greatest_entries (number_from 1 greatest_entries) (e i)) (optional greatest_bytes (number_from 1 greatest_bytes) (h i))
 
 behind_same : (places : List Text) (f g : Text → List Text) → ((name : Text) → has_option replay_names name ≡ true → f name ≡ g name) → replay_behind places f ≡ replay_behind places g
-behind_same [] f g is = options_same f g is
-behind_same (p ∷ ps) f g is = refl
+behind_same [] f g is = refl
+behind_same (p ∷ []) f g is = ap (option_map (Replay p)) (options_same f g is)
+behind_same (p ∷ q ∷ ps) f g is = refl
 
 -- the reading, by the matches of the words
 replay_by : (m : ArgMatches) (words : List Text) → IsSomeAnd (known_items replay_names words) (HasItems replay_names m) → replay_of words ≡ replay_behind (values_of m word_id) (values_of m)
@@ -58,6 +60,22 @@ replay_is words behind m is h = replay_by m behind (subst (λ (ws : List Text). 
 
 pub replay_none : (words behind : List Text) → words ≡ behind → known_items replay_names words ≡ None → replay_of behind ≡ None
 replay_none words behind is e = ap (option_and_then replay_items) (ap (known_items replay_names) (sym is) ∙ e)
+
+-- COMMANDS WITHOUT OPTIONS
+
+-- the database, by the matches of the words
+database_by : (m : ArgMatches) (words : List Text) → IsSomeAnd (known_items [] words) (HasItems [] m) → database_in words ≡ only_word (values_of m word_id)
+database_by m words h = go (known_items [] words) h
+  where
+    go : (o : Option (List Item)) → IsSomeAnd o (HasItems [] m) → option_and_then database_items o ≡ only_word (values_of m word_id)
+    go None h = absurd h
+    go (Some items) h = ap only_word (sym h.placed)
+
+pub database_is : (words behind : List Text) (m : ArgMatches) → words ≡ behind → IsSomeAnd (known_items [] words) (HasItems [] m) → database_in behind ≡ only_word (values_of m word_id)
+database_is words behind m is h = database_by m behind (subst (λ (ws : List Text). IsSomeAnd (known_items [] ws) (HasItems [] m)) is h)
+
+pub database_none : (words behind : List Text) → words ≡ behind → known_items [] words ≡ None → database_in behind ≡ None
+database_none words behind is e = ap (option_and_then database_items) (ap (known_items []) (sym is) ∙ e)
 
 -- ERRORS
 

@@ -1,16 +1,19 @@
 -- How the program ends: its status, and the line that says why.
 use Rattle.std.specs.Prelude.{ℕ, List, [], ◌++◌, codes, decimal}
 use Rattle.command_words.specs.declared.ending.Ending.{Ending}
-use Rattle.command_words.specs.declared.ending.Ending.TheVariants.{Done, Usage, ReadFault, WriteFault, BadTape, OutOfMemory, HistoryFull}
+use Rattle.command_words.specs.declared.ending.Ending.TheVariants.{Done, Usage, ReadFault, WriteFault, DiskFault, BadTape, Damaged, OutOfMemory, HistoryFull, Different}
 
 abbrev pub status : Ending → ℕ
 status Done = 0
 status Usage = 2
 status ReadFault = 3
 status WriteFault = 4
+status DiskFault = 5
 status (BadTape place) = 6
+status (Damaged place) = 7
 status OutOfMemory = 8
 status (HistoryFull entries bytes) = 9
+status (Different place) = 10
 
 -- the line of an end, with its line feed
 unfoldable pub line : Ending → List ℕ
@@ -18,7 +21,10 @@ line Done = []
 line Usage = codes "ipcluster: the command line has no reading\n"
 line ReadFault = codes "ipcluster: read fault\n"
 line WriteFault = codes "ipcluster: write fault\n"
+line DiskFault = codes "ipcluster: disk fault\n"
 line (BadTape place) = codes "ipcluster: bad tape at " ++ decimal place ++ codes "\n"
+line (Damaged place) = codes "ipcluster: damaged database at " ++ decimal place ++ codes "\n"
 line OutOfMemory = codes "ipcluster: out of memory\n"
 line (HistoryFull entries bytes) =
     codes "ipcluster: history full at " ++ decimal entries ++ codes " entries and " ++ decimal bytes ++ codes " bytes\n"
+line (Different place) = codes "ipcluster: different at " ++ decimal place ++ codes "\n"

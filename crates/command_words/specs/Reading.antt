@@ -1,14 +1,23 @@
 -- What a command line asks for.
-use Rattle.std.specs.Prelude.{ℕ, List, [], ◌∷◌, Option, Some, None, bytes_eq, codes, if◌then◌else◌, option_and_then}
+use Rattle.std.specs.Prelude.{ℕ, List, [], ◌∷◌, Option, Some, None, bytes_eq, codes, if◌then◌else◌, option_and_then, option_map}
 use Rattle.cluster_types.specs.declared.config.Scheme.{Scheme}
 use Rattle.cluster_types.specs.declared.config.Scheme.TheVariants.{LeastLoad}
 use Rattle.command_words.specs.declared.command.Command.{Command}
-use Rattle.command_words.specs.declared.command.Command.TheVariants.{Replay}
+use Rattle.command_words.specs.declared.command.Command.TheVariants.{Replay, Dump, Check}
+use Rattle.command_words.specs.declared.command.ReplayOptions.{ReplayOptions}
 use Rattle.command_words.specs.Items.{Item, known_items, places, values}
 use Rattle.command_words.specs.Values.{needed, optional, key_from, scheme_from, number_from}
 
+-- THE WORDS OF THE COMMANDS
+
 unfoldable pub replay_word : List ℕ
 replay_word = codes "replay"
+
+unfoldable pub dump_word : List ℕ
+dump_word = codes "dump"
+
+unfoldable pub check_word : List ℕ
+check_word = codes "check"
 
 -- THE NAMES OF OPTIONS, WITHOUT THEIR DASHES
 
@@ -48,18 +57,38 @@ greatest_entries = 4000000
 abbrev pub greatest_bytes : ℕ
 greatest_bytes = 1073741824
 
+-- THE DATABASE
+
+-- the one positional word
+abbrev pub only_word : List (List ℕ) → Option (List ℕ)
+only_word (word ∷ []) = Some word
+only_word _ = None
+
+abbrev pub database_items : List Item → Option (List ℕ)
+database_items items = only_word (places items)
+
+-- the database behind a command that has no options
+abbrev pub database_in : List (List ℕ) → Option (List ℕ)
+database_in words = option_and_then database_items (known_items [] words)
+
+-- the database that a command is about
+abbrev pub database_of : Command → List ℕ
+database_of (Replay database options) = database
+database_of (Dump database) = database
+database_of (Check database) = database
+
 -- THE COMMANDS
 
 abbrev pub replay_names : List (List ℕ)
 replay_names = key_name ∷ scheme_name ∷ hwm_name ∷ misses_name ∷ entries_name ∷ bytes_name ∷ []
 
-abbrev pub replay_with : Option (List ℕ) → Option Scheme → Option ℕ → Option ℕ → Option ℕ → Option ℕ → Option Command
+abbrev pub replay_with : Option (List ℕ) → Option Scheme → Option ℕ → Option ℕ → Option ℕ → Option ℕ → Option ReplayOptions
 replay_with (Some key) (Some scheme) (Some hwm) (Some misses) (Some entries) (Some bytes) =
-    Some (Replay (record { key = key; scheme = scheme; hwm = hwm; misses = misses; entries = entries; bytes = bytes }))
+    Some (record { key = key; scheme = scheme; hwm = hwm; misses = misses; entries = entries; bytes = bytes })
 replay_with _ _ _ _ _ _ = None
 
--- `replay`, by the values of each option
-abbrev pub replay_options : (List ℕ → List (List ℕ)) → Option Command
+-- the options of `replay`, by the values of each
+abbrev pub replay_options : (List ℕ → List (List ℕ)) → Option ReplayOptions
 replay_options values_under =
     replay_with (needed key_from (values_under key_name)) (optional LeastLoad scheme_from (values_under scheme_name))
     (optional 1 (number_from 0 greatest_hwm) (values_under hwm_name))
@@ -67,9 +96,9 @@ replay_options values_under =
     (optional greatest_entries (number_from 1 greatest_entries) (values_under entries_name))
     (optional greatest_bytes (number_from 1 greatest_bytes) (values_under bytes_name))
 
--- no positional word stands behind `replay`
+-- one positional word stands behind `replay`
 abbrev pub replay_behind : List (List ℕ) → (List ℕ → List (List ℕ)) → Option Command
-replay_behind [] values_under = replay_options values_under
+replay_behind (database ∷ []) values_under = option_map (Replay database) (replay_options values_under)
 replay_behind _ values_under = None
 
 abbrev pub replay_items : List Item → Option Command
@@ -78,7 +107,21 @@ replay_items items = replay_behind (places items) (λ name. values name items)
 abbrev pub replay_of : List (List ℕ) → Option Command
 replay_of words = option_and_then replay_items (known_items replay_names words)
 
+abbrev pub dump_of : List (List ℕ) → Option Command
+dump_of words = option_map Dump (database_in words)
+
+abbrev pub check_of : List (List ℕ) → Option Command
+check_of words = option_map Check (database_in words)
+
+-- what a command asks for with the words behind it
+abbrev pub asked_by : List ℕ → List (List ℕ) → Option Command
+asked_by command words =
+    if bytes_eq command replay_word then replay_of words
+    else if bytes_eq command dump_word then dump_of words
+    else if bytes_eq command check_word then check_of words
+    else None
+
 -- what words ask for, where they have a reading: the first one is the command
 abbrev pub reading : List (List ℕ) → Option Command
 reading [] = None
-reading (command ∷ words) = if bytes_eq command replay_word then replay_of words else None
+reading (command ∷ words) = asked_by command words

@@ -1,7 +1,7 @@
 //! What a command line asks for.
 
-ghost use Rattle.std.specs.Prelude.{◌≡◌, Some, None, Err, IfOk, bytes_eq};
-ghost use Rattle.command_words.specs.Reading.{reading, replay_of, replay_behind, replay_options, replay_word, key_name, scheme_name, hwm_name, misses_name, entries_name, bytes_name};
+ghost use Rattle.std.specs.Prelude.{◌≡◌, ◌∷◌, [], Some, None, Err, IfOk, bytes_eq};
+ghost use Rattle.command_words.specs.Reading.{reading, asked_by, database_of, only_word, database_in, replay_of, dump_of, check_of, replay_behind, replay_options, replay_word, dump_word, check_word, key_name, scheme_name, hwm_name, misses_name, entries_name, bytes_name};
 ghost use Rattle.command_words.specs.Simple.{values_of, word_id};
 
 use crate::matches::{are_formed, borrowed, parted, words};
@@ -27,16 +27,40 @@ pub struct ReplayOptions {
     /// The number of missed beats beyond which an engine is lost.
     pub misses: u32,
     /// The most entries of a history, from 1 on.
-    pub entries: u64,
+    pub entries: u32,
     /// The most octets of the records of its entries, from 1 on.
-    pub bytes: u64,
+    pub bytes: u32,
 }
 
-/// What the program is to do.
+/// What the program is to do. The database is the path of a file: any word that doesn't begin with `-`, an empty one too.
 #[derive(Debug, Drop)]
 pub enum Command {
-    /// A tape is to be served.
-    Replay(ReplayOptions),
+    /// A tape from the input is to be served, after what the database keeps, and what comes of it is to be kept there.
+    Replay {
+        database: Text,
+        options: ReplayOptions,
+    },
+    /// The history that the database keeps is to be written as text, a line for each entry.
+    Dump {
+        database: Text,
+    },
+    /// The input is to be compared with the text of the history that the database keeps.
+    Check {
+        database: Text,
+    },
+}
+
+impl Command {
+    /// The path of the database's file.
+    pub fn database(&self) -> &Text
+        ensures { result.now ≡ database_of self.now }
+    {
+        match self {
+            Command::Replay { database, .. } => database,
+            Command::Dump { database } => database,
+            Command::Check { database } => database,
+        }
+    }
 }
 
 /// Why there is no command.
@@ -98,6 +122,9 @@ const BYTES: &str = "bytes";
 /// The options of `replay`.
 const REPLAY: [&str; 6] = [KEY, SCHEME, HWM, MISSES, ENTRIES, BYTES];
 
+/// The options of a command that has none.
+const NONE: [&str; 0] = [];
+
 /// The greatest bound of a load.
 const GREATEST_HWM: u32 = 1_000_000;
 
@@ -110,10 +137,10 @@ const GREATEST_ENTRIES: u32 = 4_000_000;
 /// The greatest limit of octets.
 const GREATEST_BYTES: u32 = 1_073_741_824;
 
-/// `replay` with the values of its options.
+/// The options of `replay` with their values.
 #[tactic(auto, unfolding(crate::specs::Reading::key_name, crate::specs::Reading::scheme_name, crate::specs::Reading::hwm_name, crate::specs::Reading::misses_name, crate::specs::Reading::entries_name, crate::specs::Reading::bytes_name))]
-fn replay_options(alloc: Global, matches: &ArgMatches<'_>) -> Result<Command, CommandError>
-    ensures ok { IfOk result (λ c. replay_options (values_of matches.now) ≡ Some c) }
+fn replay_options(alloc: Global, matches: &ArgMatches<'_>) -> Result<ReplayOptions, CommandError>
+    ensures ok { IfOk result (λ o. replay_options (values_of matches.now) ≡ Some o) }
     ensures usage { result ≡ Err CommandError.Usage → replay_options (values_of matches.now) ≡ None }
 {
     let Some(key) = needed_key(matches.get_strs(KEY)) else {
@@ -136,14 +163,28 @@ fn replay_options(alloc: Global, matches: &ArgMatches<'_>) -> Result<Command, Co
     let Some(bytes) = optional_number(GREATEST_BYTES, 1, GREATEST_BYTES, bytes) else {
         return Err(CommandError::Usage);
     };
-    Ok(Command::Replay(ReplayOptions {
+    Ok(ReplayOptions {
         key: Octets::new(alloc, key.as_bytes())?,
         scheme,
         hwm,
         misses,
-        entries: u64::from(entries),
-        bytes: u64::from(bytes),
-    }))
+        entries,
+        bytes,
+    })
+}
+
+/// `replay` over a database.
+fn replay_over(
+    alloc: Global,
+    database: &str,
+    matches: &ArgMatches<'_>,
+) -> Result<Command, CommandError>
+    ensures ok { IfOk result (λ c. replay_behind (database.now ∷ []) (values_of matches.now) ≡ Some c) }
+    ensures usage { result ≡ Err CommandError.Usage → replay_behind (database.now ∷ []) (values_of matches.now) ≡ None }
+{
+    let options = replay_options(alloc, matches)?;
+    let database = Text::new(alloc, database)?;
+    Ok(Command::Replay { database, options })
 }
 
 /// `replay` with what stands behind it.
@@ -153,7 +194,7 @@ fn replay_behind(alloc: Global, matches: &ArgMatches<'_>) -> Result<Command, Com
 {
     let words = words(alloc, matches)?;
     match words.as_slice() {
-        [] => replay_options(alloc, matches),
+        [database] => replay_over(alloc, *database, matches),
         _ => Err(CommandError::Usage),
     }
 }
@@ -171,6 +212,49 @@ fn replay_of(alloc: Global, behind: &[Text]) -> Result<Command, CommandError>
     replay_behind(alloc, &matches)
 }
 
+/// The one positional word.
+fn only_word(alloc: Global, matches: &ArgMatches<'_>) -> Result<Text, CommandError>
+    ensures ok { IfOk result (λ d. only_word (values_of matches.now word_id) ≡ Some d) }
+    ensures usage { result ≡ Err CommandError.Usage → only_word (values_of matches.now word_id) ≡ None }
+{
+    let words = words(alloc, matches)?;
+    match words.as_slice() {
+        [database] => Ok(Text::new(alloc, *database)?),
+        _ => Err(CommandError::Usage),
+    }
+}
+
+/// The database behind a command that has no options.
+fn database_in(alloc: Global, name: &str, behind: &[Text]) -> Result<Text, CommandError>
+    ensures ok { IfOk result (λ d. database_in behind.now ≡ Some d) }
+    ensures usage { result ≡ Err CommandError.Usage → database_in behind.now ≡ None }
+{
+    if !are_formed(behind) {
+        return Err(CommandError::Usage);
+    }
+    let texts = borrowed(alloc, behind)?;
+    let matches = parted(alloc, name, &NONE, texts.as_slice())?;
+    only_word(alloc, &matches)
+}
+
+/// What the words behind `dump` ask for.
+fn dump_of(alloc: Global, behind: &[Text]) -> Result<Command, CommandError>
+    ensures ok { IfOk result (λ c. dump_of behind.now ≡ Some c) }
+    ensures usage { result ≡ Err CommandError.Usage → dump_of behind.now ≡ None }
+{
+    let database = database_in(alloc, "dump", behind)?;
+    Ok(Command::Dump { database })
+}
+
+/// What the words behind `check` ask for.
+fn check_of(alloc: Global, behind: &[Text]) -> Result<Command, CommandError>
+    ensures ok { IfOk result (λ c. check_of behind.now ≡ Some c) }
+    ensures usage { result ≡ Err CommandError.Usage → check_of behind.now ≡ None }
+{
+    let database = database_in(alloc, "check", behind)?;
+    Ok(Command::Check { database })
+}
+
 /// Whether a word is the command `replay`.
 #[tactic(auto, unfolding(crate::specs::Reading::replay_word))]
 fn is_replay(word: &Text) -> bool
@@ -179,13 +263,46 @@ fn is_replay(word: &Text) -> bool
     word.as_slice() == b"replay".as_slice()
 }
 
+/// Whether a word is the command `dump`.
+#[tactic(auto, unfolding(crate::specs::Reading::dump_word))]
+fn is_dump(word: &Text) -> bool
+    ensures { result ≡ bytes_eq word.now dump_word }
+{
+    word.as_slice() == b"dump".as_slice()
+}
+
+/// Whether a word is the command `check`.
+#[tactic(auto, unfolding(crate::specs::Reading::check_word))]
+fn is_check(word: &Text) -> bool
+    ensures { result ≡ bytes_eq word.now check_word }
+{
+    word.as_slice() == b"check".as_slice()
+}
+
+/// What a command asks for with the words behind it.
+fn asked_by(alloc: Global, command: &Text, behind: &[Text]) -> Result<Command, CommandError>
+    ensures ok { IfOk result (λ c. asked_by command.now behind.now ≡ Some c) }
+    ensures usage { result ≡ Err CommandError.Usage → asked_by command.now behind.now ≡ None }
+{
+    if is_replay(command) {
+        return replay_of(alloc, behind);
+    }
+    if is_dump(command) {
+        return dump_of(alloc, behind);
+    }
+    if is_check(command) {
+        return check_of(alloc, behind);
+    }
+    Err(CommandError::Usage)
+}
+
 /// What the words ask for.
 pub fn command_of(alloc: Global, words: &WordList) -> Result<Command, CommandError>
     ensures ok { IfOk result (λ c. reading words.now ≡ Some c) }
     ensures usage { result ≡ Err CommandError.Usage → reading words.now ≡ None }
 {
     match words.as_slice() {
-        [command, behind @ ..] if is_replay(command) => replay_of(alloc, behind),
-        _ => Err(CommandError::Usage),
+        [command, behind @ ..] => asked_by(alloc, command, behind),
+        [] => Err(CommandError::Usage),
     }
 }

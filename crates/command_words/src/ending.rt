@@ -18,11 +18,17 @@ pub enum Ending {
     ReadFault,
     /// A write to the output failed.
     WriteFault,
+    /// A call of the disk failed.
+    DiskFault,
     /// The tape has a fault at this place.
     BadTape(u64),
+    /// The disk holds no journal, or a damaged one, or one whose list isn't that of a cluster; the place is an offset in it.
+    Damaged(u64),
     OutOfMemory,
     /// The history would pass a limit with these entries, and these octets of their records.
     HistoryFull { entries: u64, bytes: u64 },
+    /// The input isn't the text of the history: this is the first offset at which they differ.
+    Different(u64),
 }
 
 /// The status that says how the program ends.
@@ -34,9 +40,12 @@ pub fn status_of(ending: Ending) -> u8
         Ending::Usage => 2,
         Ending::ReadFault => 3,
         Ending::WriteFault => 4,
+        Ending::DiskFault => 5,
         Ending::BadTape(_) => 6,
+        Ending::Damaged(_) => 7,
         Ending::OutOfMemory => 8,
         Ending::HistoryFull { .. } => 9,
+        Ending::Different(_) => 10,
     }
 }
 
@@ -110,8 +119,11 @@ pub fn line_of(ending: Ending) -> Line
         Ending::Usage => plain("ipcluster: the command line has no reading\n"),
         Ending::ReadFault => plain("ipcluster: read fault\n"),
         Ending::WriteFault => plain("ipcluster: write fault\n"),
+        Ending::DiskFault => plain("ipcluster: disk fault\n"),
         Ending::BadTape(place) => with_place("ipcluster: bad tape at ", place),
+        Ending::Damaged(place) => with_place("ipcluster: damaged database at ", place),
         Ending::OutOfMemory => plain("ipcluster: out of memory\n"),
         Ending::HistoryFull { entries, bytes } => history_full(entries, bytes),
+        Ending::Different(place) => with_place("ipcluster: different at ", place),
     }
 }

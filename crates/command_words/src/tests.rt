@@ -1,6 +1,6 @@
 //! Command lines with and without a reading, and the lines of ends.
 
-use crate::command::{Command, command_of};
+use crate::command::{Command, CommandError, command_of};
 use crate::ending::{Ending, line_of, status_of};
 use cluster_types::config::Scheme;
 use cluster_types::message::WordList;
@@ -17,12 +17,12 @@ fn words(alloc: Global, texts: &[&str]) -> Result<WordList, Fail> {
 }
 
 /// The options of `replay`: key, scheme, greatest load, missed beats, entries, octets.
-type Options = (&'static str, Scheme, u32, u32, u64, u64);
+type Options = (&'static str, Scheme, u32, u32, u32, u32);
 
-/// What is asked for, with no key where nothing is.
-fn asked(command: &Option<Command>) -> (&[u8], Scheme, u32, u32, u64, u64) {
+/// The options of `replay`, with no key where it isn't asked for.
+fn asked(command: &Option<Command>) -> (&[u8], Scheme, u32, u32, u32, u32) {
     match command {
-        Some(Command::Replay(options)) => (
+        Some(Command::Replay { options, .. }) => (
             options.key.as_slice(),
             options.scheme,
             options.hwm,
@@ -30,17 +30,17 @@ fn asked(command: &Option<Command>) -> (&[u8], Scheme, u32, u32, u64, u64) {
             options.entries,
             options.bytes,
         ),
-        None => (b"", Scheme::LeastLoad, 0, 0, 0, 0),
+        _ => (b"", Scheme::LeastLoad, 0, 0, 0, 0),
     }
 }
 
 /// What stands for words without a reading.
 const NOTHING: Options = ("", Scheme::LeastLoad, 0, 0, 0, 0);
 
-/// Command lines, and what they ask for.
+/// Command lines, and the options that they ask for.
 const ROWS: &[(&[&str], Options)] = &[
     (
-        &["replay", "--key", "k"],
+        &["replay", "db", "--key", "k"],
         ("k", Scheme::LeastLoad, 1, 10, 4_000_000, 1_073_741_824),
     ),
     (
@@ -49,6 +49,7 @@ const ROWS: &[(&[&str], Options)] = &[
             "--misses=1000",
             "--hwm",
             "0",
+            "db",
             "--key=-=k",
             "--scheme",
             "twobin",
@@ -66,16 +67,20 @@ const ROWS: &[(&[&str], Options)] = &[
             "--bytes=1",
             "--entries",
             "4000000",
+            "db",
         ],
         ("k=v", Scheme::LeastLoad, 1, 10, 4_000_000, 1),
     ),
     (
-        &["replay", "--scheme", "lru", "--misses", "1", "--key", "k"],
+        &[
+            "replay", "db", "--scheme", "lru", "--misses", "1", "--key", "k",
+        ],
         ("k", Scheme::Lru, 1, 1, 4_000_000, 1_073_741_824),
     ),
     (
         &[
             "replay",
+            "db",
             "--key",
             "k",
             "--scheme=plainrandom",
@@ -90,41 +95,49 @@ const ROWS: &[(&[&str], Options)] = &[
             1_073_741_824,
         ),
     ),
-    (&["replay"], NOTHING),
+    (&["replay", "db"], NOTHING),
     (&[], NOTHING),
-    (&["--key", "k", "replay"], NOTHING),
-    (&["Replay", "--key", "k"], NOTHING),
-    (&["replay", "--key"], NOTHING),
-    (&["replay", "--key", ""], NOTHING),
-    (&["replay", "--key="], NOTHING),
-    (&["replay", "--key", "-k"], NOTHING),
-    (&["replay", "--key", "-"], NOTHING),
-    (&["replay", "--key", "--hwm=1"], NOTHING),
-    (&["replay", "--key", "k", "--key=k"], NOTHING),
-    (&["replay", "--key", "k", "--scheme", "LRU"], NOTHING),
-    (&["replay", "--key", "k", "--hwm", "1000001"], NOTHING),
-    (&["replay", "--key", "k", "--hwm", "01"], NOTHING),
-    (&["replay", "--key", "k", "--hwm", "+1"], NOTHING),
-    (&["replay", "--key", "k", "--hwm", ""], NOTHING),
-    (&["replay", "--key", "k", "--hwm", "4294967297"], NOTHING),
-    (&["replay", "--key", "k", "--misses", "0"], NOTHING),
-    (&["replay", "--key", "k", "--misses", "1001"], NOTHING),
-    (&["replay", "--key", "k", "--entries", "0"], NOTHING),
-    (&["replay", "--key", "k", "--entries=4000001"], NOTHING),
-    (&["replay", "--key", "k", "--bytes=0"], NOTHING),
-    (&["replay", "--key", "k", "--bytes", "1073741825"], NOTHING),
-    (&["replay", "--key", "k", "--"], NOTHING),
-    (&["replay", "--", "--key", "k"], NOTHING),
-    (&["replay", "--key", "k", "--=v"], NOTHING),
-    (&["replay", "--key", "k", "-"], NOTHING),
-    (&["replay", "--key", "k", "--help"], NOTHING),
-    (&["replay", "--key", "k", "-h"], NOTHING),
-    (&["replay", "--key", "k", "--version"], NOTHING),
-    (&["replay", "--key", "k", "db"], NOTHING),
-    (&["replay", "--key", "k", "help"], NOTHING),
-    (&["replay", "--key", "k", "--key-"], NOTHING),
-    (&["replay", "--ke", "k"], NOTHING),
-    (&["replay", "--key", "k", "--hwm="], NOTHING),
+    (&["--key", "k", "replay", "db"], NOTHING),
+    (&["Replay", "db", "--key", "k"], NOTHING),
+    (&["replay", "db", "--key"], NOTHING),
+    (&["replay", "db", "--key", ""], NOTHING),
+    (&["replay", "db", "--key="], NOTHING),
+    (&["replay", "db", "--key", "-k"], NOTHING),
+    (&["replay", "db", "--key", "-"], NOTHING),
+    (&["replay", "db", "--key", "--hwm=1"], NOTHING),
+    (&["replay", "db", "--key", "k", "--key=k"], NOTHING),
+    (&["replay", "db", "--key", "k", "--scheme", "LRU"], NOTHING),
+    (&["replay", "db", "--key", "k", "--hwm", "1000001"], NOTHING),
+    (&["replay", "db", "--key", "k", "--hwm", "01"], NOTHING),
+    (&["replay", "db", "--key", "k", "--hwm", "+1"], NOTHING),
+    (&["replay", "db", "--key", "k", "--hwm", ""], NOTHING),
+    (
+        &["replay", "db", "--key", "k", "--hwm", "4294967297"],
+        NOTHING,
+    ),
+    (&["replay", "db", "--key", "k", "--misses", "0"], NOTHING),
+    (&["replay", "db", "--key", "k", "--misses", "1001"], NOTHING),
+    (&["replay", "db", "--key", "k", "--entries", "0"], NOTHING),
+    (
+        &["replay", "db", "--key", "k", "--entries=4000001"],
+        NOTHING,
+    ),
+    (&["replay", "db", "--key", "k", "--bytes=0"], NOTHING),
+    (
+        &["replay", "db", "--key", "k", "--bytes", "1073741825"],
+        NOTHING,
+    ),
+    (&["replay", "db", "--key", "k", "--"], NOTHING),
+    (&["replay", "--", "db", "--key", "k"], NOTHING),
+    (&["replay", "db", "--key", "k", "--=v"], NOTHING),
+    (&["replay", "db", "--key", "k", "-"], NOTHING),
+    (&["replay", "db", "--key", "k", "--help"], NOTHING),
+    (&["replay", "db", "--key", "k", "-h"], NOTHING),
+    (&["replay", "db", "--key", "k", "--version"], NOTHING),
+    (&["replay", "db", "--key", "k", "help"], NOTHING),
+    (&["replay", "db", "--key", "k", "--key-"], NOTHING),
+    (&["replay", "db", "--ke", "k"], NOTHING),
+    (&["replay", "db", "--key", "k", "--hwm="], NOTHING),
 ];
 
 #[test]
@@ -139,6 +152,78 @@ fn readings(rt: HostRuntime) -> Result<(), Fail> {
     Ok(())
 }
 
+/// The word of a command.
+fn name_of(command: &Command) -> &'static str {
+    match command {
+        Command::Replay { .. } => "replay",
+        Command::Dump { .. } => "dump",
+        Command::Check { .. } => "check",
+    }
+}
+
+/// The name of a command and its database, both empty where the words have no reading.
+fn named(command: &Result<Command, CommandError>) -> (&str, &[u8]) {
+    match command {
+        Ok(command) => (name_of(command), command.database().as_slice()),
+        Err(CommandError::Usage) => ("", b""),
+        Err(CommandError::OutOfMemory) => ("out of memory", b""),
+    }
+}
+
+/// Command lines, each with its command and the database; both are empty where the words have no reading.
+const DATABASES: &[(&[&str], &str, &str)] = &[
+    (&["replay", "db", "--key", "k"], "replay", "db"),
+    (&["replay", "--key", "k", "db"], "replay", "db"),
+    (&["replay", "--hwm=1", "db", "--key", "k"], "replay", "db"),
+    (&["replay", "", "--key", "k"], "replay", ""),
+    (&["replay", "--key", "k"], "", ""),
+    (&["replay", "db", "db", "--key", "k"], "", ""),
+    (&["replay", "db", "--key", "k", "db"], "", ""),
+    (&["dump", "db"], "dump", "db"),
+    (&["dump", ""], "dump", ""),
+    (&["dump", "dump"], "dump", "dump"),
+    (&["dump", "a=b/c d"], "dump", "a=b/c d"),
+    (&["dump"], "", ""),
+    (&["dump", "db", "db"], "", ""),
+    (&["dump", "db", ""], "", ""),
+    (&["dump", "db", "--key", "k"], "", ""),
+    (&["dump", "--key=k", "db"], "", ""),
+    (&["dump", "--hwm", "1"], "", ""),
+    (&["dump", "--", "db"], "", ""),
+    (&["dump", "db", "--"], "", ""),
+    (&["dump", "-"], "", ""),
+    (&["dump", "-db"], "", ""),
+    (&["dump", "db", "-h"], "", ""),
+    (&["check", "db"], "check", "db"),
+    (&["check", ""], "check", ""),
+    (&["check", "help"], "check", "help"),
+    (&["check"], "", ""),
+    (&["check", "db", "db"], "", ""),
+    (&["check", "db", "--key", "k"], "", ""),
+    (&["check", "--", "db"], "", ""),
+    (&["check", "--help"], "", ""),
+    (&["check", "db", "--help"], "", ""),
+    (&["check", "\u{fc}ber.db"], "check", "\u{fc}ber.db"),
+    (&["check", "db", "--version"], "", ""),
+    (&["Dump", "db"], "", ""),
+    (&["dum", "db"], "", ""),
+    (&["checks", "db"], "", ""),
+    (&["db", "dump"], "", ""),
+    (&["", "db"], "", ""),
+    (&["help", "db"], "", ""),
+];
+
+#[test]
+fn databases(rt: HostRuntime) -> Result<(), Fail> {
+    for (texts, name, database) in DATABASES {
+        let words = words(rt.alloc(), texts)?;
+        let command = command_of(rt.alloc(), &words);
+        let is_named = named(&command) == (*name, database.as_bytes());
+        assert!(rt; is_named, "at {texts:?}");
+    }
+    Ok(())
+}
+
 /// Each end, with its status and line.
 const ENDS: &[(Ending, u8, &str)] = &[
     (Ending::Done, 0, ""),
@@ -149,11 +234,18 @@ const ENDS: &[(Ending, u8, &str)] = &[
     ),
     (Ending::ReadFault, 3, "ipcluster: read fault\n"),
     (Ending::WriteFault, 4, "ipcluster: write fault\n"),
+    (Ending::DiskFault, 5, "ipcluster: disk fault\n"),
     (Ending::BadTape(25), 6, "ipcluster: bad tape at 25\n"),
     (
         Ending::BadTape(4_294_967_296),
         6,
         "ipcluster: bad tape at 4294967296\n",
+    ),
+    (Ending::Damaged(7), 7, "ipcluster: damaged database at 7\n"),
+    (
+        Ending::Damaged(41),
+        7,
+        "ipcluster: damaged database at 41\n",
     ),
     (Ending::OutOfMemory, 8, "ipcluster: out of memory\n"),
     (
@@ -171,6 +263,12 @@ const ENDS: &[(Ending, u8, &str)] = &[
         },
         9,
         "ipcluster: history full at 18446744073709551615 entries and 18446744073709551615 bytes\n",
+    ),
+    (Ending::Different(0), 10, "ipcluster: different at 0\n"),
+    (
+        Ending::Different(u64::MAX),
+        10,
+        "ipcluster: different at 18446744073709551615\n",
     ),
 ];
 

@@ -1,10 +1,10 @@
 //! Steps of a small cluster.
 
-ghost use Rattle.std.specs.Prelude.{◌≡◌, ◌<◌, length, IfOk};
+ghost use Rattle.std.specs.Prelude.{IfOk};
 ghost use Rattle.cluster_types.specs.declared.entry.Entry.{Entry};
-ghost use Rattle.cluster_defs.specs.Scheduling.{pick};
 ghost use Rattle.cluster_state.specs.Plain.{InTime};
 
+use crate::choosing::new_chooser;
 use cluster_core::machine::Core;
 use cluster_core::plan::PlanError;
 use cluster_core::size::HistorySize;
@@ -13,8 +13,7 @@ use cluster_types::entry::Input;
 use cluster_types::octets::Octets;
 use cluster_types::sequence::Sequence;
 use cluster_types::shared_message::SharedMessage;
-use load_schemes::chooser::{Choose, Chooser};
-use load_schemes::place::place_of;
+use load_schemes::chooser::Chooser;
 use std::alloc::{AllocError, Global};
 use std::test::Fail;
 
@@ -166,14 +165,7 @@ fn is_full(alloc: Global, chooser: &Chooser) -> Result<bool, PlanError> {
 #[test]
 fn steps(rt: HostRuntime) -> Result<(), Fail> {
     let alloc = rt.alloc();
-    let choose: Choose = Box::new(
-        alloc,
-        |scheme: Scheme, loads: &[u32], word: u64| -> usize
-            requires { 0 < length loads.now }
-            ensures { result ≡ pick scheme loads.now word }
-        { place_of(scheme, loads, word) },
-    )?;
-    let chooser = Chooser::new(choose);
+    let chooser = new_chooser(alloc)?;
     assert_eq!(rt; hands_out(alloc, &chooser), Ok(true));
     assert_eq!(rt; connections(alloc, &chooser), Ok(true));
     assert_eq!(rt; stops(alloc, &chooser), Ok(true));

@@ -1,12 +1,13 @@
 //! A store over disks in memory, one of which fails.
 
-ghost use Rattle.std.specs.Prelude.{◌≡◌, ◌<◌, length, false, IfOk};
+ghost use Rattle.std.specs.Prelude.{◌≡◌, ◌<◌, ℕ, length, false, IfOk};
 ghost use Rattle.cluster_types.specs.declared.entry.Entry.{Entry};
-ghost use Rattle.cluster_defs.specs.Lives.{is_open};
-ghost use Rattle.cluster_defs.specs.Scheduling.{pick};
+ghost use Rattle.cluster_defs.specs.Lives.{is_open, sendings_to};
+ghost use Rattle.cluster_store.specs.Stores.{told};
 ghost use Rattle.record_codec.specs.Spelling.{IsWithinLimits};
 
-use cluster_store::fault::StepError;
+use crate::choosing::new_chooser;
+use cluster_store::fault::{ServeError, StepError};
 use cluster_store::opening::read_list;
 use cluster_store::store::Store;
 use cluster_store::taken::Taken;
@@ -17,11 +18,11 @@ use cluster_types::sequence::Sequence;
 use cluster_types::shared_message::SharedMessage;
 use disk_model::fuse::FuseDisk;
 use disk_model::memory::MemDisk;
-use load_schemes::chooser::{Choose, Chooser};
-use load_schemes::place::place_of;
+use load_schemes::chooser::Chooser;
 use std::alloc::{AllocError, Global};
 use std::test::Fail;
 use task_journal::fault::AppendFault;
+use task_journal::opening::Refused;
 use task_journal::reading::read_journal;
 
 /// What a take is to answer.
@@ -228,14 +229,7 @@ fn left_of(
 #[test]
 fn stores(rt: HostRuntime) -> Result<(), Fail> {
     let alloc = rt.alloc();
-    let choose: Choose = Box::new(
-        alloc,
-        |scheme: Scheme, loads: &[u32], word: u64| -> usize
-            requires { 0 < length loads.now }
-            ensures { result ≡ pick scheme loads.now word }
-        { place_of(scheme, loads, word) },
-    )?;
-    let chooser = Chooser::new(choose);
+    let chooser = new_chooser(alloc)?;
     for (call, acts, left) in PLAYED {
         assert_eq!(rt; left_of(alloc, &chooser, *call, acts), Ok(Some(*left)));
     }
@@ -322,16 +316,123 @@ fn plays(alloc: Global, chooser: &Chooser, call: u64) -> Result<(bool, bool), St
 #[test]
 fn each_call_may_fail(rt: HostRuntime) -> Result<(), Fail> {
     let alloc = rt.alloc();
-    let choose: Choose = Box::new(
-        alloc,
-        |scheme: Scheme, loads: &[u32], word: u64| -> usize
-            requires { 0 < length loads.now }
-            ensures { result ≡ pick scheme loads.now word }
-        { place_of(scheme, loads, word) },
-    )?;
-    let chooser = Chooser::new(choose);
+    let chooser = new_chooser(alloc)?;
     for call in 1..24 {
         assert_eq!(rt; plays(alloc, &chooser, call), Ok((call < 23, true)));
+    }
+    Ok(())
+}
+
+/// What an input is answered with that is served.
+#[derive(Clone, Copy, Debug, PartialEq, Eq)]
+enum Served {
+    /// So many outs.
+    Outs(usize),
+    MayNotCome,
+    Fails(ServeError),
+}
+
+/// Serves an input where it may come.
+fn serve(store: &mut Store<FuseDisk>, chooser: &Chooser, input: Input) -> Result<Served, AllocError>
+    requires fits { IsWithinLimits (Entry.Input input) }
+    requires calm { (c : ℕ) → told store.old c ≡ length (sendings_to store.old.history c) }
+    ensures { (c : ℕ) → told store.new c ≡ length (sendings_to store.new.history c) }
+{
+    let meaning = store.understand(&input)?;
+    if !store.may_take(&input, &meaning.event)? {
+        return Ok(Served::MayNotCome);
+    }
+    match store.serve(chooser, input, meaning) {
+        Ok(outs) => Ok(Served::Outs(outs.len())),
+        Err(error) => Ok(Served::Fails(error)),
+    }
+}
+
+/// An engine comes up, and joins.
+fn joins(
+    alloc: Global,
+    store: &mut Store<FuseDisk>,
+    chooser: &Chooser,
+) -> Result<(Served, Served), AllocError>
+    requires { (c : ℕ) → told store.old c ≡ length (sendings_to store.old.history c) }
+{
+    let first = serve(store, chooser, up(alloc, 1, Channel::Engine)?)?;
+    let join = said(
+        alloc,
+        1,
+        b"{\"msg_id\":\"j\",\"msg_type\":\"registration_request\"}",
+        b"{\"uuid\":\"e0\"}",
+    )?;
+    let second = serve(store, chooser, join)?;
+    Ok((first, second))
+}
+
+/// How many entries a store has that was served, its mark, how many steps were refused, and how many entries the disk
+/// holds.
+type Behind = (usize, u64, u64, usize);
+
+/// A store over a disk, on which no outs wait.
+fn opened(
+    alloc: Global,
+    chooser: &Chooser,
+    disk: FuseDisk,
+    config: Config,
+) -> Result<Store<FuseDisk>, Refused<FuseDisk>>
+    ensures calm { IfOk result (λ s. (c : ℕ) → told s c ≡ length (sendings_to s.history c)) }
+{
+    match Store::open(alloc, disk, config, chooser, 0) {
+        Ok(store) => Ok(store),
+        Err(refused) => Err(refused),
+    }
+}
+
+/// What comes of an engine that joins, over a disk whose call of that number fails and under a limit of entries.
+fn joined(
+    alloc: Global,
+    chooser: &Chooser,
+    call: u64,
+    entries: u64,
+) -> Result<Option<(Served, Served, Behind)>, AllocError> {
+    let disk = FuseDisk::new(MemDisk::new(alloc, b"")?, call);
+    let config = Config { entries, ..CONFIG };
+    let Ok(mut store) = opened(alloc, chooser, disk, config) else {
+        return Ok(None);
+    };
+    let (first, second) = joins(alloc, &mut store, chooser)?;
+    let (entries, mark, fulls) = (store.history().len(), store.mark(), store.fulls());
+    let mut disk = store.close().into_disk();
+    let Ok((kept, _places)) = read_journal(alloc, &mut disk) else {
+        return Ok(None);
+    };
+    Ok(Some((first, second, (entries, mark, fulls, kept.len()))))
+}
+
+/// The record of the registration has 104 octets, that of the Up before it 24.
+const FULL: Served = Served::Fails(ServeError::Step(StepError::HistoryFull {
+    entries: 2,
+    bytes: 128,
+}));
+
+const FAULTY: Served = Served::Fails(ServeError::DiskFault);
+
+const LATER: Served = Served::Fails(ServeError::Step(StepError::Reopen));
+
+/// The call of the disk that fails, the limit of entries, and what comes of an engine that joins.
+const JOINED: &[(u64, u64, (Served, Served, Behind))] = &[
+    (0, 2, (Served::Outs(0), Served::Outs(1), (3, 3, 0, 3))),
+    (0, 1, (Served::Outs(0), FULL, (2, 2, 1, 2))),
+    (11, 2, (FAULTY, LATER, (2, 1, 0, 1))),
+    (14, 2, (FAULTY, LATER, (2, 1, 0, 2))),
+    (15, 2, (Served::Outs(0), FAULTY, (3, 2, 0, 2))),
+    (18, 2, (Served::Outs(0), FAULTY, (3, 2, 0, 3))),
+];
+
+#[test]
+fn steps_that_are_served(rt: HostRuntime) -> Result<(), Fail> {
+    let alloc = rt.alloc();
+    let chooser = new_chooser(alloc)?;
+    for (call, entries, wanted) in JOINED {
+        assert_eq!(rt; joined(alloc, &chooser, *call, *entries)?, Some(*wanted));
     }
     Ok(())
 }

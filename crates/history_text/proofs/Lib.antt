@@ -1,2 +1,2 @@
-mod Differences
+pub mod Differences
 mod Feeding

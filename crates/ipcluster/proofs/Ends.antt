@@ -1,144 +1,89 @@
 -- How the program ends, by its status.
-use Rattle.std.proofs.Common.{◌≡◌, ℕ, List, Option, Some, None, refl, ap, subst, ◌∙◌, ◌⊎◌, ⊎_elim, inl, inr}
-use Rattle.std.specs.Prelude.{IfSome, IsSomeAnd}
-use Rattle.edges.specs.Streams.{Added}
+use Rattle.std.proofs.Common.{◌≡◌, ℕ, List, Option, Some, None, refl, sym, ap, subst, ◌∙◌, ◌⊎◌, ⊎_elim, inl, inr}
+use Rattle.std.specs.Prelude.{IfSome}
+use Rattle.command_words.specs.declared.command.Command.{Command}
+use Rattle.command_words.specs.declared.command.Command.TheVariants.{Replay, Dump, Check}
 use Rattle.command_words.specs.declared.ending.Ending.{Ending}
-use Rattle.command_words.specs.declared.ending.Ending.TheVariants.{Done, Usage, ReadFault, WriteFault, BadTape, HistoryFull, OutOfMemory}
+use Rattle.command_words.specs.declared.ending.Ending.TheVariants.{Done, Usage, ReadFault, WriteFault, DiskFault, BadTape, Damaged, OutOfMemory, HistoryFull, Different}
 use Rattle.command_words.specs.Lines.{status, line}
-use Rattle.tape_drive.specs.declared.drive.Stop.{Stop}
-use Rattle.tape_drive.specs.declared.drive.Stop.TheVariants as stops
-use Rattle.ipcluster.specs.Written.{Said, Told, Ended}
+use Rattle.ipcluster.specs.Commands.{Says, Ends, Unread}
+use Rattle.ipcluster.specs.Written.{Said}
 
-pub if_some : {T : Type 0} (o : Option T) (P : T → Type 0) → ((x : T) → P x) → IfSome o P
-if_some None P all = tt
-if_some (Some x) P all = all x
-
-is_some_and : {T : Type 0} (o : Option T) (P Q : T → Type 0) → (o ≡ None → ⊥) → IfSome o P → ((x : T) → P x → Q x) → IsSomeAnd o Q
-is_some_and None P Q some fact go = absurd (some refl)
-is_some_and (Some x) P Q some fact go = go x fact
+pub if_some : {T : Type 0} (o : Option T) (P Q : T → Type 0) → IfSome o P → ((x : T) → P x → Q x) → IfSome o Q
+if_some None P Q fact go = tt
+if_some (Some x) P Q fact go = go x fact
 
 -- the end of a status
 pub ends_usage : (e : Ending) → status e ≡ 2 → e ≡ Usage
-ends_usage Usage is = refl
 ends_usage Done is = cc
+ends_usage Usage is = refl
 ends_usage ReadFault is = cc
 ends_usage WriteFault is = cc
+ends_usage DiskFault is = cc
 ends_usage (BadTape place) is = cc
-ends_usage (HistoryFull entries bytes) is = cc
+ends_usage (Damaged place) is = cc
 ends_usage OutOfMemory is = cc
+ends_usage (HistoryFull entries bytes) is = cc
+ends_usage (Different place) is = cc
 
 pub ends_read_fault : (e : Ending) → status e ≡ 3 → e ≡ ReadFault
-ends_read_fault ReadFault is = refl
 ends_read_fault Done is = cc
 ends_read_fault Usage is = cc
+ends_read_fault ReadFault is = refl
 ends_read_fault WriteFault is = cc
+ends_read_fault DiskFault is = cc
 ends_read_fault (BadTape place) is = cc
-ends_read_fault (HistoryFull entries bytes) is = cc
+ends_read_fault (Damaged place) is = cc
 ends_read_fault OutOfMemory is = cc
+ends_read_fault (HistoryFull entries bytes) is = cc
+ends_read_fault (Different place) is = cc
 
 pub ends_write_fault : (e : Ending) → status e ≡ 4 → e ≡ WriteFault
-ends_write_fault WriteFault is = refl
 ends_write_fault Done is = cc
 ends_write_fault Usage is = cc
 ends_write_fault ReadFault is = cc
+ends_write_fault WriteFault is = refl
+ends_write_fault DiskFault is = cc
 ends_write_fault (BadTape place) is = cc
-ends_write_fault (HistoryFull entries bytes) is = cc
+ends_write_fault (Damaged place) is = cc
 ends_write_fault OutOfMemory is = cc
+ends_write_fault (HistoryFull entries bytes) is = cc
+ends_write_fault (Different place) is = cc
 
-pub ends_bad_tape : (e : Ending) → status e ≡ 6 → (place : ℕ) × (e ≡ BadTape place)
-ends_bad_tape (BadTape place) is = (place, refl)
-ends_bad_tape Done is = absurd cc
-ends_bad_tape Usage is = absurd cc
-ends_bad_tape ReadFault is = absurd cc
-ends_bad_tape WriteFault is = absurd cc
-ends_bad_tape OutOfMemory is = absurd cc
-ends_bad_tape (HistoryFull entries bytes) is = absurd cc
+pub ends_disk_fault : (e : Ending) → status e ≡ 5 → e ≡ DiskFault
+ends_disk_fault Done is = cc
+ends_disk_fault Usage is = cc
+ends_disk_fault ReadFault is = cc
+ends_disk_fault WriteFault is = cc
+ends_disk_fault DiskFault is = refl
+ends_disk_fault (BadTape place) is = cc
+ends_disk_fault (Damaged place) is = cc
+ends_disk_fault OutOfMemory is = cc
+ends_disk_fault (HistoryFull entries bytes) is = cc
+ends_disk_fault (Different place) is = cc
 
-pub ends_full : (e : Ending) → status e ≡ 9 → (entries : ℕ) × (bytes : ℕ) × (e ≡ HistoryFull entries bytes)
-ends_full (HistoryFull entries bytes) is = (entries, bytes, refl)
-ends_full Done is = absurd cc
-ends_full Usage is = absurd cc
-ends_full ReadFault is = absurd cc
-ends_full WriteFault is = absurd cc
-ends_full (BadTape place) is = absurd cc
-ends_full OutOfMemory is = absurd cc
+-- the line of an end that isn't Done is what it says
+pub says_line : (e : Ending) (before now : Option (List ℕ)) (faults later : ℕ) → (e ≡ Done → ⊥) → Said (line e) before now faults later → Says e before now faults later
+says_line Done before now faults later not said = absurd (not refl)
+says_line Usage before now faults later not said = said
+says_line ReadFault before now faults later not said = said
+says_line WriteFault before now faults later not said = said
+says_line DiskFault before now faults later not said = said
+says_line (BadTape place) before now faults later not said = said
+says_line (Damaged place) before now faults later not said = said
+says_line OutOfMemory before now faults later not said = said
+says_line (HistoryFull entries bytes) before now faults later not said = said
+says_line (Different place) before now faults later not said = said
 
-pub ends_out_of_memory : (e : Ending) → status e ≡ 8 → e ≡ OutOfMemory
-ends_out_of_memory OutOfMemory is = refl
-ends_out_of_memory Done is = cc
-ends_out_of_memory Usage is = cc
-ends_out_of_memory ReadFault is = cc
-ends_out_of_memory WriteFault is = cc
-ends_out_of_memory (BadTape place) is = cc
-ends_out_of_memory (HistoryFull entries bytes) is = cc
+pub unread_status : (n : ℕ) (e : Ending) → n ≡ status e → Unread e → (n ≡ 2) ⊎ (n ≡ 8)
+unread_status n e is unread = ⊎_elim (λ u. inl (is ∙ ap status u)) (λ m. inr (is ∙ ap status m)) unread
 
-pub ends_done : (e : Ending) → status e ≡ 0 → e ≡ Done
-ends_done Done is = refl
-ends_done Usage is = cc
-ends_done ReadFault is = cc
-ends_done WriteFault is = cc
-ends_done (BadTape place) is = cc
-ends_done (HistoryFull entries bytes) is = cc
-ends_done OutOfMemory is = cc
+-- no command ends as words without a reading do
+pub never_usage : (tells : Type 0) (content : List ℕ) (left rest before now : Option (List ℕ)) (old new : List ℕ → Type 0) (c : Command) → Ends tells content left rest before now old new c Usage → ⊥
+never_usage tells content left rest before now old new (Replay database options) ends = ends
+never_usage tells content left rest before now old new (Dump database) ends = ends
+never_usage tells content left rest before now old new (Check database) ends = ends.1
 
-pub statuses : (e : Ending) → (status e ≡ 0) ⊎ (status e ≡ 2) ⊎ (status e ≡ 3) ⊎ (status e ≡ 4) ⊎ (status e ≡ 6) ⊎ (status e ≡ 8) ⊎ (status e ≡ 9)
-statuses Done = inl refl
-statuses Usage = inr (inl refl)
-statuses ReadFault = inr (inr (inl refl))
-statuses WriteFault = inr (inr (inr (inl refl)))
-statuses (BadTape place) = inr (inr (inr (inr (inl refl))))
-statuses OutOfMemory = inr (inr (inr (inr (inr (inl refl)))))
-statuses (HistoryFull entries bytes) = inr (inr (inr (inr (inr (inr refl)))))
-
-pub unread_status : {N : Type 0} (n : ℕ) (e : Ending) → n ≡ status e → (N → (e ≡ Usage) ⊎ (e ≡ OutOfMemory)) → N → (n ≡ 2) ⊎ (n ≡ 8)
-unread_status n e is unread none = ⊎_elim (λ u. inl (is ∙ ap status u)) (λ m. inr (is ∙ ap status m)) (unread none)
-
--- where words have no reading, the end is one of two
-pub some_read : {C : Type 0} (o : Option C) (e : Ending) → (o ≡ None → (e ≡ Usage) ⊎ (e ≡ OutOfMemory)) → (status e ≡ 2 → ⊥) → (status e ≡ 8 → ⊥) → o ≡ None → ⊥
-some_read o e unread usage memory none = ⊎_elim (λ u. usage (ap status u)) (λ m. memory (ap status m)) (unread none)
-
-pub full_said : (e : Ending) (said says : Option (List ℕ)) (faults later : ℕ) → status e ≡ 9 → Said (line e) said says faults later → (entries : ℕ) × (bytes : ℕ) × Said (line (HistoryFull entries bytes)) said says faults later
-full_said e said says faults later nine fact = let at = ends_full e nine in (at.0, at.1, subst (λ (d : Ending). Said (line d) said says faults later) at.2 fact)
-
--- the line of a fault
-pub tape_said : (e : Ending) (said says : Option (List ℕ)) (faults later : ℕ) → status e ≡ 6 → Said (line e) said says faults later → (place : ℕ) × Said (line (BadTape place)) said says faults later
-tape_said e said says faults later six fact = let at = ends_bad_tape e six in (at.0, subst (λ (d : Ending). Said (line d) said says faults later) at.1 fact)
-
--- the input was served to its end
-pub done_read : {C : Type 0} (o : Option C) (e : Ending) (left : Option (List ℕ)) (output : C → List ℕ → List ℕ) (stop : C → List ℕ → Option Stop) (before now : Option (List ℕ)) → e ≡ Done → (o ≡ None → (e ≡ Usage) ⊎ (e ≡ OutOfMemory))
-    → IfSome o (λ c. Told left (λ octets. Ended e (output c octets) (stop c octets) before now)) → IsSomeAnd o (λ c. Told left (λ octets. Added (output c octets) before now × (stop c octets ≡ None)))
-done_read o e left output stop before now is unread fact =
-    is_some_and o (λ c. Told left (λ octets. Ended e (output c octets) (stop c octets) before now)) (λ c. Told left (λ octets. Added (output c octets) before now × (stop c octets ≡ None)))
-    (some_read o e unread (λ two. absurd (done_not_two (ap status is) two)) (λ eight. absurd (done_not_eight (ap status is) eight))) fact (λ c p octets told. subst (λ (d : Ending). Ended d (output c octets) (stop c octets) before now) is (p octets told))
-  where
-    done_not_two : status e ≡ 0 → status e ≡ 2 → ⊥
-    done_not_two a b = cc
-
-    done_not_eight : status e ≡ 0 → status e ≡ 8 → ⊥
-    done_not_eight a b = cc
-
--- the input has a fault
-pub bad_tape_read : {C : Type 0} (o : Option C) (e : Ending) (left : Option (List ℕ)) (output : C → List ℕ → List ℕ) (stop : C → List ℕ → Option Stop) (before now said says : Option (List ℕ)) (faults later : ℕ) → status e ≡ 6 → (o ≡ None → (e ≡ Usage) ⊎ (e ≡ OutOfMemory))
-    → IfSome o (λ c. Told left (λ octets. Ended e (output c octets) (stop c octets) before now)) → Said (line e) said says faults later
-    → IsSomeAnd o (λ c. Told left (λ octets. Added (output c octets) before now × (place : ℕ) × (stop c octets ≡ Some (stops.BadTape place)) × Said (line (BadTape place)) said says faults later))
-bad_tape_read o e left output stop before now said says faults later six unread fact front =
-    let at = ends_bad_tape e six in
-    is_some_and o (λ c. Told left (λ octets. Ended e (output c octets) (stop c octets) before now))
-    (λ c. Told left (λ octets. Added (output c octets) before now × (place : ℕ) × (stop c octets ≡ Some (stops.BadTape place)) × Said (line (BadTape place)) said says faults later))
-    (some_read o e unread (λ two. cc) (λ eight. cc)) fact
-    (λ c p octets told.
-    let q : Ended (BadTape at.0) (output c octets) (stop c octets) before now = subst (λ (d : Ending). Ended d (output c octets) (stop c octets) before now) at.1 (p octets told) in
-    (q.0, at.0, q.1, subst (λ (d : Ending). Said (line d) said says faults later) at.1 front))
-
--- a step would pass a limit
-pub full_read : {C : Type 0} (o : Option C) (e : Ending) (left : Option (List ℕ)) (output : C → List ℕ → List ℕ) (stop : C → List ℕ → Option Stop) (before now said says : Option (List ℕ)) (faults later : ℕ) → status e ≡ 9 → (o ≡ None → (e ≡ Usage) ⊎ (e ≡ OutOfMemory))
-    → IfSome o (λ c. Told left (λ octets. Ended e (output c octets) (stop c octets) before now)) → Said (line e) said says faults later
-    → IsSomeAnd o (λ c. Told left (λ octets. Added (output c octets) before now × (entries : ℕ) × (bytes : ℕ) × (stop c octets ≡ Some (stops.HistoryFull (record { entries = entries; bytes = bytes }))) × Said (line (HistoryFull entries bytes)) said says faults later))
-full_read o e left output stop before now said says faults later nine unread fact front =
-    let at = ends_full e nine in
-    is_some_and o (λ c. Told left (λ octets. Ended e (output c octets) (stop c octets) before now))
-    (λ c. Told left (λ octets. Added (output c octets) before now × (entries : ℕ) × (bytes : ℕ) × (stop c octets ≡ Some (stops.HistoryFull (record { entries = entries; bytes = bytes }))) × Said (line (HistoryFull entries bytes)) said says faults later))
-    (some_read o e unread (λ two. cc) (λ eight. cc)) fact
-    (λ c p octets told.
-    let q : Ended (HistoryFull at.0 at.1) (output c octets) (stop c octets) before now = subst (λ (d : Ending). Ended d (output c octets) (stop c octets) before now) at.2 (p octets told) in
-    (q.0, at.0, at.1, q.1, subst (λ (d : Ending). Said (line d) said says faults later) at.2 front))
+pub read_by_none : {T : Type 0} (o : Option T) (P : T → Type 0) → IfSome o P → ((x : T) → P x → ⊥) → o ≡ None
+read_by_none None P fact go = refl
+read_by_none (Some x) P fact go = absurd (go x fact)

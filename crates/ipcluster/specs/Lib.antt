@@ -1,2 +1,4 @@
-pub mod Program
+pub mod Commands
+pub mod Replays
+pub mod Serving
 pub mod Written

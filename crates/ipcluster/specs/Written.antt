@@ -2,25 +2,17 @@
 use Rattle.std.specs.Prelude.{◌≡◌, ℕ, List, ◌++◌, Option, Some, None, ◌⊎◌}
 use Rattle.cluster_types.specs.Causes.{Rose}
 use Rattle.edges.specs.Streams.{Added}
+use Rattle.database_text.specs.Texts.{WroteFront}
 use Rattle.command_words.specs.declared.ending.Ending.{Ending}
-use Rattle.command_words.specs.declared.ending.Ending.TheVariants.{Done, BadTape, HistoryFull}
+use Rattle.command_words.specs.declared.ending.Ending.TheVariants.{Done, Usage, DiskFault, BadTape, Damaged, OutOfMemory, HistoryFull, Different}
+use Rattle.task_journal.specs.declared.fault.OpenFault.{OpenFault}
+use Rattle.task_journal.specs.declared.fault.OpenFault.TheVariants as faults
 use Rattle.tape_drive.specs.declared.drive.Stop.{Stop}
 use Rattle.tape_drive.specs.declared.drive.Stop.TheVariants as stops
-
--- a front of these octets was written
-pub record WroteFront (octets : List ℕ) (before now : Option (List ℕ)) : Type 0 where
-  pub front : List ℕ
-  pub rest : List ℕ
-  pub parts : octets ≡ front ++ rest
-  pub added : Added front before now
 
 -- a text was written, or a front of it where the count of the sink's faults rose
 abbrev pub Said : List ℕ → (before now : Option (List ℕ)) → (faults later : ℕ) → Type 0
 Said text before now faults later = Added text before now ⊎ (WroteFront text before now × Rose faults later)
-
--- a fact of what a source had left, where it tells
-abbrev pub Told : Option (List ℕ) → (List ℕ → Type 0) → Type 0
-Told left P = (octets : List ℕ) → left ≡ Some octets → P octets
 
 -- where the input was served to its end or up to what stops it, all of the output was written
 abbrev pub Ended : Ending → (output : List ℕ) → (stop : Option Stop) → (before now : Option (List ℕ)) → Type 0
@@ -34,3 +26,24 @@ Ended _ output stop before now = Unit {0}
 abbrev pub ending_at : Stop → Ending
 ending_at (stops.BadTape place) = BadTape place
 ending_at (stops.HistoryFull size) = HistoryFull size.entries size.bytes
+
+-- a fact where the input was served to its end or up to what stops it
+abbrev pub IsWhole : Ending → Type 0 → Type 0
+IsWhole Done P = P
+IsWhole (BadTape place) P = P
+IsWhole (HistoryFull entries bytes) P = P
+IsWhole _ P = Unit {0}
+
+-- an end of a tape that was begun
+abbrev pub IsOfTape : Ending → Type 0
+IsOfTape Usage = ⊥
+IsOfTape (Damaged place) = ⊥
+IsOfTape (Different place) = ⊥
+IsOfTape _ = Unit {0}
+
+-- how the program ends where a database isn't opened
+abbrev pub ending_of_refusal : OpenFault → Ending
+ending_of_refusal (faults.NotAJournal place) = Damaged place
+ending_of_refusal (faults.Damaged place) = Damaged place
+ending_of_refusal faults.DiskFault = DiskFault
+ending_of_refusal faults.OutOfMemory = OutOfMemory

@@ -1,6 +1,7 @@
-//! A cluster controller: it serves tapes of recorded connections.
+//! A cluster controller: it serves tapes of recorded connections over a database.
 #![tactic(auto)]
 
+mod database;
 mod errors;
 mod quick;
 mod replay;
@@ -13,13 +14,17 @@ ghost use Rattle.cluster_defs.specs.Scheduling.{pick};
 use cluster_types::config::Scheme;
 use cluster_types::message::WordList;
 use cluster_types::text::Text;
+use command_words::command::{CommandError, command_of};
 use command_words::ending::Ending;
+use database::open_database;
+use disk_model::file::FileDisk;
+use edges::sink::Sink;
 use edges::standard::{StdSink, StdSource};
 use errors::tell;
 use load_schemes::chooser::Chooser;
 use load_schemes::place::place_of;
 use quick::quick;
-use std::alloc::AllocError;
+use std::alloc::{AllocError, Global};
 use std::process::ExitCode;
 use std::{env, io};
 
@@ -64,31 +69,58 @@ fn ending_of(error: &WordsError) -> Ending {
     }
 }
 
-fn main(rt: HostRuntime) -> ExitCode {
-    let mut input = StdSource::new(rt.stdin());
-    let mut output = StdSink::new(rt.stdout());
-    let mut errors = StdSink::new(rt.stderr());
-    let words = match words_of(&rt) {
-        Ok(words) => words,
-        Err(error) => return ExitCode::from(tell(&mut errors, ending_of(&error))),
-    };
+/// The disk that the words name, or how the program ends where there is none.
+fn disk_of(rt: &HostRuntime, words: &WordList) -> Result<FileDisk, Ending> {
+    match command_of(rt.alloc(), words) {
+        Ok(command) => match open_database(rt, &command) {
+            Ok(file) => Ok(FileDisk::new(file)),
+            Err(_) => Err(Ending::DiskFault),
+        },
+        Err(CommandError::Usage) => Err(Ending::Usage),
+        Err(CommandError::OutOfMemory) => Err(Ending::OutOfMemory),
+    }
+}
+
+/// A chooser of the four schemes.
+fn chooser(alloc: Global) -> Result<Chooser, AllocError> {
     let choose = Box::new(
-        rt.alloc(),
+        alloc,
         |scheme: Scheme, loads: &[u32], word: u64| -> usize
             requires { 0 < length loads.now }
             ensures { result ≡ pick scheme loads.now word }
         { place_of(scheme, loads, word) },
-    );
-    let status = match choose {
-        Ok(choose) => quick(
-            rt.alloc(),
-            &words,
-            &mut input,
-            &mut output,
-            &mut errors,
-            Chooser::new(choose),
-        ),
-        Err(_) => tell(&mut errors, Ending::OutOfMemory),
+    )?;
+    Ok(Chooser::new(choose))
+}
+
+/// Does what the words ask for, over the disk that they name.
+fn run<E: Sink>(rt: &HostRuntime, errors: &mut E) -> Result<u8, Ending> {
+    let words = match words_of(rt) {
+        Ok(words) => words,
+        Err(error) => return Err(ending_of(&error)),
     };
-    ExitCode::from(status)
+    let disk = disk_of(rt, &words)?;
+    let Ok(chooser) = chooser(rt.alloc()) else {
+        return Err(Ending::OutOfMemory);
+    };
+    let mut input = StdSource::new(rt.stdin());
+    let mut output = StdSink::new(rt.stdout());
+    let (status, _disk) = quick(
+        rt.alloc(),
+        &words,
+        &mut input,
+        &mut output,
+        errors,
+        disk,
+        chooser,
+    );
+    Ok(status)
+}
+
+fn main(rt: HostRuntime) -> ExitCode {
+    let mut errors = StdSink::new(rt.stderr());
+    match run(&rt, &mut errors) {
+        Ok(status) => ExitCode::from(status),
+        Err(ending) => ExitCode::from(tell(&mut errors, ending)),
+    }
 }

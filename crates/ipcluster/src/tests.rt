@@ -3,10 +3,16 @@
 ghost use Rattle.std.specs.Prelude.{◌≡◌, ◌<◌, length};
 ghost use Rattle.cluster_defs.specs.Scheduling.{pick};
 
+mod crashes;
+mod one_task;
+mod rows;
+
 use crate::quick::quick;
 use cluster_types::config::Scheme;
 use cluster_types::message::WordList;
 use cluster_types::text::Text;
+use disk_model::fuse::FuseDisk;
+use disk_model::memory::MemDisk;
 use edges::memory::{MemSink, MemSource};
 use load_schemes::chooser::{Choose, Chooser};
 use load_schemes::place::place_of;
@@ -30,9 +36,6 @@ const TWICE: &[u8] =
 /// An Up with the identity `e`, and the registration of the engine `e0` on its connection, signed under the key `k`.
 const JOINING: &[u8] =
     b"\x01\0\0\0\0\0\0\0\0\0\0\0\0\0\0\0\0\0\0\0\x01\x03\x01\x01e\x06\0\0\0\0\0\0\0\0\0\0\0\0\0\0\0\0\0\0\0\x01\x06\0\0\0\x09<IDS|MSG>\0\0\0@d2f52e7ee3d1bb06564157fe40e43ed04a1d7379b14330f3fc557ded7a84af38\0\0\06{\"msg_id\":\"join-e0\",\"msg_type\":\"registration_request\"}\0\0\0\x02{}\0\0\0\x02{}\0\0\0\x0d{\"uuid\":\"e0\"}";
-
-/// Time passes, to moment 0.
-const TIME: &[u8] = b"\x05\0\0\0\0\0\0\0\0\0\0\0\0\0\0\0\0";
 
 /// The same on connection 2, with the identity `f`.
 const SECOND: &[u8] =
@@ -66,10 +69,22 @@ struct Left {
     status: u8,
     output: MemSink,
     errors: MemSink,
+    disk: MemDisk,
 }
 
-/// Does what these words ask for, on this input.
-fn run(alloc: Global, texts: &[&str], tape: &[u8], failing: &Failing) -> Result<Left, Fail> {
+/// A disk with this content whose call of one number fails; 0 is the number of none.
+fn disk_of(alloc: Global, content: &[u8], call: u64) -> Result<FuseDisk, Fail> {
+    Ok(FuseDisk::new(MemDisk::new(alloc, content)?, call))
+}
+
+/// Does what these words ask for, on this input, over a disk.
+fn run(
+    alloc: Global,
+    texts: &[&str],
+    tape: &[u8],
+    failing: &Failing,
+    disk: FuseDisk,
+) -> Result<Left, Fail> {
     let words = words(alloc, texts)?;
     let mut input = MemSource::new(alloc, tape, failing.reads)?;
     let mut output = MemSink::new(alloc, failing.writes)?;
@@ -82,19 +97,28 @@ fn run(alloc: Global, texts: &[&str], tape: &[u8], failing: &Failing) -> Result<
         { place_of(scheme, loads, word) },
     )?;
     let chooser = Chooser::new(choose);
-    let status = quick(alloc, &words, &mut input, &mut output, &mut errors, chooser);
+    let (status, disk) = quick(
+        alloc,
+        &words,
+        &mut input,
+        &mut output,
+        &mut errors,
+        disk,
+        chooser,
+    );
     Ok(Left {
         status,
         output,
         errors,
+        disk: disk.into_disk(),
     })
 }
 
-const REPLAY: &[&str] = &["replay", "--key", "k"];
+const REPLAY: &[&str] = &["replay", "--key", "k", "db"];
 
-const ONE_ENTRY: &[&str] = &["replay", "--key", "k", "--entries", "1"];
+const ONE_ENTRY: &[&str] = &["replay", "--key", "k", "--entries", "1", "db"];
 
-const UNREAD: &[&str] = &["replay", "--key"];
+const UNREAD: &[&str] = &["replay", "db", "--key"];
 
 /// Whether these words, on this tape, come to this status and this line of the errors, with nothing written.
 fn ends_as(
@@ -105,7 +129,7 @@ fn ends_as(
     status: u8,
     line: &str,
 ) -> Result<bool, Fail> {
-    let left = run(alloc, texts, tape, failing)?;
+    let left = run(alloc, texts, tape, failing, disk_of(alloc, b"", 0)?)?;
     Ok(
         left.status == status
             && left.errors.written() == line.as_bytes()
@@ -173,7 +197,7 @@ fn ends(rt: HostRuntime) -> Result<(), Fail> {
 #[test]
 fn an_engine_joins_before_a_write_fails(rt: HostRuntime) -> Result<(), Fail> {
     let alloc = rt.alloc();
-    let first = run(alloc, REPLAY, JOINING, &NONE)?;
+    let first = run(alloc, REPLAY, JOINING, &NONE, disk_of(alloc, b"", 0)?)?;
     assert!(rt; first.status == 0 && first.errors.written().is_empty());
     assert!(rt;
         first
@@ -182,12 +206,9 @@ fn an_engine_joins_before_a_write_fails(rt: HostRuntime) -> Result<(), Fail> {
             .ends_with(b"{\"status\":\"ok\",\"id\":0}")
     );
     let mut tape = Vec::from_slice(alloc, JOINING)?;
-    // What a piece of 65,536 octets sends is written at once, so that the second message has to come in a later one.
-    for _ in 0..4_000 {
-        tape.extend_from_slice(TIME)?;
-    }
     tape.extend_from_slice(SECOND)?;
-    let left = run(alloc, REPLAY, tape.as_slice(), &SECOND_WRITE)?;
+    let disk = disk_of(alloc, b"", 0)?;
+    let left = run(alloc, REPLAY, tape.as_slice(), &SECOND_WRITE, disk)?;
     assert!(rt;
         left.status == 4 && left.errors.written() == b"ipcluster: write fault\n".as_slice()
     );

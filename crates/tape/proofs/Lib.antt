@@ -1,4 +1,5 @@
 pub mod Chunk
 pub mod Extends
+pub mod Fitting
 pub mod Loops
 pub mod Places

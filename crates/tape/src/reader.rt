@@ -1,9 +1,10 @@
 //! A reader of records that is fed in any pieces.
 
-ghost use Rattle.std.specs.Prelude.{◌≡◌, ◌<◌, ◌≤◌, ◌++◌, ℕ, List, take, length, IfOk, IfErr, OnOk, false, Ok};
+ghost use Rattle.std.specs.Prelude.{◌≡◌, ◌<◌, ◌≤◌, ◌++◌, ℕ, List, take, length, All, IfSome, IfOk, IfErr, OnOk, false, Ok};
 ghost use Rattle.cluster_types.specs.Limits.{tape_limit};
 ghost use Rattle.octet_fields.specs.Reading.{Fails};
 ghost use Rattle.tape.specs.Reading.{record_at};
+ghost use Rattle.tape.specs.Spelling.{Fits};
 ghost use Rattle.tape.specs.Tape.{Tape, blank, tape_after, records, fault, capped_place, listed};
 
 use crate::reading::read_record;
@@ -77,6 +78,7 @@ impl TapeReader {
         ensures count { IfOk result (λ r. (0 < r.0) × (r.0 ≤ length piece.now)) }
         ensures after { IfOk result (λ r. self.new ≡ tape_after self.old (take r.0 piece.now)) }
         ensures records { IfOk result (λ r. listed r.1 ≡ records self.old (take r.0 piece.now)) }
+        ensures fits { IfOk result (λ r. IfSome r.1 Fits) }
     {
         let alloc = *self.rest.allocator();
         let n = piece.len().min(self.left);
@@ -113,6 +115,7 @@ impl TapeReader {
         ensures count { IfOk result (λ n. (0 < n) × (n ≤ length piece.now)) }
         ensures after { IfOk result (λ n. self.new ≡ tape_after self.old (take n piece.now)) }
         ensures records { IfOk result (λ n. list.new ≡ list.old ++ records self.old (take n piece.now)) }
+        ensures fits { All Fits list.old → OnOk result (All Fits list.new) }
     {
         if self.ended {
             return Ok(piece.len());
@@ -126,6 +129,7 @@ impl TapeReader {
     pub fn feed(&mut self, piece: &[u8]) -> Result<TapeRecords, AllocError>
         ensures after { OnOk result (self.new ≡ tape_after self.old piece.now) }
         ensures records { IfOk result (λ list. list ≡ records self.old piece.now) }
+        ensures fits { IfOk result (λ list. All Fits list) }
     {
         let mut list = TapeRecords::new(*self.rest.allocator());
         let mut at: usize = 0;
@@ -139,7 +143,8 @@ impl TapeReader {
 
 /// Adds a record, where there is one.
 fn push_some(list: &mut TapeRecords, item: Option<TapeRecord>) -> Result<(), AllocError>
-    ensures { OnOk result (list.new ≡ list.old ++ listed item) }
+    ensures list { OnOk result (list.new ≡ list.old ++ listed item) }
+    ensures fits { All Fits list.old → IfSome item Fits → OnOk result (All Fits list.new) }
 {
     if let Some(item) = item {
         list.push(item)?;
@@ -158,6 +163,7 @@ fn placed(at: u64, n: usize) -> u64
 /// The record at the front.
 fn first_record(alloc: Global, octets: &[u8]) -> Result<TapeRecord, ReadError>
     ensures ok { IfOk result (λ r. (rest : List ℕ) × (record_at octets.now ≡ Ok (r, rest))) }
+    ensures fits { IfOk result Fits }
     ensures err { IfErr result (λ e. Fails e (record_at octets.now)) }
 {
     match read_record(alloc, octets) {

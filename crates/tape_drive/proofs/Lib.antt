@@ -1,9 +1,13 @@
+pub mod Calm
 pub mod Found
 pub mod Lawful
 pub mod Lengths
-pub mod Moments
+pub mod Way
+pub mod Within
 pub mod Ordered
 pub mod Serving
+pub mod Quiet
+pub mod Short
 pub mod Sorting
+pub mod Turns
 pub mod Unsent
-pub mod Opened

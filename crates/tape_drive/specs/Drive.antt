@@ -28,16 +28,13 @@ pub record Stand : Type 0 where
   pub at : ℕ
   pub stop : Option Stop
 
+-- no record came
+abbrev pub started_as : History → HistorySize → Stand
+started_as history limits = record { history = history; limits = limits; links = []; least = 0; at = 0; stop = None }
+
 -- the history goes on with an Open of moment 0, and all decisions that are then due
 abbrev pub start : History → HistorySize → Scheme → ℕ → ℕ → Stand
-start history limits scheme hwm misses = record {
-  history = decide_all (Input (Open 0 scheme hwm misses) ∷ history);
-  limits = limits;
-  links = [];
-  least = 0;
-  at = 0;
-  stop = None;
-}
+start history limits scheme hwm misses = started_as (decide_all (Input (Open 0 scheme hwm misses) ∷ history)) limits
 
 -- ---- one record more
 

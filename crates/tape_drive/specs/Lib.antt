@@ -4,6 +4,7 @@ pub mod Lawful
 pub mod Links
 pub mod Rules
 pub mod Sends
+pub mod Served
 pub mod Steps
 pub mod Order
 pub mod Places

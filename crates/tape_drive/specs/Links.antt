@@ -1,10 +1,11 @@
 -- The connections that are up on a tape.
-use Rattle.std.specs.Prelude.{ℕ, ◌==◌, List, [], ◌∷◌, ◌++◌, Option, Some, None, option_map, Bool, false, not, filter, find, is_none, if◌then◌else◌}
+use Rattle.std.specs.Prelude.{ℕ, ◌==◌, List, [], ◌∷◌, ◌++◌, Option, Some, None, option_map, All, IfSome, Bool, false, not, filter, find, is_none, if◌then◌else◌}
 use Rattle.std.specs.Option.{is_some}
 use Rattle.cluster_types.specs.declared.config.Channel.{Channel}
 use Rattle.tape.specs.declared.record.TapeKind.{TapeKind}
 use Rattle.tape.specs.declared.record.TapeKind.TheVariants.{Up, Piece, Down}
 use Rattle.zmtp_peer.specs.declared.phase.PeerFed.{PeerFed}
+use Rattle.zmtp_peer.specs.Limits.{IsShortMessage, IsShortIdentity}
 use Rattle.zmtp_peer.specs.PeerStream.{Talk, begins, talked, sent, identity, messages, fault_of}
 
 -- a connection from its Up to its Down: a bare one has no talk, of one that speaks ZMTP it is what its octets so far
@@ -58,3 +59,11 @@ links_at links _ = links
 abbrev pub links_left : List Link → TapeKind → List Link
 links_left links (Down conn) = filter (λ l. not (l.conn == conn)) links
 links_left links _ = links
+
+-- what octets gave is within the limits of a stream
+pub record IsShort (fed : PeerFed) : Type 0 where
+  pub messages : All IsShortMessage fed.messages
+  pub ready : IfSome fed.ready IsShortIdentity
+
+abbrev pub IsShortGiven : Option (Channel × PeerFed) → Type 0
+IsShortGiven given = IfSome given (λ g. IsShort g.1)

@@ -1,5 +1,5 @@
 -- The steps of a cluster on the inputs of a tape.
-use Rattle.std.specs.Prelude.{Bool, ◌&&◌, List, [], ◌∷◌, length, ⊤, Option, Some, None, if◌then◌else◌}
+use Rattle.std.specs.Prelude.{◌≡◌, ◌<◌, ◌^◌, ℕ, Bool, false, ◌&&◌, List, [], ◌∷◌, length, ⊤, Option, Some, None, if◌then◌else◌}
 use Rattle.cluster_types.specs.declared.entry.Entry.TheVariants.{Input}
 use Rattle.cluster_types.specs.declared.entry.Input.{Input as InputType}
 use Rattle.cluster_types.specs.declared.out.Out.{Out}
@@ -8,9 +8,11 @@ use Rattle.cluster_defs.specs.Scheduling.{may_take}
 use Rattle.cluster_defs.specs.Histories.{History, facts, decide_all}
 use Rattle.cluster_defs.specs.Outs.{outs_from}
 use Rattle.cluster_defs.specs.Words.{or_else}
-use Rattle.cluster_state.specs.Plain.{InTime}
+use Rattle.cluster_defs.specs.Lives.{is_open, sendings_to}
 use Rattle.cluster_core.specs.declared.size.HistorySize.{HistorySize}
 use Rattle.cluster_core.specs.Size.{size_since, is_past}
+use Rattle.cluster_store.specs.Stores.{StoreView, told}
+use Rattle.record_codec.specs.Spelling.{IsWithinLimits}
 use Rattle.tape_drive.specs.declared.steps.Stepped.{Stepped}
 use Rattle.tape_drive.specs.declared.steps.Stepped.TheVariants.{Sends, Full}
 
@@ -67,7 +69,13 @@ abbrev pub stepped_all : History → List InputType → History
 stepped_all history [] = history
 stepped_all history (input ∷ inputs) = stepped_all (stepped history input) inputs
 
--- all moments are before the year 10000
-abbrev pub AreInTime : List InputType → Type 0
-AreInTime [] = ⊤
-AreInTime (input ∷ inputs) = InTime (Input input) × AreInTime inputs
+-- inputs that a store takes: each is within the limits of records, and no Open
+abbrev pub AreTaken : List InputType → Type 0
+AreTaken [] = ⊤
+AreTaken (input ∷ inputs) = (IsWithinLimits (Input input) × (is_open (Input input) ≡ false)) × AreTaken inputs
+
+-- no outs of a store wait, all of its history is safe, and its limit of octets is below 2 ^ 32
+pub record IsCalm {D : Type 0} (v : StoreView D) : Type 0 where
+  pub told_all : (c : ℕ) → told v c ≡ length (sendings_to v.history c)
+  pub safe : v.failed ≡ false → v.mark ≡ length v.history
+  pub short : v.limits.bytes < 2 ^ 32

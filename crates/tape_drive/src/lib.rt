@@ -2,6 +2,7 @@
 #![tactic(auto)]
 
 pub mod drive;
+pub mod fault;
 mod inputs;
 pub mod laws;
 mod links;

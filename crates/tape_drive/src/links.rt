@@ -3,7 +3,7 @@
 ghost use Rattle.std.specs.Prelude.{◌≡◌, ◌==◌, ◌++◌, ◌∷◌, [], not, filter, is_none, option_map, length, ◌<◌, IfOk, IfSome, OnOk, Some, None};
 ghost use Rattle.std.specs.Option.{is_some, option_copied};
 ghost use Rattle.zmtp_peer.specs.PeerStream.{begins};
-ghost use Rattle.tape_drive.specs.Links.{link_on, is_bare, is_zmtp, new_link, heard, heard_on, given, given_on};
+ghost use Rattle.tape_drive.specs.Links.{link_on, is_bare, is_zmtp, new_link, heard, heard_on, given, given_on, IsShort, IsShortGiven};
 ghost use Rattle.tape_drive.specs.Places.{place_from};
 
 use cluster_types::config::Channel;
@@ -71,6 +71,7 @@ impl Link {
     fn feed(&mut self, octets: &[u8]) -> Result<Option<PeerFed>, AllocError>
         ensures link { OnOk result (self.new ≡ heard octets.now self.old) }
         ensures given { IfOk result (λ g. g ≡ option_map (λ t. given t octets.now) self.old.talk) }
+        ensures short { IfOk result (λ g. IfSome g IsShort) }
     {
         match &mut self.peer {
             Some(peer) => {
@@ -137,6 +138,7 @@ pub fn hear_on(
 ) -> Result<Option<(Channel, PeerFed)>, AllocError>
     ensures links { OnOk result (links.new ≡ heard_on conn octets.now links.old) }
     ensures given { IfOk result (λ g. g ≡ given_on octets.now (link_on links.old conn)) }
+    ensures short { IfOk result IsShortGiven }
 {
     let Some(place) = place_of(links, conn) else {
         return Ok(None);

@@ -1,8 +1,10 @@
 //! What the records of a tape do to its connections.
 
-ghost use Rattle.std.specs.Prelude.{◌≡◌, ◌++◌, ◌∷◌, [], map, IfOk, OnOk};
-ghost use Rattle.tape.specs.Spelling.{all_spelled};
+ghost use Rattle.std.specs.Prelude.{◌≡◌, ◌≤◌, ◌<◌, ◌^◌, ◌++◌, ◌∷◌, [], map, IfOk, OnOk};
+ghost use Rattle.cluster_types.specs.Limits.{last_moment};
+ghost use Rattle.tape.specs.Spelling.{Fits, all_spelled};
 ghost use Rattle.tape_drive.specs.Links.{links_at, links_left, link_on, given_on};
+ghost use Rattle.tape_drive.specs.Steps.{AreTaken};
 ghost use Rattle.tape_drive.specs.Inputs.{kind_inputs, inputs_of, stream_inputs};
 ghost use Rattle.tape_drive.specs.Sends.{stream_sends, sent_at, given_sendings};
 
@@ -71,6 +73,9 @@ fn take_piece(
     from: Origin,
     octets: &Octets,
 ) -> Result<(), AllocError>
+    requires moment { from.moment ≤ last_moment }
+    requires conn { from.conn < 2 ^ 32 }
+    ensures taken { OnOk result (AreTaken (kind_inputs key.now links.old from.moment from.word (TapeKind.Piece from.conn octets.now))) }
     ensures links { OnOk result (links.new ≡ links_at links.old (TapeKind.Piece from.conn octets.now)) }
     ensures inputs { OnOk result (inputs.new.items ≡ inputs.old.items ++ kind_inputs key.now links.old from.moment from.word (TapeKind.Piece from.conn octets.now)) }
     ensures octets { OnOk result (into.new.items ≡ into.old.items ++ all_spelled (map (sent_at from.moment) (stream_sends links.old (TapeKind.Piece from.conn octets.now)))) }
@@ -88,6 +93,8 @@ pub fn take_record(
     key: &Key,
     item: &TapeRecord,
 ) -> Result<(), AllocError>
+    requires { Fits item.now }
+    ensures taken { OnOk result (AreTaken (inputs_of key.now links.old.items item.now)) }
     ensures links { OnOk result (links.new.items ≡ links_at links.old.items item.now.kind) }
     ensures inputs { OnOk result (inputs.new.items ≡ inputs.old.items ++ inputs_of key.now links.old.items item.now) }
     ensures octets { OnOk result (into.new.items ≡ into.old.items ++ all_spelled (map (sent_at item.now.moment) (stream_sends links.old.items item.now.kind))) }

@@ -1,23 +1,27 @@
-//! The steps of a core on the inputs of a tape.
+//! The steps of a store on the inputs of a tape.
 
-ghost use Rattle.std.specs.Prelude.{◌≡◌, ◌∷◌, [], true, false, length, IfOk, OnOk};
+ghost use Rattle.std.specs.Prelude.{◌≡◌, ◌↔◌, ◌≤◌, ◌∷◌, [], true, false, length, Err, IfOk, OnOk};
+ghost use Rattle.cluster_types.specs.Causes.{Rose};
 ghost use Rattle.cluster_types.specs.declared.entry.Entry.{Entry};
 ghost use Rattle.cluster_defs.specs.Facts.{event_in};
 ghost use Rattle.cluster_defs.specs.Scheduling.{may_take};
 ghost use Rattle.cluster_defs.specs.Histories.{facts, decide_all};
+ghost use Rattle.cluster_defs.specs.Lives.{is_open};
 ghost use Rattle.cluster_defs.specs.Outs.{outs_from};
-ghost use Rattle.cluster_state.specs.Plain.{InTime};
 ghost use Rattle.entry_outs.specs.Asked.{type_on, told_type};
-ghost use Rattle.tape_drive.specs.Steps.{may_come, stepped, step_outs, overfull, made, history_behind};
+ghost use Rattle.record_codec.specs.Spelling.{IsWithinLimits};
+ghost use Rattle.tape_drive.specs.Steps.{IsCalm, may_come, stepped, step_outs, overfull, made, history_behind};
+ghost use Rattle.tape_drive.specs.Served.{HoldsSome, IsOnWay, IsTouched, is_failed};
 
-use cluster_core::machine::Core;
+use crate::fault::DriveError;
 use cluster_core::meaning::Meaning;
-use cluster_core::plan::PlanError;
 use cluster_core::size::HistorySize;
+use cluster_store::fault::{ServeError, StepError};
+use cluster_store::store::Store;
 use cluster_types::entry::Input;
 use cluster_types::out::Outs;
+use disk_model::disk::Disk;
 use load_schemes::chooser::Chooser;
-use std::alloc::AllocError;
 
 /// What a step comes to.
 #[derive(Debug, Drop)]
@@ -29,40 +33,69 @@ pub enum Stepped {
 }
 
 /// Takes an input that may come, with its meaning.
-fn take_step(
-    core: &mut Core,
+fn take_step<D: Disk>(
+    store: &mut Store<D>,
     chooser: &Chooser,
     input: Input,
     meaning: Meaning,
-) -> Result<Stepped, AllocError>
-    requires event { meaning.event ≡ event_in (facts core.old.history) (Entry.Input input) }
+) -> Result<Stepped, DriveError>
+    requires event { meaning.event ≡ event_in (facts store.old.history) (Entry.Input input) }
     requires kind { meaning.msg_type ≡ told_type meaning.event (type_on (Entry.Input input)) }
-    requires taken { may_take (facts core.old.history) input meaning.event ≡ true }
-    requires time { InTime (Entry.Input input) }
-    ensures history { OnOk result (core.new.history ≡ history_behind core.old.limits core.old.history input) }
-    ensures limits { core.new.limits ≡ core.old.limits }
-    ensures made { IfOk result (λ s. s ≡ made core.old.limits core.old.history input) }
+    requires taken { may_take (facts store.old.history) input meaning.event ≡ true }
+    requires fits { IsWithinLimits (Entry.Input input) }
+    requires no_open { is_open (Entry.Input input) ≡ false }
+    requires calm { IsCalm store.old }
+    requires working { store.old.failed ≡ false }
+    ensures calm { IsCalm store.new }
+    ensures history { OnOk result (store.new.history ≡ history_behind store.old.limits store.old.history input) }
+    ensures limits { store.new.limits ≡ store.old.limits }
+    ensures made { IfOk result (λ s. s ≡ made store.old.limits store.old.history input) }
+    ensures on_way { IsOnWay store.old.limits store.old.history (input ∷ []) store.new.history }
+    ensures any_moment { D.tells → store.old.failed ≡ false → IsTouched D.moment D.image D.image_since store.old.disk store.new.disk store.new.failed (HoldsSome (IsOnWay store.old.limits store.old.history (input ∷ []))) }
+    ensures no_reopen { result ≡ Err DriveError.Reopen → ⊥ }
+    ensures failed { store.new.failed ≡ is_failed result }
+    ensures later { D.faults store.old.disk ≤ D.faults store.new.disk }
+    ensures cause { result ≡ Err DriveError.DiskFault → Rose (D.faults store.old.disk) (D.faults store.new.disk) }
 {
-    match core.plan(chooser, input, meaning) {
-        Ok(plan) => Ok(Stepped::Sends(core.apply(plan).outs)),
-        Err(PlanError::HistoryFull { entries, bytes }) => {
+    match store.serve(chooser, input, meaning) {
+        Ok(outs) => Ok(Stepped::Sends(outs)),
+        Err(ServeError::Step(StepError::HistoryFull { entries, bytes })) => {
             Ok(Stepped::Full(HistorySize { entries, bytes }))
         }
-        Err(PlanError::OutOfMemory) => Err(AllocError),
+        Err(ServeError::Step(StepError::OutOfMemory)) => Err(DriveError::OutOfMemory),
+        Err(ServeError::Step(StepError::Reopen)) => unreachable!(),
+        Err(ServeError::Step(StepError::BatchFull)) => unreachable!(),
+        Err(ServeError::DiskFault) => Err(DriveError::DiskFault),
     }
 }
 
 /// Takes an input, where it may come. One that may not sends nothing.
 #[tactic(auto, using(crate::proofs::Unsent::none_sent))]
-pub fn step(core: &mut Core, chooser: &Chooser, input: Input) -> Result<Stepped, AllocError>
-    requires { InTime (Entry.Input input) }
-    ensures history { OnOk result (core.new.history ≡ history_behind core.old.limits core.old.history input) }
-    ensures limits { core.new.limits ≡ core.old.limits }
-    ensures made { IfOk result (λ s. s ≡ made core.old.limits core.old.history input) }
+pub fn step<D: Disk>(
+    store: &mut Store<D>,
+    chooser: &Chooser,
+    input: Input,
+) -> Result<Stepped, DriveError>
+    requires fits { IsWithinLimits (Entry.Input input) }
+    requires no_open { is_open (Entry.Input input) ≡ false }
+    requires calm { IsCalm store.old }
+    ensures calm { IsCalm store.new }
+    ensures history { OnOk result (store.new.history ≡ history_behind store.old.limits store.old.history input) }
+    ensures limits { store.new.limits ≡ store.old.limits }
+    ensures made { IfOk result (λ s. s ≡ made store.old.limits store.old.history input) }
+    ensures on_way { IsOnWay store.old.limits store.old.history (input ∷ []) store.new.history }
+    ensures any_moment { D.tells → store.old.failed ≡ false → IsTouched D.moment D.image D.image_since store.old.disk store.new.disk store.new.failed (HoldsSome (IsOnWay store.old.limits store.old.history (input ∷ []))) }
+    ensures reopen { (result ≡ Err DriveError.Reopen) ↔ (store.old.failed ≡ true) }
+    ensures failed { store.new.failed ≡ is_failed result }
+    ensures later { D.faults store.old.disk ≤ D.faults store.new.disk }
+    ensures cause { result ≡ Err DriveError.DiskFault → Rose (D.faults store.old.disk) (D.faults store.new.disk) }
 {
-    let meaning = core.understand(&input)?;
-    if core.may_take(&input, &meaning.event)? {
-        return take_step(core, chooser, input, meaning);
+    if store.failed() {
+        return Err(DriveError::Reopen);
     }
-    Ok(Stepped::Sends(Outs::new(core.allocator())))
+    let meaning = store.understand(&input)?;
+    if store.may_take(&input, &meaning.event)? {
+        return take_step(store, chooser, input, meaning);
+    }
+    Ok(Stepped::Sends(Outs::new(store.core().allocator())))
 }

@@ -2,4 +2,5 @@ pub mod Messages
 pub mod Pieces
 pub mod Connected
 pub mod Faultless
+pub mod Sound
 mod Rows

@@ -5,7 +5,7 @@ use Rattle.std.proofs.lemmas.Bool.{lt-ltb}
 use Rattle.zmtp_frames.specs.Written.{written}
 use Rattle.zmtp_peer.specs.Message.{body_octets, message_written}
 
-octets_more : (bodies : List (List ℕ)) (body : List ℕ) → body_octets (bodies ++ body ∷ []) ≡ body_octets bodies + length body
+pub octets_more : (bodies : List (List ℕ)) (body : List ℕ) → body_octets (bodies ++ body ∷ []) ≡ body_octets bodies + length body
 octets_more [] body = omega arith
 octets_more (b ∷ bs) body = omega (arith, octets_more bs body)
 

@@ -1,3 +1,4 @@
 pub mod PeerStream
 pub mod Message
 pub mod Connection
+pub mod Limits

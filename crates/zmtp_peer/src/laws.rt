@@ -1,8 +1,9 @@
 //! Laws of a peer's stream.
 
-ghost use Rattle.std.specs.Prelude.{◌≡◌, List, ℕ, ◌++◌};
+ghost use Rattle.std.specs.Prelude.{◌≡◌, List, ℕ, ◌++◌, All, IfSome};
 ghost use Rattle.zmtp_peer.specs.declared.phase.Phase.{Phase};
 ghost use Rattle.zmtp_peer.specs.Connection.{IsConnection, IsFaultless};
+ghost use Rattle.zmtp_peer.specs.Limits.{IsShortMessage, IsShortIdentity};
 ghost use Rattle.zmtp_peer.specs.PeerStream.{Talk, begins, talked, sent, identity, or_later, messages, peer_stream, with_piece};
 
 /// It doesn't matter how a stream is cut.
@@ -26,4 +27,10 @@ pub fn in_traffic()
 /// A stream that has no fault by the grammar of frames and the limits of messages is in traffic.
 pub fn faultless()
     ensures { (octets : List ℕ) → IsFaultless octets → (talked begins octets).phase ≡ Phase.Traffic }
+{}
+
+/// Whatever octets come, the messages and the identity that they give are within the limits.
+pub fn within_limits()
+    ensures messages { (octets : List ℕ) → All IsShortMessage (messages begins octets) }
+    ensures identity { (octets : List ℕ) → IfSome (identity begins octets) IsShortIdentity }
 {}

@@ -1,10 +1,11 @@
 //! A peer that is fed in any pieces.
 
-ghost use Rattle.std.specs.Prelude.{◌≡◌, IfOk, OnOk, OnErr, IsErr, IsTrue, true, false, ◌<◌, List, ℕ, [], ◌∷◌, ◌++◌, length, Some, None, IfErr};
+ghost use Rattle.std.specs.Prelude.{◌≡◌, All, IfOk, IfSome, OnOk, OnErr, IsErr, IsTrue, true, false, ◌<◌, List, ℕ, [], ◌∷◌, ◌++◌, length, Some, None, IfErr};
 ghost use Rattle.std.specs.Option.{unwrap_or};
 ghost use Rattle.zmtp_frames.specs.Stream.{Reading, step};
 ghost use Rattle.zmtp_frames.specs.Command.{command_of};
 ghost use Rattle.zmtp_frames.specs.Greeting.{greeting_fault, own_greeting};
+ghost use Rattle.zmtp_peer.specs.Limits.{IsShortMessage, IsShortIdentity};
 ghost use Rattle.zmtp_peer.specs.PeerStream.{begins, is_served, refusal, shaken, quiet, heard, parts_after, message_of, begun_fault, size_fault, first_fault, ended_by, greet, hear, talk, talk_at, talked, sent, identity, messages, listed, fault_of};
 
 use crate::fault::PeerFault;
@@ -203,7 +204,8 @@ fn hear_frame(
     }
 }
 
-/// A peer's stream of which some octets came. Contracts see what is known of it, and whether memory was wanting.
+/// A peer's stream of which some octets came. Contracts see what is known of it, and whether memory was wanting. It
+/// counts as spent while it takes octets, and stays so where memory was wanting.
 #[derive(Drop)]
 pub struct Peer {
     phase: Phase,
@@ -214,11 +216,15 @@ pub struct Peer {
 }
 
 impl Model for Peer {
+    ghost use Rattle.std.specs.Prelude.{◌≡◌, false};
+    ghost use Rattle.zmtp_peer.specs.Limits.{IsSound};
     ghost use Rattle.zmtp_peer.specs.PeerStream.{Held};
 
     ghost Value = { Held };
 
     ghost view = { λ p. record { talk = record { phase = p.phase; greeting = p.greeting.items; reader = p.reader; parts = p.parts }; spent = p.spent } };
+
+    ghost invariant = { λ p. p.spent ≡ false → IsSound (record { phase = p.phase; greeting = p.greeting.items; reader = p.reader; parts = p.parts }) };
 }
 
 impl Peer {
@@ -260,6 +266,8 @@ impl Peer {
         ensures ready { IfOk result (λ fed. fed.ready ≡ identity self.old.talk piece.now) }
         ensures messages { IfOk result (λ fed. fed.messages ≡ messages self.old.talk piece.now) }
         ensures fault { IfOk result (λ fed. fed.fault ≡ fault_of self.new.talk.phase) }
+        ensures short_identity { IfOk result (λ fed. IfSome fed.ready IsShortIdentity) }
+        ensures short_messages { IfOk result (λ fed. All IsShortMessage fed.messages) }
         ensures spent { IsTrue self.old.spent → IsErr result }
         ensures ok { OnOk result (self.new.spent ≡ false) }
         ensures err { OnErr result (self.new.spent ≡ true) }
@@ -267,17 +275,15 @@ impl Peer {
         if self.spent {
             return Err(AllocError);
         }
-        match self.octets(piece) {
-            Ok(fed) => Ok(fed),
-            Err(error) => {
-                self.spent = true;
-                Err(error)
-            }
-        }
+        self.spent = true;
+        let fed = self.octets(piece)?;
+        self.spent = false;
+        Ok(fed)
     }
 
     /// Takes all octets of a piece.
     fn octets(&mut self, piece: &[u8]) -> Result<PeerFed, AllocError>
+        requires { IsTrue self.old.spent }
         ensures talked { OnOk result (self.new.talk ≡ talked self.old.talk piece.now) }
         ensures sent { IfOk result (λ fed. fed.send ≡ sent self.old.talk piece.now) }
         ensures ready { IfOk result (λ fed. fed.ready ≡ identity self.old.talk piece.now) }
@@ -313,6 +319,7 @@ impl Peer {
 
     /// Takes an octet.
     fn octet(&mut self, x: u8) -> Result<Gave, AllocError>
+        requires { IsTrue self.old.spent }
         ensures ok { IfOk result (λ gave. talk self.old.talk x ≡ (self.new.talk, gave)) }
         ensures spent { self.new.spent ≡ self.old.spent }
     {
@@ -347,6 +354,7 @@ impl Peer {
 
     /// Takes an octet of the greeting.
     fn greet(&mut self, x: u8) -> Result<Gave, AllocError>
+        requires { IsTrue self.old.spent }
         ensures ok { IfOk result (λ gave. greet self.old.talk x ≡ (self.new.talk, gave)) }
         ensures spent { self.new.spent ≡ self.old.spent }
     {
@@ -373,6 +381,7 @@ impl Peer {
 
     /// Takes an octet of a frame.
     fn hear(&mut self, x: u8) -> Result<Gave, AllocError>
+        requires { IsTrue self.old.spent }
         ensures ok { IfOk result (λ gave. hear self.old.talk (step self.old.talk.reader x) ≡ (self.new.talk, gave)) }
         ensures spent { self.new.spent ≡ self.old.spent }
     {

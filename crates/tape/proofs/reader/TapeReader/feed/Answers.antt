@@ -11,4 +11,5 @@ loop-at-preserved c =
       within = omega (arith, c.in_ok-n.ensures.count.1);
       after = tape_goes_on c.loop-at.self c.take.new.self c.args.piece.now c.loop-at.at c.in_ok-n.n is ∙ c.loop-at.invariant.after;
       records = records_go_on c.loop-at.self c.take.new.self c.args.piece.now c.loop-at.at c.in_ok-n.n c.loop-at.list c.take.new.list is list-is ∙ c.loop-at.invariant.records;
+      fits = c.in_ok-n.ensures.fits c.loop-at.invariant.fits;
     }

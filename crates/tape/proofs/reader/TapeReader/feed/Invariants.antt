@@ -1,4 +1,5 @@
-use Rattle.std.proofs.Common.{◌≡◌, ◌++◌, ◌-◌, ◌≤◌, length, drop}
+use Rattle.std.proofs.Common.{◌≡◌, ◌++◌, ◌-◌, ◌≤◌, length, drop, All}
+use Rattle.tape.specs.Spelling.{Fits}
 use Rattle.tape.specs.Tape.{tape_after, records}
 use Rattle.tape.proofs.reader.TapeReader.feed.Given as goal
 
@@ -8,6 +9,7 @@ invariant-loop-at l = record {
   within : l.at ≤ length l.piece;
   after : tape_after l.self (drop l.at l.piece) ≡ tape_after l.fn.self l.piece;
   records : l.list ++ records l.self (drop l.at l.piece) ≡ records l.fn.self l.piece;
+  fits : All Fits l.list;
 }
 
 abbrev pub decreases-loop-at : goal.decreases-loop-at

@@ -1,8 +1,15 @@
-use Rattle.std.proofs.Common.{refl, ◌∙◌}
-use Rattle.tape_drive.proofs.Opened.{opened}
+use Rattle.std.proofs.Common.{◌≡◌, ◌∙◌, ◌<◌, ◌^◌, ℕ, length, sym, ap, subst}
+use Rattle.cluster_defs.specs.Histories.{History}
+use Rattle.cluster_defs.specs.Lives.{sendings_to}
+use Rattle.cluster_core.specs.declared.size.HistorySize.{HistorySize}
+use Rattle.tape_drive.proofs.Quiet.{opened_quiet}
 use Rattle.tape_drive.proofs.drive.Drive.begin.Goals as goal
 
-pub returns : goal.returns
-returns g c =
-    let history = c.in_ok-_outs.ensures.history ∙ opened c.args.core.limits c.args.core.history 0 c.args.scheme c.args.hwm c.args.misses in
-    rw (history, c.step.ensures.limits, c.new-links.ensures.items) refl
+pub invariant_of-result : goal.invariant_of-result
+invariant_of-result g c =
+    let opened = c.in-Ok.ensures.history in
+    record {
+      told_all = λ x. c.in-Ok.ensures.fresh.0 x ∙ sym (ap length (ap (λ (h : History). sendings_to h x) opened.is ∙ opened_quiet c.args.config 0 _ x));
+      safe = λ fine. c.in-Ok.ensures.mark;
+      short = subst (λ (l : HistorySize). l.bytes < 2 ^ 32) (sym c.in-Ok.ensures.limits) c.requires;
+    }

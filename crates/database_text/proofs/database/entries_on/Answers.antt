@@ -1,0 +1,12 @@
+use Rattle.std.proofs.Common.{subst, inl, inr}
+use Rattle.task_journal.specs.declared.fault.OpenFault.{OpenFault}
+use Rattle.task_journal.specs.Journal.{Fails, journal}
+use Rattle.database_text.proofs.database.entries_on.Goals as goal
+
+pub returns-clause-damaged : goal.returns-clause-damaged
+returns-clause-damaged g c told place is =
+    let read = journal (g.D.Disk.content c.args.disk.now) in
+    elim (c.ending_at.ensures.damaged place is) [
+      | inl e ↦ inl (subst (λ (f : OpenFault). Fails f read) e (c.in-Err.ensures.value told))
+      | inr e ↦ inr (subst (λ (f : OpenFault). Fails f read) e (c.in-Err.ensures.value told))
+    ]

@@ -1,0 +1,31 @@
+-- What printing a disk, or checking a text against it, comes to.
+use Rattle.std.specs.Prelude.{◌≡◌, ◌⊎◌, ℕ, List, ◌++◌, Option, Some, option_map, Err}
+use Rattle.edges.specs.Streams.{Added}
+use Rattle.command_words.specs.declared.ending.Ending.{Ending}
+use Rattle.command_words.specs.declared.ending.Ending.TheVariants as endings
+use Rattle.history_text.specs.Comparison.{counted, end_difference}
+use Rattle.task_journal.specs.declared.fault.OpenFault.TheVariants.{NotAJournal, Damaged}
+use Rattle.task_journal.specs.Journal.{journal}
+
+-- a disk is refused at a place: it holds no journal, or a damaged one
+abbrev pub IsDamaged : List ℕ → ℕ → Type 0
+IsDamaged octets place = (journal octets ≡ Err (NotAJournal place)) ⊎ (journal octets ≡ Err (Damaged place))
+
+-- the entries of a disk couldn't be had: it was refused, a call of it failed, or there was no memory
+abbrev pub IsRefusal : Ending → Type 0
+IsRefusal ending = ((place : ℕ) × (ending ≡ endings.Damaged place)) ⊎ (ending ≡ endings.DiskFault) ⊎ (ending ≡ endings.OutOfMemory)
+
+-- a front of these octets was written
+pub record WroteFront (octets : List ℕ) (before now : Option (List ℕ)) : Type 0 where
+  pub front : List ℕ
+  pub rest : List ℕ
+  pub parts : octets ≡ front ++ rest
+  pub added : Added front before now
+
+-- a fact of what a source had left, where it tells
+abbrev pub Told : Option (List ℕ) → (List ℕ → Type 0) → Type 0
+Told left P = (octets : List ℕ) → left ≡ Some octets → P octets
+
+-- the first offset at which an input differs from a text, where the end of the shorter one counts as a difference
+abbrev pub DiffersAt : List ℕ → List ℕ → ℕ → Type 0
+DiffersAt input text place = option_map counted (end_difference 0 input text) ≡ Some place

@@ -1,0 +1,42 @@
+//! The entries of a disk.
+
+ghost use Rattle.std.specs.Prelude.{◌≡◌, ◌⊎◌, ℕ, IfOk, IfErr, IsErrOf};
+ghost use Rattle.cluster_types.specs.Causes.{Rose};
+ghost use Rattle.task_journal.specs.Journal.{StandsFor};
+ghost use Rattle.task_journal.specs.Reads.{OnlyReads};
+ghost use Rattle.database_text.specs.Texts.{IsDamaged, IsRefusal};
+
+use cluster_types::entry::Entries;
+use command_words::ending::Ending;
+use disk_model::disk::Disk;
+use std::alloc::Global;
+use task_journal::fault::OpenFault;
+use task_journal::reading::read_journal;
+
+/// How a command ends at a fault of reading.
+fn ending_at(fault: OpenFault) -> Ending
+    ensures refusal { IsRefusal result }
+    ensures damaged { (place : ℕ) → result ≡ Ending.Damaged place → (fault ≡ OpenFault.NotAJournal place) ⊎ (fault ≡ OpenFault.Damaged place) }
+    ensures disk_fault { result ≡ Ending.DiskFault → fault ≡ OpenFault.DiskFault }
+{
+    match fault {
+        OpenFault::NotAJournal(place) => Ending::Damaged(place),
+        OpenFault::Damaged(place) => Ending::Damaged(place),
+        OpenFault::DiskFault => Ending::DiskFault,
+        OpenFault::OutOfMemory => Ending::OutOfMemory,
+    }
+}
+
+/// The entries that a disk stands for, in order, or how a command ends that can't have them.
+pub fn entries_on<D: Disk>(alloc: Global, disk: &mut D) -> Result<Entries, Ending>
+    ensures list { D.tells → IfOk result (λ list. StandsFor (D.content disk.old) list) }
+    ensures refusal { IfErr result IsRefusal }
+    ensures damaged { D.tells → IfErr result (λ ending. (place : ℕ) → ending ≡ Ending.Damaged place → IsDamaged (D.content disk.old) place) }
+    ensures reads { OnlyReads D.content D.image D.moment D.image_since D.faults disk.old disk.new }
+    ensures cause { IsErrOf result Ending.DiskFault → Rose (D.faults disk.old) (D.faults disk.new) }
+{
+    match read_journal(alloc, disk) {
+        Ok((entries, _)) => Ok(entries),
+        Err(fault) => Err(ending_at(fault)),
+    }
+}
