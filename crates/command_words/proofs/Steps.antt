@@ -13,7 +13,7 @@ use Rattle.command_words.specs.Items.{Item, known_items, places, values}
 use Rattle.command_words.specs.Simple.{HasItems, has_option, option_rule, simple_with, values_of, word_id}
 use Rattle.command_words.specs.Values.{key_from, needed, number_from, optional, scheme_from}
 use Rattle.cluster_types.specs.declared.config.Scheme.TheVariants.{LeastLoad}
-use Rattle.command_words.specs.Reading.{bytes_name, entries_name, greatest_bytes, greatest_entries, greatest_hwm, greatest_misses, hwm_name, key_name, misses_name, database_items, database_in, only_word, replay_behind, replay_items, replay_names, replay_of, replay_options, replay_with, scheme_name}
+use Rattle.command_words.specs.Reading.{bytes_name, entries_name, greatest_bytes, greatest_entries, greatest_hwm, greatest_misses, hwm_name, key_name, misses_name, database_items, database_in, only_word, replay_behind, replay_items, replay_names, replay_of, replay_options, replay_with, scheme_name, work_behind, work_items, work_of}
 
 abbrev pub texts : List (Bor Text) → List Text
 texts = map (λ t. t.now)
@@ -76,6 +76,27 @@ database_is words behind m is h = database_by m behind (subst (λ (ws : List Tex
 
 pub database_none : (words behind : List Text) → words ≡ behind → known_items [] words ≡ None → database_in behind ≡ None
 database_none words behind is e = ap (option_and_then database_items) (ap (known_items []) (sym is) ∙ e)
+
+-- no work is read of other than two words
+pub not_two : (given : List (Bor Text)) (words : List Text) → texts given ≡ words → (length given ≡ 2 → ⊥) → work_behind words ≡ None
+not_two [] words is other = ap work_behind (sym is)
+not_two (a ∷ []) words is other = ap work_behind (sym is)
+not_two (a ∷ b ∷ []) words is other = absurd (other refl)
+not_two (a ∷ b ∷ c ∷ more) words is other = ap work_behind (sym is)
+
+-- the work, by the matches of the words
+work_by : (m : ArgMatches) (words : List Text) → IsSomeAnd (known_items [] words) (HasItems [] m) → work_of words ≡ work_behind (values_of m word_id)
+work_by m words h = go (known_items [] words) h
+  where
+    go : (o : Option (List Item)) → IsSomeAnd o (HasItems [] m) → option_and_then work_items o ≡ work_behind (values_of m word_id)
+    go None h = absurd h
+    go (Some items) h = ap work_behind (sym h.placed)
+
+pub work_is : (words behind : List Text) (m : ArgMatches) → words ≡ behind → IsSomeAnd (known_items [] words) (HasItems [] m) → work_of behind ≡ work_behind (values_of m word_id)
+work_is words behind m is h = work_by m behind (subst (λ (ws : List Text). IsSomeAnd (known_items [] ws) (HasItems [] m)) is h)
+
+pub work_none : (words behind : List Text) → words ≡ behind → known_items [] words ≡ None → work_of behind ≡ None
+work_none words behind is e = ap (option_and_then work_items) (ap (known_items []) (sym is) ∙ e)
 
 -- ERRORS
 

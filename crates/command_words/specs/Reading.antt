@@ -1,9 +1,9 @@
 -- What a command line asks for.
-use Rattle.std.specs.Prelude.{ℕ, List, [], ◌∷◌, Option, Some, None, bytes_eq, codes, if◌then◌else◌, option_and_then, option_map}
+use Rattle.std.specs.Prelude.{ℕ, ◌≤◌, List, [], ◌∷◌, Option, Some, None, bytes_eq, codes, if◌then◌else◌, option_and_then, option_map}
 use Rattle.cluster_types.specs.declared.config.Scheme.{Scheme}
 use Rattle.cluster_types.specs.declared.config.Scheme.TheVariants.{LeastLoad}
 use Rattle.command_words.specs.declared.command.Command.{Command}
-use Rattle.command_words.specs.declared.command.Command.TheVariants.{Replay, Dump, Check}
+use Rattle.command_words.specs.declared.command.Command.TheVariants.{Replay, Dump, Check, Work}
 use Rattle.command_words.specs.declared.command.ReplayOptions.{ReplayOptions}
 use Rattle.command_words.specs.Items.{Item, known_items, places, values}
 use Rattle.command_words.specs.Values.{needed, optional, key_from, scheme_from, number_from}
@@ -18,6 +18,9 @@ dump_word = codes "dump"
 
 unfoldable pub check_word : List ℕ
 check_word = codes "check"
+
+unfoldable pub work_word : List ℕ
+work_word = codes "work"
 
 -- THE NAMES OF OPTIONS, WITHOUT THEIR DASHES
 
@@ -57,6 +60,14 @@ greatest_entries = 4000000
 abbrev pub greatest_bytes : ℕ
 greatest_bytes = 1073741824
 
+-- the greatest seed of generated work; the least is 0
+abbrev pub greatest_seed : ℕ
+greatest_seed = 2147483647
+
+-- the most tasks of generated work; the fewest are 0
+abbrev pub greatest_tasks : ℕ
+greatest_tasks = 500000
+
 -- THE DATABASE
 
 -- the one positional word
@@ -71,11 +82,12 @@ database_items items = only_word (places items)
 abbrev pub database_in : List (List ℕ) → Option (List ℕ)
 database_in words = option_and_then database_items (known_items [] words)
 
--- the database that a command is about
-abbrev pub database_of : Command → List ℕ
-database_of (Replay database options) = database
-database_of (Dump database) = database
-database_of (Check database) = database
+-- the database that a command is about, where it is about one
+abbrev pub database_of : Command → Option (List ℕ)
+database_of (Replay database options) = Some database
+database_of (Dump database) = Some database
+database_of (Check database) = Some database
+database_of (Work seed tasks) = None
 
 -- THE COMMANDS
 
@@ -113,15 +125,36 @@ dump_of words = option_map Dump (database_in words)
 abbrev pub check_of : List (List ℕ) → Option Command
 check_of words = option_map Check (database_in words)
 
+abbrev pub work_with : Option ℕ → Option ℕ → Option Command
+work_with (Some seed) (Some tasks) = Some (Work seed tasks)
+work_with _ _ = None
+
+-- a seed and a number of tasks stand behind `work`
+abbrev pub work_behind : List (List ℕ) → Option Command
+work_behind (seed ∷ tasks ∷ []) = work_with (number_from 0 greatest_seed seed) (number_from 0 greatest_tasks tasks)
+work_behind _ = None
+
+abbrev pub work_items : List Item → Option Command
+work_items items = work_behind (places items)
+
+abbrev pub work_of : List (List ℕ) → Option Command
+work_of words = option_and_then work_items (known_items [] words)
+
 -- what a command asks for with the words behind it
 abbrev pub asked_by : List ℕ → List (List ℕ) → Option Command
 asked_by command words =
     if bytes_eq command replay_word then replay_of words
     else if bytes_eq command dump_word then dump_of words
     else if bytes_eq command check_word then check_of words
+    else if bytes_eq command work_word then work_of words
     else None
 
 -- what words ask for, where they have a reading: the first one is the command
 abbrev pub reading : List (List ℕ) → Option Command
 reading [] = None
 reading (command ∷ words) = asked_by command words
+
+-- the numbers of a command are in their ranges
+abbrev pub IsInRange : Command → Type 0
+IsInRange (Work seed tasks) = (seed ≤ greatest_seed) × (tasks ≤ greatest_tasks)
+IsInRange _ = Unit {0}

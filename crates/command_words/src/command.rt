@@ -1,11 +1,12 @@
 //! What a command line asks for.
 
 ghost use Rattle.std.specs.Prelude.{◌≡◌, ◌∷◌, [], Some, None, Err, IfOk, bytes_eq};
-ghost use Rattle.command_words.specs.Reading.{reading, asked_by, database_of, only_word, database_in, replay_of, dump_of, check_of, replay_behind, replay_options, replay_word, dump_word, check_word, key_name, scheme_name, hwm_name, misses_name, entries_name, bytes_name};
+ghost use Rattle.command_words.specs.Reading.{reading, asked_by, database_of, only_word, database_in, replay_of, dump_of, check_of, work_of, work_behind, replay_behind, replay_options, replay_word, dump_word, check_word, work_word, IsInRange, key_name, scheme_name, hwm_name, misses_name, entries_name, bytes_name};
+ghost use Rattle.std.specs.Option.{option_copied};
 ghost use Rattle.command_words.specs.Simple.{values_of, word_id};
 
 use crate::matches::{are_formed, borrowed, parted, words};
-use crate::values::{needed_key, optional_number, optional_scheme};
+use crate::values::{needed_key, number_from, optional_number, optional_scheme};
 use clap::ArgMatches;
 use clap::error::ErrorKind;
 use cluster_types::config::Scheme;
@@ -48,17 +49,25 @@ pub enum Command {
     Check {
         database: Text,
     },
+    /// Generated work is to be done over a disk in memory, and summed up.
+    Work {
+        /// What the work is drawn from, below 2^31.
+        seed: u32,
+        /// How many tasks, at most 500,000.
+        tasks: u32,
+    },
 }
 
 impl Command {
-    /// The path of the database's file.
-    pub fn database(&self) -> &Text
-        ensures { result.now ≡ database_of self.now }
+    /// The path of the database's file, where the command is about one.
+    pub fn database(&self) -> Option<&Text>
+        ensures { option_copied result ≡ database_of self.now }
     {
         match self {
-            Command::Replay { database, .. } => database,
-            Command::Dump { database } => database,
-            Command::Check { database } => database,
+            Command::Replay { database, .. } => Some(database),
+            Command::Dump { database } => Some(database),
+            Command::Check { database } => Some(database),
+            Command::Work { .. } => None,
         }
     }
 }
@@ -137,6 +146,12 @@ const GREATEST_ENTRIES: u32 = 4_000_000;
 /// The greatest limit of octets.
 const GREATEST_BYTES: u32 = 1_073_741_824;
 
+/// The greatest seed of generated work.
+const GREATEST_SEED: u32 = 2_147_483_647;
+
+/// The most tasks of generated work.
+const GREATEST_TASKS: u32 = 500_000;
+
 /// The options of `replay` with their values.
 #[tactic(auto, unfolding(crate::specs::Reading::key_name, crate::specs::Reading::scheme_name, crate::specs::Reading::hwm_name, crate::specs::Reading::misses_name, crate::specs::Reading::entries_name, crate::specs::Reading::bytes_name))]
 fn replay_options(alloc: Global, matches: &ArgMatches<'_>) -> Result<ReplayOptions, CommandError>
@@ -181,6 +196,7 @@ fn replay_over(
 ) -> Result<Command, CommandError>
     ensures ok { IfOk result (λ c. replay_behind (database.now ∷ []) (values_of matches.now) ≡ Some c) }
     ensures usage { result ≡ Err CommandError.Usage → replay_behind (database.now ∷ []) (values_of matches.now) ≡ None }
+    ensures range { IfOk result IsInRange }
 {
     let options = replay_options(alloc, matches)?;
     let database = Text::new(alloc, database)?;
@@ -191,6 +207,7 @@ fn replay_over(
 fn replay_behind(alloc: Global, matches: &ArgMatches<'_>) -> Result<Command, CommandError>
     ensures ok { IfOk result (λ c. replay_behind (values_of matches.now word_id) (values_of matches.now) ≡ Some c) }
     ensures usage { result ≡ Err CommandError.Usage → replay_behind (values_of matches.now word_id) (values_of matches.now) ≡ None }
+    ensures range { IfOk result IsInRange }
 {
     let words = words(alloc, matches)?;
     match words.as_slice() {
@@ -203,6 +220,7 @@ fn replay_behind(alloc: Global, matches: &ArgMatches<'_>) -> Result<Command, Com
 fn replay_of(alloc: Global, behind: &[Text]) -> Result<Command, CommandError>
     ensures ok { IfOk result (λ c. replay_of behind.now ≡ Some c) }
     ensures usage { result ≡ Err CommandError.Usage → replay_of behind.now ≡ None }
+    ensures range { IfOk result IsInRange }
 {
     if !are_formed(behind) {
         return Err(CommandError::Usage);
@@ -241,6 +259,7 @@ fn database_in(alloc: Global, name: &str, behind: &[Text]) -> Result<Text, Comma
 fn dump_of(alloc: Global, behind: &[Text]) -> Result<Command, CommandError>
     ensures ok { IfOk result (λ c. dump_of behind.now ≡ Some c) }
     ensures usage { result ≡ Err CommandError.Usage → dump_of behind.now ≡ None }
+    ensures range { IfOk result IsInRange }
 {
     let database = database_in(alloc, "dump", behind)?;
     Ok(Command::Dump { database })
@@ -250,9 +269,53 @@ fn dump_of(alloc: Global, behind: &[Text]) -> Result<Command, CommandError>
 fn check_of(alloc: Global, behind: &[Text]) -> Result<Command, CommandError>
     ensures ok { IfOk result (λ c. check_of behind.now ≡ Some c) }
     ensures usage { result ≡ Err CommandError.Usage → check_of behind.now ≡ None }
+    ensures range { IfOk result IsInRange }
 {
     let database = database_in(alloc, "check", behind)?;
     Ok(Command::Check { database })
+}
+
+/// `work` with a seed and a number of tasks.
+fn work_with(seed: &str, tasks: &str) -> Result<Command, CommandError>
+    ensures ok { IfOk result (λ c. work_behind (seed.now ∷ tasks.now ∷ []) ≡ Some c) }
+    ensures usage { result ≡ Err CommandError.Usage → work_behind (seed.now ∷ tasks.now ∷ []) ≡ None }
+    ensures range { IfOk result IsInRange }
+{
+    let Some(seed) = number_from(0, GREATEST_SEED, seed) else {
+        return Err(CommandError::Usage);
+    };
+    let Some(tasks) = number_from(0, GREATEST_TASKS, tasks) else {
+        return Err(CommandError::Usage);
+    };
+    Ok(Command::Work { seed, tasks })
+}
+
+/// `work` with what stands behind it.
+fn work_behind(alloc: Global, matches: &ArgMatches<'_>) -> Result<Command, CommandError>
+    ensures ok { IfOk result (λ c. work_behind (values_of matches.now word_id) ≡ Some c) }
+    ensures usage { result ≡ Err CommandError.Usage → work_behind (values_of matches.now word_id) ≡ None }
+    ensures range { IfOk result IsInRange }
+{
+    let words = words(alloc, matches)?;
+    match words.as_slice() {
+        [] | [_] => Err(CommandError::Usage),
+        [seed, tasks] => work_with(*seed, *tasks),
+        [_, _, _, ..] => Err(CommandError::Usage),
+    }
+}
+
+/// What the words behind `work` ask for.
+fn work_of(alloc: Global, behind: &[Text]) -> Result<Command, CommandError>
+    ensures ok { IfOk result (λ c. work_of behind.now ≡ Some c) }
+    ensures usage { result ≡ Err CommandError.Usage → work_of behind.now ≡ None }
+    ensures range { IfOk result IsInRange }
+{
+    if !are_formed(behind) {
+        return Err(CommandError::Usage);
+    }
+    let texts = borrowed(alloc, behind)?;
+    let matches = parted(alloc, "work", &NONE, texts.as_slice())?;
+    work_behind(alloc, &matches)
 }
 
 /// Whether a word is the command `replay`.
@@ -279,10 +342,19 @@ fn is_check(word: &Text) -> bool
     word.as_slice() == b"check".as_slice()
 }
 
+/// Whether a word is the command `work`.
+#[tactic(auto, unfolding(crate::specs::Reading::work_word))]
+fn is_work(word: &Text) -> bool
+    ensures { result ≡ bytes_eq word.now work_word }
+{
+    word.as_slice() == b"work".as_slice()
+}
+
 /// What a command asks for with the words behind it.
 fn asked_by(alloc: Global, command: &Text, behind: &[Text]) -> Result<Command, CommandError>
     ensures ok { IfOk result (λ c. asked_by command.now behind.now ≡ Some c) }
     ensures usage { result ≡ Err CommandError.Usage → asked_by command.now behind.now ≡ None }
+    ensures range { IfOk result IsInRange }
 {
     if is_replay(command) {
         return replay_of(alloc, behind);
@@ -293,6 +365,9 @@ fn asked_by(alloc: Global, command: &Text, behind: &[Text]) -> Result<Command, C
     if is_check(command) {
         return check_of(alloc, behind);
     }
+    if is_work(command) {
+        return work_of(alloc, behind);
+    }
     Err(CommandError::Usage)
 }
 
@@ -300,6 +375,7 @@ fn asked_by(alloc: Global, command: &Text, behind: &[Text]) -> Result<Command, C
 pub fn command_of(alloc: Global, words: &WordList) -> Result<Command, CommandError>
     ensures ok { IfOk result (λ c. reading words.now ≡ Some c) }
     ensures usage { result ≡ Err CommandError.Usage → reading words.now ≡ None }
+    ensures range { IfOk result IsInRange }
 {
     match words.as_slice() {
         [command, behind @ ..] => asked_by(alloc, command, behind),

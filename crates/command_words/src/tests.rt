@@ -158,13 +158,22 @@ fn name_of(command: &Command) -> &'static str {
         Command::Replay { .. } => "replay",
         Command::Dump { .. } => "dump",
         Command::Check { .. } => "check",
+        Command::Work { .. } => "work",
+    }
+}
+
+/// The path of the database that a command is about, empty where it is about none.
+fn database_in(command: &Command) -> &[u8] {
+    match command.database() {
+        Some(database) => database.as_slice(),
+        None => b"",
     }
 }
 
 /// The name of a command and its database, both empty where the words have no reading.
 fn named(command: &Result<Command, CommandError>) -> (&str, &[u8]) {
     match command {
-        Ok(command) => (name_of(command), command.database().as_slice()),
+        Ok(command) => (name_of(command), database_in(command)),
         Err(CommandError::Usage) => ("", b""),
         Err(CommandError::OutOfMemory) => ("out of memory", b""),
     }
@@ -205,6 +214,7 @@ const DATABASES: &[(&[&str], &str, &str)] = &[
     (&["check", "db", "--help"], "", ""),
     (&["check", "\u{fc}ber.db"], "check", "\u{fc}ber.db"),
     (&["check", "db", "--version"], "", ""),
+    (&["work", "1", "2"], "work", ""),
     (&["Dump", "db"], "", ""),
     (&["dum", "db"], "", ""),
     (&["checks", "db"], "", ""),
@@ -220,6 +230,46 @@ fn databases(rt: HostRuntime) -> Result<(), Fail> {
         let command = command_of(rt.alloc(), &words);
         let is_named = named(&command) == (*name, database.as_bytes());
         assert!(rt; is_named, "at {texts:?}");
+    }
+    Ok(())
+}
+
+/// Command lines, with the seed and the number of tasks, and none where they have no reading.
+const WORKS: &[(&[&str], Option<(u32, u32)>)] = &[
+    (&["work", "1", "2"], Some((1, 2))),
+    (&["work", "0", "0"], Some((0, 0))),
+    (
+        &["work", "2147483647", "500000"],
+        Some((2_147_483_647, 500_000)),
+    ),
+    (&["work", "2147483648", "1"], None),
+    (&["work", "1", "500001"], None),
+    (&["work", "1"], None),
+    (&["work"], None),
+    (&["work", "1", "2", "3"], None),
+    (&["work", "01", "2"], None),
+    (&["work", "1", "+2"], None),
+    (&["work", "-1", "2"], None),
+    (&["work", "--", "1", "2"], None),
+    (&["work", "1", "2", "--key", "k"], None),
+    (&["work", "1", ""], None),
+    (&["work", "0x1", "2"], None),
+];
+
+/// The seed and the number of tasks that a command line asks for.
+fn work_in(command: &Result<Command, CommandError>) -> Option<(u32, u32)> {
+    match command {
+        Ok(Command::Work { seed, tasks }) => Some((*seed, *tasks)),
+        _ => None,
+    }
+}
+
+#[test]
+fn works(rt: HostRuntime) -> Result<(), Fail> {
+    for (texts, asked) in WORKS {
+        let words = words(rt.alloc(), texts)?;
+        let command = command_of(rt.alloc(), &words);
+        assert!(rt; work_in(&command) == *asked, "at {texts:?}");
     }
     Ok(())
 }

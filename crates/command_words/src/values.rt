@@ -1,6 +1,6 @@
 //! The values of options.
 
-ghost use Rattle.std.specs.Prelude.{◌≡◌, ◌≤◌, ◌^◌, true, Some, MatchOption, option_map, bytes_eq};
+ghost use Rattle.std.specs.Prelude.{◌≡◌, ◌≤◌, ◌^◌, true, Some, IfSome, MatchOption, option_map, bytes_eq};
 ghost use Rattle.std.specs.List.{list_all};
 ghost use Rattle.std.specs.Char.{is_ascii_digit};
 ghost use Rattle.std.specs.Str.Parse.{digits_value};
@@ -91,8 +91,9 @@ fn parsed(text: &str) -> Option<u32>
 }
 
 /// The number from low to high that a value is.
-fn number_from(low: u32, high: u32, value: &str) -> Option<u32>
-    ensures { result ≡ number_from low high value.now }
+pub fn number_from(low: u32, high: u32, value: &str) -> Option<u32>
+    ensures value { result ≡ number_from low high value.now }
+    ensures within { IfSome result (λ n. (low ≤ n) × (n ≤ high)) }
 {
     if !is_number(value.as_bytes()) {
         return None;
