@@ -5,7 +5,8 @@ ghost use Rattle.tape.specs.Spelling.{Fits, spelled, all_spelled};
 ghost use Rattle.generated_work.specs.Generated.{most_tasks, generated};
 
 use crate::draws::next_draw;
-use crate::records::{opening, task_record, work_key};
+use crate::key::work_key;
+use crate::records::{opening, task_record};
 use hmac_sign::Key;
 use std::alloc::{AllocError, Global};
 use std::collections::VecDeque;

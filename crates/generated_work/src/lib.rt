@@ -2,7 +2,9 @@
 #![tactic(auto)]
 
 pub mod draws;
+pub mod engines;
 pub mod generator;
+pub mod key;
 pub mod laws;
 mod records;
 pub mod summary;

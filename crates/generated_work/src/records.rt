@@ -1,17 +1,15 @@
 //! The records of the tape.
 
-ghost use Rattle.std.specs.Prelude.{◌≡◌, ◌++◌, [], IfOk, OnOk, true, string_bytes};
+ghost use Rattle.std.specs.Prelude.{◌≡◌, ◌++◌, [], IfOk, OnOk, true};
 ghost use Rattle.std.specs.List.{flat_map};
-ghost use Rattle.engine_core.specs.State.{is_uuid, new_engine};
 ghost use Rattle.generated_work.specs.Generated.{work_key, at_zero, up, sent, engine_uuid, engine_records, opening, task_record};
 
+use crate::engines::{engine_of, engine_uuid};
 use crate::tasks::task_message;
 use cluster_types::config::Channel;
 use cluster_types::octets::Octets;
 use cluster_types::shared_message::SharedMessage;
-use engine_core::engine::Engine;
-use engine_core::error::EngineError;
-use hmac_sign::{Key, KeyError};
+use hmac_sign::Key;
 use jupyter_parts::write::write_signed;
 use std::alloc::{AllocError, Global};
 use std::collections::VecDeque;
@@ -22,19 +20,6 @@ const ENGINES: [u32; 4] = [1, 2, 3, 4];
 
 /// The connection of the client.
 const CLIENT: u32 = 5;
-
-/// The key of all signatures.
-#[tactic(auto, unfolding(crate::specs::Generated::work_key))]
-pub fn work_key(alloc: Global) -> Result<Key, AllocError>
-    ensures { IfOk result (λ k. k ≡ work_key) }
-{
-    match Key::new(alloc, b"work") {
-        Ok(key) => Ok(key),
-        Err(KeyError::OutOfMemory) => Err(AllocError),
-        Err(KeyError::EmptyKey) => unreachable!(),
-        Err(KeyError::KeyTooLong) => unreachable!(),
-    }
-}
 
 /// A record of the moment 0 and the word 0.
 fn at_zero(kind: TapeKind) -> TapeRecord
@@ -81,30 +66,6 @@ fn sent(
         message.buffers(),
     )?;
     Ok(at_zero(TapeKind::Message { conn, frames }))
-}
-
-/// The uuid of the engine on a connection.
-#[tactic(auto, unfolding(crate::specs::Generated::engine_uuid), using(crate::proofs::Uuids::uuid_is))]
-fn engine_uuid(alloc: Global, conn: u32) -> Result<String, AllocError>
-    ensures text { IfOk result (λ s. string_bytes s ≡ engine_uuid conn) }
-    ensures uuid { IfOk result (λ s. is_uuid (string_bytes s) ≡ true) }
-{
-    let digits = conn.saturating_sub(1).to_string(alloc)?;
-    let mut uuid = String::from_str(alloc, "e")?;
-    uuid.push_str(digits.as_str())?;
-    Ok(uuid)
-}
-
-/// An engine with a uuid.
-fn engine_of(alloc: Global, uuid: &str) -> Result<Engine, AllocError>
-    requires { is_uuid uuid.now ≡ true }
-    ensures { IfOk result (λ engine. engine ≡ new_engine uuid.now) }
-{
-    match Engine::new(alloc, uuid) {
-        Ok(engine) => Ok(engine),
-        Err(EngineError::OutOfMemory) => Err(AllocError),
-        Err(EngineError::BadUuid) => unreachable!(),
-    }
 }
 
 /// Adds that the engine on a connection comes up and asks to be registered.

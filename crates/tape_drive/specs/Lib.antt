@@ -1,3 +1,4 @@
+pub mod Bare
 pub mod Drive
 pub mod Inputs
 pub mod Lawful

@@ -1,7 +1,7 @@
 //! A tape's way through a store.
 
 ghost use Rattle.std.specs.Prelude.{◌≡◌, ◌↔◌, ◌⊎◌, ◌≤◌, ◌<◌, ◌+◌, ◌^◌, ◌++◌, ◌∷◌, [], List, ℕ, Some, None, Err, true, false, IfOk, IfErr, OnOk, OnErr, length, map, reverse, option_map};
-ghost use Rattle.cluster_types.specs.declared.entry.Entry.{Entry};
+ghost use Rattle.cluster_types.specs.declared.entry.Entry.{Entry as EntryType};
 ghost use Rattle.cluster_types.specs.Causes.{Rose};
 ghost use Rattle.cluster_types.specs.Limits.{last_moment, tape_limit};
 ghost use Rattle.cluster_defs.specs.Lives.{is_open};
@@ -14,7 +14,7 @@ ghost use Rattle.task_journal.specs.Journal.{StandsFor};
 ghost use Rattle.task_journal.specs.Settled.{Unharmed, Spared, OnRefusal};
 ghost use Rattle.tape_drive.specs.Rules.{stop_of};
 ghost use Rattle.tape_drive.specs.Inputs.{inputs_of};
-ghost use Rattle.tape_drive.specs.Steps.{stepped, stepped_all, overfull, unless_full, fitting, full_at, history_behind, step_outs, AreTaken};
+ghost use Rattle.tape_drive.specs.Steps.{stepped, stepped_all, overfull, unless_full, fitting, full_at, history_behind, step_outs, made, AreTaken};
 ghost use Rattle.tape_drive.specs.Sends.{step_sends, steps_send, sent_at};
 ghost use Rattle.tape_drive.specs.declared.drive.Stop.TheVariants.{HistoryFull};
 ghost use Rattle.tape_drive.specs.Drive.{Stand, started_as, goes_on, sends, halts, served, outs};
@@ -30,7 +30,7 @@ use crate::steps::{Stepped, step};
 use cluster_core::size::HistorySize;
 use cluster_store::store::Store;
 use cluster_types::config::Config;
-use cluster_types::entry::Input;
+use cluster_types::entry::{Entry, Input};
 use disk_model::disk::Disk;
 use hmac_sign::Key;
 use load_schemes::chooser::Chooser;
@@ -137,6 +137,30 @@ impl<D: Disk> Drive<D> {
         store.close()
     }
 
+    /// The history, in the order in which its entries came.
+    pub fn history(&self) -> &[Entry]
+        ensures { reverse result.now ≡ self.now.stand.history }
+    {
+        self.store.history()
+    }
+
+    /// Takes an input outside of any record of the tape, and hands out what its step sends. One that may not come sends
+    /// nothing, and a step that would pass a limit isn't made.
+    pub fn step(&mut self, chooser: &Chooser, input: Input) -> Result<Stepped, DriveError>
+        requires fits { IsWithinLimits (EntryType.Input input) }
+        requires no_open { is_open (EntryType.Input input) ≡ false }
+        ensures made { IfOk result (λ s. s ≡ made self.old.stand.limits self.old.stand.history input) }
+        ensures stand { OnOk result (self.new.stand ≡ record self.old.stand { history = history_behind self.old.stand.limits self.old.stand.history input }) }
+        ensures on_way { IsOnWay self.old.stand.limits self.old.stand.history (input ∷ []) self.new.stand.history }
+        ensures any_moment { D.tells → self.old.failed ≡ false → IsTouched D.moment D.image D.image_since self.old.disk self.new.disk self.new.failed (HoldsSome (IsOnWay self.old.stand.limits self.old.stand.history (input ∷ []))) }
+        ensures reopen { (result ≡ Err DriveError.Reopen) ↔ (self.old.failed ≡ true) }
+        ensures failed { self.new.failed ≡ is_failed result }
+        ensures later { D.faults self.old.disk ≤ D.faults self.new.disk }
+        ensures cause { result ≡ Err DriveError.DiskFault → Rose (D.faults self.old.disk) (D.faults self.new.disk) }
+    {
+        step(&mut self.store, chooser, input)
+    }
+
     /// Serves an input, and appends the records of what is sent. It gives the size of the history where the step would
     /// pass a limit.
     fn serve_input(
@@ -147,8 +171,8 @@ impl<D: Disk> Drive<D> {
         moment: u64,
         input: Input,
     ) -> Result<Option<HistorySize>, DriveError>
-        requires fits { IsWithinLimits (Entry.Input input) }
-        requires no_open { is_open (Entry.Input input) ≡ false }
+        requires fits { IsWithinLimits (EntryType.Input input) }
+        requires no_open { is_open (EntryType.Input input) ≡ false }
         ensures full { IfOk result (λ f. f ≡ overfull self.old.stand.limits self.old.stand.history input) }
         ensures stand { OnOk result (self.new.stand ≡ record self.old.stand { history = history_behind self.old.stand.limits self.old.stand.history input }) }
         ensures octets { OnOk result (into.new.items ≡ into.old.items ++ all_spelled (map (sent_at moment) (unless_full (overfull self.old.stand.limits self.old.stand.history input) (step_sends key.now self.old.stand.links self.old.stand.history input)))) }
@@ -159,7 +183,7 @@ impl<D: Disk> Drive<D> {
         ensures later { D.faults self.old.disk ≤ D.faults self.new.disk }
         ensures cause { result ≡ Err DriveError.DiskFault → Rose (D.faults self.old.disk) (D.faults self.new.disk) }
     {
-        match step(&mut self.store, chooser, input)? {
+        match self.step(chooser, input)? {
             Stepped::Sends(outs) => {
                 put_outs(into, key, self.links.as_slice(), moment, outs)?;
                 Ok(None)

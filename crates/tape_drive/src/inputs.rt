@@ -100,7 +100,11 @@ fn add_up_where(
 }
 
 /// The message that frames are, where they are signed.
-fn signed(alloc: Global, key: &Key, frames: &Frames) -> Result<Option<SharedMessage>, AllocError>
+pub fn signed(
+    alloc: Global,
+    key: &Key,
+    frames: &Frames,
+) -> Result<Option<SharedMessage>, AllocError>
     ensures { IfOk result (λ m. m ≡ signed (read_parts key.now frames.now)) }
 {
     match read_parts(alloc, frames, key) {

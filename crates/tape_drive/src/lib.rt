@@ -1,14 +1,15 @@
 //! A tape of recorded connections, served record by record.
 #![tactic(auto)]
 
+pub mod bare;
 pub mod drive;
 pub mod fault;
 mod inputs;
 pub mod laws;
 mod links;
-mod order;
+pub mod order;
 mod records;
 mod rules;
 mod sends;
 mod sizes;
-mod steps;
+pub mod steps;

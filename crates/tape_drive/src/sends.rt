@@ -163,7 +163,7 @@ fn is_sendable(out: &Out) -> bool
 }
 
 /// The frames of an out.
-fn out_frames(alloc: Global, key: &Key, out: &Out) -> Result<Frames, AllocError>
+pub fn out_frames(alloc: Global, key: &Key, out: &Out) -> Result<Frames, AllocError>
     ensures { IfOk result (λ f. f ≡ frames_of key.now out.now) }
 {
     if !is_sendable(out) {
