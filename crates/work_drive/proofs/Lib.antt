@@ -1,0 +1,6 @@
+mod Begins
+mod Counts
+mod Empty
+mod Paths
+mod Records
+mod Takes

@@ -1,0 +1,4 @@
+pub mod Ends
+pub mod Results
+pub mod Summaries
+pub mod Work

@@ -1,0 +1,11 @@
+//! Generated work over a store: its tape is served record by record, and engines answer what they are sent.
+#![tactic(auto)]
+
+mod answers;
+pub mod fault;
+mod moves;
+mod results;
+mod summing;
+#[cfg(test)]
+mod tests;
+pub mod work;
