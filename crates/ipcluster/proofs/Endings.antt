@@ -1,26 +1,23 @@
 -- How a replay ends, by what was made of the database and of the tape.
-use Rattle.std.proofs.Common.{◌≡◌, ◌⊎◌, inl, inr, ⊎_elim, ℕ, ◌≤◌, List, [], Bool, true, false, Option, Some, None, reverse, refl, sym, ap, subst, ◌∙◌, arith}
+use Rattle.std.proofs.Common.{◌≡◌, ◌⊎◌, inl, inr, ⊎_elim, ℕ, ◌≤◌, List, Bool, true, false, Option, refl, sym, ap, subst, ◌∙◌, arith}
 use Rattle.cluster_defs.specs.Histories.{History}
-use Rattle.cluster_core.specs.declared.size.HistorySize.{HistorySize}
-use Rattle.cluster_store.specs.Openings.{IsOpened, HasOpen, WhyNot, Exits, opened}
+use Rattle.cluster_store.specs.Openings.{IsOpened, HasOpen, WhyNot, Exits}
 use Rattle.cluster_store.specs.Stores.{written}
 use Rattle.cluster_store.proofs.Images.{chained, weakened}
 use Rattle.command_words.specs.declared.command.ReplayOptions.{ReplayOptions}
 use Rattle.command_words.specs.declared.ending.Ending.{Ending}
 use Rattle.command_words.specs.declared.ending.Ending.TheVariants as endings
-use Rattle.database_text.specs.Texts.{WroteFront, Told}
-use Rattle.disk_model.specs.Crashes.{LeavesOnly, NoMore}
-use Rattle.edges.specs.Streams.{Added, IsAtEnd}
+use Rattle.database_text.specs.Texts.{Told}
+use Rattle.disk_model.specs.Crashes.{LeavesOnly}
+use Rattle.edges.specs.Streams.{IsAtEnd}
 use Rattle.task_journal.specs.declared.fault.OpenFault.{OpenFault}
 use Rattle.task_journal.specs.declared.fault.OpenFault.TheVariants.{NotAJournal, Damaged, DiskFault, OutOfMemory}
 use Rattle.task_journal.specs.Journal.{StandsFor}
 use Rattle.task_journal.specs.Settled.{Unharmed, Spared, OnRefusal}
 use Rattle.tape.specs.Tape.{blank, records}
-use Rattle.tape_drive.specs.declared.drive.Stop.{Stop}
-use Rattle.tape_drive.specs.declared.drive.Stop.TheVariants as stops
-use Rattle.tape_drive.specs.Drive.{Stand, started_as, start, drive_stand, drive_output, drive_stop}
+use Rattle.tape_drive.specs.Drive.{Stand, started_as, drive_stand, drive_output, drive_stop}
 use Rattle.tape_drive.specs.Served.{Comes, HoldsSome, IsTouched}
-use Rattle.ipcluster.specs.Replays.{limits_of, config_of, IsOver, IsServed, IsReplayed, IsCutOff, IsUnopened, IsDamagedAt, IsUnfit, From, ReplayEnds, MayLeave}
+use Rattle.ipcluster.specs.Replays.{limits_of, config_of, IsOver, IsServed, IsCutOff, ReplayEnds, MayLeave}
 use Rattle.ipcluster.specs.Written.{Ended, IsWhole, IsOfTape, ending_of_refusal}
 use Rattle.ipcluster.proofs.Reached.{served_front}
 

@@ -1,8 +1,7 @@
 -- Fronts of what is to be written.
-use Rattle.std.proofs.Common.{◌≡◌, ℕ, Result, Ok, Err, List, [], ◌∷◌, ◌++◌, take, drop, Option, Some, None, refl, sym, ap, subst, ◌∙◌, append_assoc}
+use Rattle.std.proofs.Common.{◌≡◌, ℕ, List, [], ◌∷◌, ◌++◌, take, drop, Option, Some, None, refl, sym, ap, ◌∙◌, append_assoc}
 use Rattle.std.proofs.lemmas.List.{append-nil, take-append-drop}
 use Rattle.std.proofs.lemmas.List.Concat.{flat_map-append}
-use Rattle.std.specs.Result.{OnErr}
 use Rattle.edges.specs.Streams.{Added}
 use Rattle.tape.specs.declared.record.TapeRecord.{TapeRecord}
 use Rattle.tape.specs.Spelling.{spelled, all_spelled}

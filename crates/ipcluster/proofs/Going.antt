@@ -11,16 +11,15 @@ use Rattle.tape.specs.Tape.{Tape, blank, tape_after, records, fault}
 use Rattle.tape.specs.Spelling.{all_spelled}
 use Rattle.tape.proofs.Chunk.{after_append, records_append, stays}
 use Rattle.tape_drive.specs.Drive.{Stand, served, served_from, outs, outs_from_stand, outputs, stand_at, first_of, drive_stand, drive_output, drive_stop}
-use Rattle.tape_drive.specs.Served.{Comes, HoldsSome}
+use Rattle.tape_drive.specs.Served.{Comes}
 use Rattle.tape_drive.specs.declared.drive.Stop.{Stop}
 use Rattle.tape_drive.specs.declared.drive.Stop.TheVariants.{BadTape, HistoryFull}
 use Rattle.command_words.specs.declared.ending.Ending.{Ending}
 use Rattle.command_words.specs.declared.ending.Ending.TheVariants as endings
 use Rattle.ipcluster.specs.Replays.{IsServed}
-use Rattle.database_text.specs.Texts.{WroteFront}
 use Rattle.ipcluster.specs.Written.{Ended, IsWhole, ending_at}
 use Rattle.ipcluster.proofs.Fronts.{added_none, added_both, written_append, stand_append}
-use Rattle.ipcluster.proofs.Reached.{comes_here, comes_more, comes_behind, holds_more, front_whole, served_more, served_behind, served_front, served_whole}
+use Rattle.ipcluster.proofs.Reached.{comes_more, comes_behind, front_whole, served_more, served_behind, served_whole}
 
 -- so far: the records that came were served, all that they send was written, and what is left of the input gives the others
 pub record Going (key : List ℕ) (begin : Stand) (octets : List ℕ) (before now : Option (List ℕ)) (left : Option (List ℕ)) (tape : Tape) (stand : Stand) : Type 0 where

@@ -2,15 +2,16 @@
 use Rattle.std.specs.Prelude.{◌≡◌, ◌⊎◌, ℕ, List, Option}
 use Rattle.cluster_types.specs.declared.entry.Entry.{Entry}
 use Rattle.command_words.specs.declared.command.Command.{Command}
-use Rattle.command_words.specs.declared.command.Command.TheVariants.{Replay, Dump, Check}
+use Rattle.command_words.specs.declared.command.Command.TheVariants.{Replay, Dump, Check, Work}
 use Rattle.command_words.specs.declared.ending.Ending.{Ending}
-use Rattle.command_words.specs.declared.ending.Ending.TheVariants.{Done, Usage, ReadFault, WriteFault, DiskFault, BadTape, Damaged, OutOfMemory, HistoryFull, Different}
+use Rattle.command_words.specs.declared.ending.Ending.TheVariants.{Done, Usage, ReadFault, WriteFault, DiskFault, Damaged, OutOfMemory, Different}
 use Rattle.command_words.specs.Lines.{line}
 use Rattle.database_text.specs.Texts.{IsDamaged, WroteFront, Told, DiffersAt}
 use Rattle.edges.specs.Streams.{Added, IsAtEnd}
 use Rattle.history_text.specs.Lines.{text}
 use Rattle.task_journal.specs.Journal.{StandsFor}
 use Rattle.ipcluster.specs.Replays.{ReplayEnds, MayLeave}
+use Rattle.ipcluster.specs.Works.{WorkEnds}
 use Rattle.ipcluster.specs.Written.{Said}
 
 -- the line of an end is written to the errors, and nothing where all was done
@@ -50,13 +51,20 @@ abbrev pub Ends : (tells : Type 0) → List ℕ → (left rest before now : Opti
 Ends tells content left rest before now old new (Replay database options) end = ReplayEnds tells content options left rest before now old new end
 Ends tells content left rest before now old new (Dump database) end = DumpEnds tells content before now end
 Ends tells content left rest before now old new (Check database) end = (now ≡ before) × CheckEnds tells content left rest end
+Ends tells content left rest before now old new (Work seed tasks) end = WorkEnds tells content seed tasks before now new end
+
+-- whether a command is about a database, and not about a disk in memory
+abbrev pub HasDatabase : Command → Type 0
+HasDatabase (Work seed tasks) = ⊥
+HasDatabase _ = Unit {0}
 
 -- whether a command changes nothing on the disk
 abbrev pub OnlyLooks : Command → Type 0
 OnlyLooks (Replay database options) = ⊥
+OnlyLooks (Work seed tasks) = ⊥
 OnlyLooks _ = Unit {0}
 
--- what a crash at any moment of a command may leave
+-- what a crash at any moment of a command about a database may leave
 abbrev pub MayLeaveOf : Command → List ℕ → List ℕ → (List ℕ → Type 0) → List ℕ → Type 0
 MayLeaveOf (Replay database options) content octets old c = MayLeave content options octets old c
 MayLeaveOf _ content octets old c = old c

@@ -2,3 +2,4 @@ pub mod Commands
 pub mod Replays
 pub mod Serving
 pub mod Written
+pub mod Works

@@ -1,11 +1,11 @@
 -- What a replay over a database leaves: what it wrote, and what a crash may leave of the disk.
-use Rattle.std.specs.Prelude.{◌≡◌, ◌⊎◌, ℕ, List, [], ◌++◌, reverse, Option, Some, None}
+use Rattle.std.specs.Prelude.{◌≡◌, ◌⊎◌, ℕ, List, ◌++◌, reverse, Option, Some, None}
 use Rattle.cluster_types.specs.declared.config.Config.{Config}
 use Rattle.cluster_types.specs.declared.entry.Entry.{Entry}
 use Rattle.cluster_defs.specs.Histories.{History}
 use Rattle.command_words.specs.declared.command.ReplayOptions.{ReplayOptions}
 use Rattle.command_words.specs.declared.ending.Ending.{Ending}
-use Rattle.command_words.specs.declared.ending.Ending.TheVariants.{Done, Usage, ReadFault, WriteFault, DiskFault, BadTape, Damaged, OutOfMemory, HistoryFull, Different}
+use Rattle.command_words.specs.declared.ending.Ending.TheVariants.{Done, Usage, BadTape, Damaged, HistoryFull, Different}
 use Rattle.edges.specs.Streams.{Added, IsAtEnd}
 use Rattle.cluster_core.specs.declared.size.HistorySize.{HistorySize}
 use Rattle.cluster_store.specs.Openings.{IsFit, HasOpen, WhyNot}

@@ -1,5 +1,5 @@
 -- What was written of what is to be written.
-use Rattle.std.specs.Prelude.{◌≡◌, ℕ, List, ◌++◌, Option, Some, None, ◌⊎◌}
+use Rattle.std.specs.Prelude.{◌≡◌, ℕ, List, Option, Some, None, ◌⊎◌}
 use Rattle.cluster_types.specs.Causes.{Rose}
 use Rattle.edges.specs.Streams.{Added}
 use Rattle.database_text.specs.Texts.{WroteFront}

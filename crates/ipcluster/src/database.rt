@@ -43,11 +43,15 @@ fn open_for_reading(rt: &HostRuntime, path: &str) -> io::Result<File> {
     }
 }
 
-/// Opens the file of the database that a command names: `replay` makes one that isn't there, the others change none.
-pub fn open_database(rt: &HostRuntime, command: &Command) -> io::Result<File> {
-    let path = command.database().as_str();
-    match command {
-        Command::Replay { .. } => open_for_changes(rt, path),
-        _ => open_for_reading(rt, path),
-    }
+/// Opens the file of the database that a command names, where it names one: `replay` makes a file that isn't there, the
+/// others change none.
+pub fn open_database(rt: &HostRuntime, command: &Command) -> io::Result<Option<File>> {
+    let Some(path) = command.database() else {
+        return Ok(None);
+    };
+    let file = match command {
+        Command::Replay { .. } => open_for_changes(rt, path.as_str())?,
+        _ => open_for_reading(rt, path.as_str())?,
+    };
+    Ok(Some(file))
 }

@@ -3,6 +3,7 @@
 
 mod database;
 mod errors;
+mod generated;
 mod quick;
 mod replay;
 #[cfg(test)]
@@ -14,17 +15,19 @@ ghost use Rattle.cluster_defs.specs.Scheduling.{pick};
 use cluster_types::config::Scheme;
 use cluster_types::message::WordList;
 use cluster_types::text::Text;
-use command_words::command::{CommandError, command_of};
+use command_words::command::{Command, CommandError, command_of};
 use command_words::ending::Ending;
 use database::open_database;
+use disk_model::disk::Disk;
 use disk_model::file::FileDisk;
+use disk_model::memory::MemDisk;
 use edges::sink::Sink;
 use edges::standard::{StdSink, StdSource};
 use errors::tell;
 use load_schemes::chooser::Chooser;
 use load_schemes::place::place_of;
 use quick::quick;
-use std::alloc::{AllocError, Global};
+use std::alloc::AllocError;
 use std::process::ExitCode;
 use std::{env, io};
 
@@ -69,52 +72,60 @@ fn ending_of(error: &WordsError) -> Ending {
     }
 }
 
-/// The disk that the words name, or how the program ends where there is none.
-fn disk_of(rt: &HostRuntime, words: &WordList) -> Result<FileDisk, Ending> {
+/// What the words ask for, or how the program ends where they have no reading.
+fn read(rt: &HostRuntime, words: &WordList) -> Result<Command, Ending> {
     match command_of(rt.alloc(), words) {
-        Ok(command) => match open_database(rt, &command) {
-            Ok(file) => Ok(FileDisk::new(file)),
-            Err(_) => Err(Ending::DiskFault),
-        },
+        Ok(command) => Ok(command),
         Err(CommandError::Usage) => Err(Ending::Usage),
         Err(CommandError::OutOfMemory) => Err(Ending::OutOfMemory),
     }
 }
 
-/// A chooser of the four schemes.
-fn chooser(alloc: Global) -> Result<Chooser, AllocError> {
-    let choose = Box::new(
-        alloc,
+/// Does what the words ask for over a disk.
+fn run_over<E: Sink, D: Disk + Drop>(
+    rt: &HostRuntime,
+    words: &WordList,
+    errors: &mut E,
+    disk: D,
+) -> Result<u8, Ending> {
+    let Ok(choose) = Box::new(
+        rt.alloc(),
         |scheme: Scheme, loads: &[u32], word: u64| -> usize
             requires { 0 < length loads.now }
             ensures { result ≡ pick scheme loads.now word }
         { place_of(scheme, loads, word) },
-    )?;
-    Ok(Chooser::new(choose))
-}
-
-/// Does what the words ask for, over the disk that they name.
-fn run<E: Sink>(rt: &HostRuntime, errors: &mut E) -> Result<u8, Ending> {
-    let words = match words_of(rt) {
-        Ok(words) => words,
-        Err(error) => return Err(ending_of(&error)),
-    };
-    let disk = disk_of(rt, &words)?;
-    let Ok(chooser) = chooser(rt.alloc()) else {
+    ) else {
         return Err(Ending::OutOfMemory);
     };
     let mut input = StdSource::new(rt.stdin());
     let mut output = StdSink::new(rt.stdout());
     let (status, _disk) = quick(
         rt.alloc(),
-        &words,
+        words,
         &mut input,
         &mut output,
         errors,
         disk,
-        chooser,
+        Chooser::new(choose),
     );
     Ok(status)
+}
+
+/// Does what the words ask for, over the database that they name, or over a disk in memory where they name none.
+fn run<E: Sink>(rt: &HostRuntime, errors: &mut E) -> Result<u8, Ending> {
+    let words = match words_of(rt) {
+        Ok(words) => words,
+        Err(error) => return Err(ending_of(&error)),
+    };
+    let command = read(rt, &words)?;
+    match open_database(rt, &command) {
+        Ok(Some(file)) => run_over(rt, &words, errors, FileDisk::new(file)),
+        Ok(None) => match MemDisk::new(rt.alloc(), b"") {
+            Ok(disk) => run_over(rt, &words, errors, disk),
+            Err(_) => Err(Ending::OutOfMemory),
+        },
+        Err(_) => Err(Ending::DiskFault),
+    }
 }
 
 fn main(rt: HostRuntime) -> ExitCode {

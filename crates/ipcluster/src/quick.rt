@@ -3,13 +3,14 @@
 ghost use Rattle.std.specs.Prelude.{◌≡◌, ◌⊎◌, ℕ, List, None, IfSome};
 ghost use Rattle.cluster_types.specs.Causes.{Rose};
 ghost use Rattle.command_words.specs.Lines.{status, line};
-ghost use Rattle.command_words.specs.Reading.{reading};
+ghost use Rattle.command_words.specs.Reading.{reading, IsInRange};
 ghost use Rattle.disk_model.specs.Crashes.{LeavesOnly};
-ghost use Rattle.ipcluster.specs.Commands.{Ends, MayLeaveOf, OnlyLooks, Unread, Says};
+ghost use Rattle.ipcluster.specs.Commands.{Ends, HasDatabase, MayLeaveOf, OnlyLooks, Unread, Says};
 ghost use Rattle.task_journal.specs.Reads.{OnlyReads};
 ghost use Rattle.database_text.specs.Texts.{Told};
 
 use crate::errors::tell;
+use crate::generated::generated;
 use crate::replay::replay;
 use cluster_types::message::WordList;
 use command_words::command::{Command, CommandError, command_of};
@@ -31,8 +32,9 @@ fn obey<S: Source, K: Sink, D: Disk>(
     disk: D,
     chooser: &Chooser,
 ) -> (Ending, D)
+    requires { IsInRange command.now }
     ensures ended { Ends D.tells (D.content disk) (S.left input.old) (S.left input.new) (K.written output.old) (K.written output.new) (D.image disk) (D.image result.1) command.now result.0 }
-    ensures any_moment { D.tells → Told (S.left input.old) (λ octets. LeavesOnly D.moment D.image_since disk result.1 (MayLeaveOf command.now (D.content disk) octets (D.image disk))) }
+    ensures any_moment { D.tells → HasDatabase command.now → Told (S.left input.old) (λ octets. LeavesOnly D.moment D.image_since disk result.1 (MayLeaveOf command.now (D.content disk) octets (D.image disk))) }
     ensures looks { OnlyLooks command.now → OnlyReads D.content D.image D.moment D.image_since D.faults disk result.1 }
     ensures read_fault { result.0 ≡ Ending.ReadFault → Rose (S.faults input.old) (S.faults input.new) }
     ensures write_fault { result.0 ≡ Ending.WriteFault → Rose (K.faults output.old) (K.faults output.new) }
@@ -43,6 +45,7 @@ fn obey<S: Source, K: Sink, D: Disk>(
         Command::Replay { options, .. } => replay(alloc, options, chooser, input, output, disk),
         Command::Dump { .. } => (dump(alloc, &mut disk, output), disk),
         Command::Check { .. } => (check(alloc, &mut disk, input), disk),
+        Command::Work { seed, tasks } => generated(alloc, *seed, *tasks, chooser, output, disk),
     }
 }
 
@@ -57,7 +60,7 @@ fn run<S: Source, K: Sink, D: Disk>(
 ) -> (Ending, D)
     ensures unread { reading words.now ≡ None → Unread result.0 × (K.written output.new ≡ K.written output.old) × (result.1 ≡ disk) }
     ensures ended { IfSome (reading words.now) (λ c. Ends D.tells (D.content disk) (S.left input.old) (S.left input.new) (K.written output.old) (K.written output.new) (D.image disk) (D.image result.1) c result.0) }
-    ensures any_moment { D.tells → IfSome (reading words.now) (λ c. Told (S.left input.old) (λ octets. LeavesOnly D.moment D.image_since disk result.1 (MayLeaveOf c (D.content disk) octets (D.image disk)))) }
+    ensures any_moment { D.tells → IfSome (reading words.now) (λ c. HasDatabase c → Told (S.left input.old) (λ octets. LeavesOnly D.moment D.image_since disk result.1 (MayLeaveOf c (D.content disk) octets (D.image disk)))) }
     ensures looks { IfSome (reading words.now) (λ c. OnlyLooks c → OnlyReads D.content D.image D.moment D.image_since D.faults disk result.1) }
     ensures read_fault { result.0 ≡ Ending.ReadFault → Rose (S.faults input.old) (S.faults input.new) }
     ensures write_fault { result.0 ≡ Ending.WriteFault → Rose (K.faults output.old) (K.faults output.new) }
@@ -74,11 +77,12 @@ fn run<S: Source, K: Sink, D: Disk>(
 ///
 /// `replay` reads a tape from the input, serves it, and writes what is sent, as records of a tape, to the output; what is
 /// kept of its history goes to the disk before what it sends is written. `dump` writes the entries of the disk as lines, and
-/// `check` compares the input with these lines; these two change nothing on the disk.
+/// `check` compares the input with these lines; these two change nothing on the disk. `work` does generated work over a disk
+/// that is empty, and writes what it is summed up to.
 ///
 /// The status: 0 all was done; 2 the words have no reading; 3 a read failed; 4 a write failed; 5 a call of the disk failed;
 /// 6 the tape has a fault, before which all was served; 7 the disk holds no journal, or a damaged one, or for `replay` one
-/// whose list isn't that of a cluster; 8 there was no memory; 9 the next step would pass a limit of the history, before which
+/// whose list isn't that of a cluster, or for `work` anything; 8 there was no memory; 9 the next step would pass a limit of the history, before which
 /// all was served; 10 the input isn't the text of the entries. At each status but 0 it writes the line that says so to
 /// `errors`, as far as these take it: a write there that fails changes nothing.
 pub fn quick<S: Source, K: Sink, E: Sink, D: Disk>(
@@ -94,8 +98,8 @@ pub fn quick<S: Source, K: Sink, E: Sink, D: Disk>(
     ensures unread { reading words.now ≡ None → ((result.0 ≡ 2) ⊎ (result.0 ≡ 8)) × (K.written output.new ≡ K.written output.old) × (result.1 ≡ disk) }
     // Else the status is that of an end that the command may come to, and the line of this end is written to the errors.
     ensures ended { IfSome (reading words.now) (λ c. (e : Ending) × (result.0 ≡ status e) × Says e (E.written errors.old) (E.written errors.new) (E.faults errors.old) (E.faults errors.new) × Ends D.tells (D.content disk) (S.left input.old) (S.left input.new) (K.written output.old) (K.written output.new) (D.image disk) (D.image result.1) c e) }
-    // What a crash at any moment of the call may leave of the disk.
-    ensures any_moment { D.tells → IfSome (reading words.now) (λ c. Told (S.left input.old) (λ octets. LeavesOnly D.moment D.image_since disk result.1 (MayLeaveOf c (D.content disk) octets (D.image disk)))) }
+    // What a crash at any moment of the call may leave of the disk of a database.
+    ensures any_moment { D.tells → IfSome (reading words.now) (λ c. HasDatabase c → Told (S.left input.old) (λ octets. LeavesOnly D.moment D.image_since disk result.1 (MayLeaveOf c (D.content disk) octets (D.image disk)))) }
     ensures looks { IfSome (reading words.now) (λ c. OnlyLooks c → OnlyReads D.content D.image D.moment D.image_since D.faults disk result.1) }
     ensures read_fault { result.0 ≡ 3 → Rose (S.faults input.old) (S.faults input.new) }
     ensures write_fault { result.0 ≡ 4 → Rose (K.faults output.old) (K.faults output.new) }

@@ -118,6 +118,8 @@ const REPLAY: &[&str] = &["replay", "--key", "k", "db"];
 
 const ONE_ENTRY: &[&str] = &["replay", "--key", "k", "--entries", "1", "db"];
 
+const WORK: &[&str] = &["work", "1", "2"];
+
 const UNREAD: &[&str] = &["replay", "db", "--key"];
 
 /// Whether these words, on this tape, come to this status and this line of the errors, with nothing written.
@@ -178,6 +180,7 @@ fn ends(rt: HostRuntime) -> Result<(), Fail> {
         (REPLAY, UP, &SECOND_READ, 3, "ipcluster: read fault\n"),
         (REPLAY, JOINING, &FIRST_WRITE, 4, "ipcluster: write fault\n"),
         (REPLAY, TORN, &FIRST_LINE, 6, ""),
+        (WORK, b"", &FIRST_WRITE, 4, "ipcluster: write fault\n"),
         (
             ONE_ENTRY,
             LATER,

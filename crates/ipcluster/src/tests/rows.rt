@@ -1,6 +1,6 @@
 //! Commands over whole databases, with what they are to come to.
 
-use super::{NONE, REPLAY, UP, disk_of, run};
+use super::{NONE, REPLAY, UP, WORK, disk_of, run};
 use std::alloc::Global;
 use std::test::Fail;
 
@@ -100,7 +100,18 @@ fn shown(alloc: Global, row: &Row) -> Result<(u8, bool, bool, bool), Fail> {
     Ok((left.status, line, output, left.disk.content() == row.left))
 }
 
+const NO_TASKS: &[&str] = &["work", "1", "0"];
+
 const ROWS: &[Row] = &[
+    Row {
+        words: WORK,
+        input: b"",
+        disk: ONE_OPEN,
+        status: 7,
+        line: "ipcluster: damaged database at 0\n",
+        output: b"",
+        left: ONE_OPEN,
+    },
     Row {
         words: REPLAY,
         input: b"",
@@ -228,6 +239,43 @@ fn commands_over_databases(rt: HostRuntime) -> Result<(), Fail> {
             (row.status, true, true, true),
             "at {place}"
         );
+    }
+    Ok(())
+}
+
+/// How many lines these octets have.
+fn lines_in(octets: &[u8]) -> usize {
+    let mut lines = 0usize;
+    for octet in octets {
+        if *octet == b'\n' {
+            lines = lines.saturating_add(1);
+        }
+    }
+    lines
+}
+
+#[test]
+fn work_without_tasks_is_kept(rt: HostRuntime) -> Result<(), Fail> {
+    let alloc = rt.alloc();
+    let left = run(alloc, NO_TASKS, b"", &NONE, disk_of(alloc, b"", 0)?)?;
+    assert_eq!(rt; left.status, 0);
+    let dumped = run(
+        alloc,
+        DUMP,
+        b"",
+        &NONE,
+        disk_of(alloc, left.disk.content(), 0)?,
+    )?;
+    assert_eq!(rt; lines_in(dumped.output.written()), 10);
+    Ok(())
+}
+
+#[test]
+fn a_call_of_the_disk_fails_at_work(rt: HostRuntime) -> Result<(), Fail> {
+    let alloc = rt.alloc();
+    for call in [1, 2, 5, 9, 40] {
+        let left = run(alloc, WORK, b"", &NONE, disk_of(alloc, b"", call)?)?;
+        assert!(rt; left.status == 5 && left.output.written().is_empty());
     }
     Ok(())
 }

@@ -1,6 +1,6 @@
 use Rattle.std.proofs.Common.{◌≡◌, ◌∙◌, refl, sym, subst}
 use Rattle.command_words.specs.Reading.{reading}
-use Rattle.command_words.specs.Lines.{status, line}
+use Rattle.command_words.specs.Lines.{status}
 use Rattle.command_words.specs.declared.ending.Ending.{Ending}
 use Rattle.command_words.specs.declared.ending.Ending.TheVariants.{Done}
 use Rattle.ipcluster.specs.Commands.{Ends, Says}

@@ -3,7 +3,7 @@ use Rattle.command_words.specs.Reading.{reading}
 use Rattle.database_text.specs.Texts.{Told}
 use Rattle.disk_model.specs.Crashes.{LeavesOnly}
 use Rattle.task_journal.specs.Reads.{OnlyReads}
-use Rattle.ipcluster.specs.Commands.{Ends, MayLeaveOf, OnlyLooks}
+use Rattle.ipcluster.specs.Commands.{Ends, HasDatabase, MayLeaveOf, OnlyLooks}
 use Rattle.ipcluster.proofs.Unbegun.{some_all, memory_ends, still_leaves, still_reads}
 use Rattle.ipcluster.proofs.quick.run.Goals as goal
 
@@ -17,8 +17,8 @@ pub returns-in-Err-OutOfMemory-clause-any_moment : goal.returns-in-Err-OutOfMemo
 returns-in-Err-OutOfMemory-clause-any_moment g c =
     λ tells.
     some_all (reading c.args.words.now)
-    (λ k. Told (g.S.Source.left c.args.input.now) (λ octets. LeavesOnly g.D.Disk.moment g.D.Disk.image_since c.args.disk c.args.disk (MayLeaveOf k (g.D.Disk.content c.args.disk) octets (g.D.Disk.image c.args.disk))))
-    (λ k octets told. still_leaves g.D.Disk.image g.D.Disk.moment g.D.Disk.image_since g.met.D.Disk.only_now c.args.disk (g.D.Disk.content c.args.disk) octets k)
+    (λ k. HasDatabase k → Told (g.S.Source.left c.args.input.now) (λ octets. LeavesOnly g.D.Disk.moment g.D.Disk.image_since c.args.disk c.args.disk (MayLeaveOf k (g.D.Disk.content c.args.disk) octets (g.D.Disk.image c.args.disk))))
+    (λ k has octets told. still_leaves g.D.Disk.image g.D.Disk.moment g.D.Disk.image_since g.met.D.Disk.only_now c.args.disk (g.D.Disk.content c.args.disk) octets k)
 
 pub returns-in-Err-OutOfMemory-clause-looks : goal.returns-in-Err-OutOfMemory-clause-looks
 returns-in-Err-OutOfMemory-clause-looks g c =

@@ -1,4 +1,4 @@
-use Rattle.std.proofs.Common.{◌≡◌, ◌∙◌, ◌⊎◌, List, ℕ, Bool, true, false, refl, sym, ap, subst}
+use Rattle.std.proofs.Common.{◌≡◌, ◌∙◌, ◌⊎◌, List, ℕ, sym, subst}
 use Rattle.cluster_types.specs.declared.config.Config.{Config}
 use Rattle.cluster_store.specs.Openings.{IsOpened, HasOpen, Exits}
 use Rattle.command_words.specs.declared.ending.Ending.{Ending}
@@ -7,7 +7,7 @@ use Rattle.task_journal.specs.Settled.{Unharmed}
 use Rattle.tape.specs.Tape.{blank, records}
 use Rattle.tape_drive.specs.Drive.{started_as}
 use Rattle.tape_drive.specs.Served.{Comes, HoldsSome, IsTouched}
-use Rattle.ipcluster.specs.Replays.{limits_of, config_of, IsOver, ReplayEnds, MayLeave}
+use Rattle.ipcluster.specs.Replays.{IsOver, ReplayEnds, MayLeave}
 use Rattle.ipcluster.proofs.Endings.{Tape, over_of, over_told, tape_ends, refusal_ends, leaves_on}
 use Rattle.ipcluster.proofs.replay.replay.Goals as goal
 
