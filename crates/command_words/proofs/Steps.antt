@@ -13,7 +13,8 @@ use Rattle.command_words.specs.Items.{Item, known_items, places, values}
 use Rattle.command_words.specs.Simple.{HasItems, has_option, option_rule, simple_with, values_of, word_id}
 use Rattle.command_words.specs.Values.{key_from, needed, number_from, optional, scheme_from}
 use Rattle.cluster_types.specs.declared.config.Scheme.TheVariants.{LeastLoad}
-use Rattle.command_words.specs.Reading.{bytes_name, entries_name, greatest_bytes, greatest_entries, greatest_hwm, greatest_misses, hwm_name, key_name, misses_name, database_items, database_in, only_word, replay_behind, replay_items, replay_names, replay_of, replay_options, replay_with, scheme_name, work_behind, work_items, work_of}
+use Rattle.cluster_types.specs.Limits.{most_entries, most_record_octets}
+use Rattle.command_words.specs.Reading.{bytes_name, entries_name, greatest_hwm, greatest_misses, hwm_name, key_name, misses_name, database_items, database_in, only_word, replay_behind, replay_items, replay_names, replay_of, replay_options, replay_with, scheme_name, work_behind, work_items, work_of}
 
 abbrev pub texts : List (Bor Text) → List Text
 texts = map (λ t. t.now)
@@ -39,7 +40,7 @@ options_same f g is =
     let e = is entries_name refl in
     let h = is bytes_name refl in
     λ i. replay_with (needed key_from (a i)) (optional LeastLoad scheme_from (b i)) (optional 1 (number_from 0 greatest_hwm) (c i))
-    (optional 10 (number_from 1 greatest_misses) (d i)) (optional greatest_entries (number_from 1 greatest_entries) (e i)) (optional greatest_bytes (number_from 1 greatest_bytes) (h i))
+    (optional 10 (number_from 1 greatest_misses) (d i)) (optional most_entries (number_from 1 most_entries) (e i)) (optional most_record_octets (number_from 1 most_record_octets) (h i))
 
 behind_same : (places : List Text) (f g : Text → List Text) → ((name : Text) → has_option replay_names name ≡ true → f name ≡ g name) → replay_behind places f ≡ replay_behind places g
 behind_same [] f g is = refl

@@ -2,6 +2,7 @@
 use Rattle.std.specs.Prelude.{ℕ, ◌≤◌, List, [], ◌∷◌, Option, Some, None, bytes_eq, codes, if◌then◌else◌, option_and_then, option_map}
 use Rattle.cluster_types.specs.declared.config.Scheme.{Scheme}
 use Rattle.cluster_types.specs.declared.config.Scheme.TheVariants.{LeastLoad}
+use Rattle.cluster_types.specs.Limits.{most_entries, most_record_octets}
 use Rattle.command_words.specs.declared.command.Command.{Command}
 use Rattle.command_words.specs.declared.command.Command.TheVariants.{Replay, Dump, Check, Work}
 use Rattle.command_words.specs.declared.command.ReplayOptions.{ReplayOptions}
@@ -52,14 +53,6 @@ greatest_hwm = 1000000
 abbrev pub greatest_misses : ℕ
 greatest_misses = 1000
 
--- the greatest limit of the entries of a history; the least is 1
-abbrev pub greatest_entries : ℕ
-greatest_entries = 4000000
-
--- the greatest limit of the octets of a history's records; the least is 1
-abbrev pub greatest_bytes : ℕ
-greatest_bytes = 1073741824
-
 -- the greatest seed of generated work; the least is 0
 abbrev pub greatest_seed : ℕ
 greatest_seed = 2147483647
@@ -105,8 +98,8 @@ replay_options values_under =
     replay_with (needed key_from (values_under key_name)) (optional LeastLoad scheme_from (values_under scheme_name))
     (optional 1 (number_from 0 greatest_hwm) (values_under hwm_name))
     (optional 10 (number_from 1 greatest_misses) (values_under misses_name))
-    (optional greatest_entries (number_from 1 greatest_entries) (values_under entries_name))
-    (optional greatest_bytes (number_from 1 greatest_bytes) (values_under bytes_name))
+    (optional most_entries (number_from 1 most_entries) (values_under entries_name))
+    (optional most_record_octets (number_from 1 most_record_octets) (values_under bytes_name))
 
 -- one positional word stands behind `replay`
 abbrev pub replay_behind : List (List ℕ) → (List ℕ → List (List ℕ)) → Option Command

@@ -10,6 +10,7 @@ use crate::values::{needed_key, number_from, optional_number, optional_scheme};
 use clap::ArgMatches;
 use clap::error::ErrorKind;
 use cluster_types::config::Scheme;
+use cluster_types::limits::{MOST_ENTRIES, MOST_RECORD_OCTETS};
 use cluster_types::message::WordList;
 use cluster_types::octets::Octets;
 use cluster_types::text::Text;
@@ -140,12 +141,6 @@ const GREATEST_HWM: u32 = 1_000_000;
 /// The most missed beats that can be asked for.
 const GREATEST_MISSES: u32 = 1000;
 
-/// The greatest limit of entries.
-const GREATEST_ENTRIES: u32 = 4_000_000;
-
-/// The greatest limit of octets.
-const GREATEST_BYTES: u32 = 1_073_741_824;
-
 /// The greatest seed of generated work.
 const GREATEST_SEED: u32 = 2_147_483_647;
 
@@ -171,11 +166,11 @@ fn replay_options(alloc: Global, matches: &ArgMatches<'_>) -> Result<ReplayOptio
         return Err(CommandError::Usage);
     };
     let entries = matches.get_strs(ENTRIES);
-    let Some(entries) = optional_number(GREATEST_ENTRIES, 1, GREATEST_ENTRIES, entries) else {
+    let Some(entries) = optional_number(MOST_ENTRIES, 1, MOST_ENTRIES, entries) else {
         return Err(CommandError::Usage);
     };
     let bytes = matches.get_strs(BYTES);
-    let Some(bytes) = optional_number(GREATEST_BYTES, 1, GREATEST_BYTES, bytes) else {
+    let Some(bytes) = optional_number(MOST_RECORD_OCTETS, 1, MOST_RECORD_OCTETS, bytes) else {
         return Err(CommandError::Usage);
     };
     Ok(ReplayOptions {

@@ -2,6 +2,7 @@
 use Rattle.std.specs.Prelude.{◌≡◌, ℕ, List, [], reverse, Result, Ok, Err}
 use Rattle.cluster_types.specs.declared.config.Config.{Config}
 use Rattle.cluster_types.specs.declared.config.Scheme.TheVariants.{LeastLoad}
+use Rattle.cluster_types.specs.Limits.{most_entries, most_record_octets}
 use Rattle.cluster_types.specs.declared.entry.Entry.{Entry}
 use Rattle.cluster_core.specs.declared.size.HistorySize.{HistorySize}
 use Rattle.cluster_store.specs.Openings.{opened}
@@ -17,10 +18,10 @@ use Rattle.work_drive.specs.Summaries.{summary_of}
 
 -- the options that stand where none is given, and the greatest limits
 abbrev pub work_config : Config
-work_config = record { scheme = LeastLoad; hwm = 1; misses = 10; entries = 4000000; bytes = 1073741824 }
+work_config = record { scheme = LeastLoad; hwm = 1; misses = 10; entries = most_entries; bytes = most_record_octets }
 
 abbrev pub work_limits : HistorySize
-work_limits = record { entries = 4000000; bytes = 1073741824 }
+work_limits = record { entries = most_entries; bytes = most_record_octets }
 
 -- why a database isn't opened, where its disk is empty
 abbrev pub error_of : OpenFault → WorkError

@@ -15,6 +15,7 @@ use crate::answers::first_engines;
 use crate::fault::WorkError;
 use crate::moves::Run;
 use cluster_types::config::{Config, Scheme};
+use cluster_types::limits::{MOST_ENTRIES, MOST_RECORD_OCTETS};
 use disk_model::disk::Disk;
 use engine_core::engine::Engine;
 use generated_work::generator::Generator;
@@ -37,8 +38,8 @@ fn work_config() -> Config
         scheme: Scheme::LeastLoad,
         hwm: 1,
         misses: 10,
-        entries: 4_000_000,
-        bytes: 1_073_741_824,
+        entries: u64::from(MOST_ENTRIES),
+        bytes: u64::from(MOST_RECORD_OCTETS),
     }
 }
 
