@@ -1,0 +1,11 @@
+pub mod Again
+pub mod Going
+pub mod Inputs
+pub mod Names
+pub mod Opening
+pub mod Outs
+pub mod Runs
+pub mod Sending
+pub mod Stepping
+pub mod Talks
+pub mod Tapes
