@@ -1,5 +1,5 @@
 -- Moves after moves.
-use Rattle.std.proofs.Common.{◌≡◌, ℕ, List, [], ◌∷◌, ◌++◌, map, reverse, append_assoc, append-nil, refl, sym, ap, ◌∙◌, subst}
+use Rattle.std.proofs.Common.{◌≡◌, List, [], ◌∷◌, ◌++◌, map, reverse, append_assoc, refl, sym, ap, ◌∙◌, subst}
 use Rattle.std.proofs.lemmas.List.{map-append, reverse-append}
 use Rattle.cluster_types.specs.declared.out.Out.{Out}
 use Rattle.cluster_defs.specs.Histories.{History}

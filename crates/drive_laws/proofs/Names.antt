@@ -1,8 +1,7 @@
 -- What is sent about ids is about known ones.
-use Rattle.std.proofs.Common.{◌≡◌, ◌⊎◌, inl, inr, ℕ, List, [], ◌∷◌, ◌++◌, map, Bool, true, false, cond, not, ◌||◌, ◌&&◌, Option, Some, None, refl, sym, ap, ◌∙◌, subst}
+use Rattle.std.proofs.Common.{◌≡◌, inl, inr, ℕ, List, [], ◌∷◌, ◌++◌, map, Bool, true, false, cond, not, ◌||◌, ◌&&◌, Option, Some, None, refl, ap, ◌∙◌, subst}
 use Rattle.std.specs.Prelude.{find, filter, bytes_eq, is_none, nat_le, length}
-use Rattle.std.specs.Option.{is_some, option_and_then}
-use Rattle.std.specs.List.{list_any, AllByRecursion as Each}
+use Rattle.std.specs.List.{AllByRecursion as Each}
 use Rattle.std.proofs.lemmas.Bool.{or_left}
 use Rattle.std.proofs.lemmas.List.Folds.{list_any-append}
 use Rattle.cluster_types.specs.declared.message.Message.{Message}
@@ -19,12 +18,12 @@ use Rattle.cluster_defs.specs.declared.acceptance.Acceptance.TheVariants as case
 use Rattle.cluster_defs.specs.declared.answer.Answer.{Answer}
 use Rattle.cluster_defs.specs.declared.connection.Connection.{Connection}
 use Rattle.cluster_defs.specs.declared.engine.Engine.{Engine}
-use Rattle.cluster_defs.specs.Words.{Id, is_listed, begins_with, once}
+use Rattle.cluster_defs.specs.Words.{Id, is_listed, begins_with}
 use Rattle.cluster_defs.specs.Connections.{connection_on}
 use Rattle.cluster_defs.specs.Engines.{conn_in, engine_named}
 use Rattle.cluster_defs.specs.Facts.{Facts, event_in}
 use Rattle.cluster_defs.specs.Acceptance.{Demand, reserved_front, is_repeat, acceptance_new, acceptance_open, acceptance, accepted, accepted_id}
-use Rattle.cluster_defs.specs.Purges.{Copy, gone_or_unknown, copied_by, copied_ids, resubmitting}
+use Rattle.cluster_defs.specs.Purges.{Copy, gone_or_unknown, copied_by, copied_ids}
 use Rattle.cluster_defs.specs.Histories.{History, facts, Legal, place}
 use Rattle.cluster_defs.specs.Outcomes.{hand_out, outcome}
 use Rattle.cluster_defs.specs.Outs.{outs, pass_to, owner_conn, beat_out, answer_out, repeat_out, repeated, message_outs}
@@ -184,9 +183,10 @@ results_are_known history (id ∷ ids) none = by (results_are_known history ids)
 copies_known : (f new : Facts) (copies : List Copy) → AllCopied f copies → ((id : Id) → is_listed id (map (λ c. c.new) copies) ≡ true → is_listed id new.known ≡ true) →
     Each (λ c. (is_listed c.old f.known ≡ true) × (is_listed c.new new.known ≡ true)) copies
 copies_known f new [] all made = tt
-copies_known f new (c ∷ copies) all made =
-    ((all.0.known, made c.new (or_left (bytes_eq c.new c.new) (is_listed c.new (map (λ (c : Copy). c.new) copies)) (id_self c.new))),
-      copies_known f new copies all.1 (λ id listed. made id (or_right (bytes_eq c.new id) (is_listed id (map (λ (c : Copy). c.new) copies)) listed)))
+copies_known f new (c ∷ copies) all made = (
+  (all.0.known, made c.new (or_left (bytes_eq c.new c.new) (is_listed c.new (map (λ (c : Copy). c.new) copies)) (id_self c.new))),
+  copies_known f new copies all.1 (λ id listed. made id (or_right (bytes_eq c.new id) (is_listed id (map (λ (c : Copy). c.new) copies)) listed)),
+)
 
 pub copies_are_known : (older : History) (conn moment word : ℕ) (message : Message) (copies : List Copy) →
     copied_by (facts older) (event_in (facts older) (Input (In conn moment word message))) ≡ Some copies →

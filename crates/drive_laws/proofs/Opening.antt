@@ -1,21 +1,21 @@
 -- An Open after a crash, and a history that grows by whole steps.
-use Rattle.std.proofs.Common.{◌≡◌, ⊎_elim, ℕ, ◌<◌, ◌≤◌, List, [], ◌∷◌, ◌++◌, length, Bool, true, false, cond, None, refl, sym, ap, ◌∙◌, subst, arith}
+use Rattle.std.proofs.Common.{◌≡◌, ⊎_elim, ℕ, ◌≤◌, List, [], ◌∷◌, ◌++◌, length, Bool, true, false, cond, Some, None, refl, sym, ap, ◌∙◌, subst, arith}
 use Rattle.cluster_types.specs.declared.config.Config.{Config}
 use Rattle.cluster_types.specs.declared.config.Scheme.{Scheme}
 use Rattle.cluster_types.specs.declared.entry.Input.{Input as InputType}
 use Rattle.cluster_types.specs.declared.entry.Input.TheVariants.{Open, Up, Down, In, Beat, Time}
 use Rattle.cluster_types.specs.declared.entry.Entry.{Entry}
 use Rattle.cluster_types.specs.declared.entry.Entry.TheVariants.{Input, Hand, Settle, Lose}
-use Rattle.cluster_defs.specs.Scheduling.{due, Allowed}
-use Rattle.cluster_defs.specs.Histories.{History, facts, kept, decide_all}
-use Rattle.cluster_defs.specs.Lives.{World, Move, Grow, Flush, Send, Crash, Life, May, OpensIf, is_open, told_after, moved_by, world, new_world}
+use Rattle.cluster_defs.specs.Scheduling.{due}
+use Rattle.cluster_defs.specs.Histories.{History, facts, decide_all}
+use Rattle.cluster_defs.specs.Lives.{World, Move, Grow, Flush, Send, Crash, Life, May, OpensIf, is_open, told_after, moved_by, world}
 use Rattle.cluster_defs.specs.Runs.{Decided}
 use Rattle.cluster_laws.proofs.Kept.{kept_facts}
 use Rattle.cluster_core.proofs.Growing.{due_allowed}
 use Rattle.cluster_core.proofs.Plans.{decide_all_rests}
 use Rattle.cluster_core.specs.declared.size.HistorySize.{HistorySize}
 use Rattle.cluster_store.specs.Worlds.{MayGo, world_after}
-use Rattle.cluster_store.proofs.Fits.{decides_to, length_more}
+use Rattle.cluster_store.proofs.Fits.{decides_to}
 use Rattle.cluster_store.proofs.Lived.{with_history, step_grows}
 use Rattle.cluster_store.proofs.Stepping.{step_of, step_longer}
 use Rattle.cluster_store.proofs.Waits.{due_no_open}
@@ -25,7 +25,7 @@ use Rattle.tape_drive.specs.Served.{IsOnWay, Comes, inputs_taken}
 use Rattle.tape_drive.specs.Steps.{may_come, stepped, stepped_all, fitting}
 use Rattle.tape_drive.proofs.Quiet.{opened_quiet}
 use Rattle.drive_laws.specs.Runs.{HasEnded}
-use Rattle.drive_laws.specs.Sent.{IsAtRest, HasSent, GoesOn}
+use Rattle.drive_laws.specs.Sent.{IsAtRest, GoesOn}
 use Rattle.drive_laws.proofs.Going.{world_on, may_on, sent_none}
 use Rattle.drive_laws.proofs.Inputs.{taken_none, fitting_none}
 use Rattle.drive_laws.proofs.Stepping.{NoOpens}

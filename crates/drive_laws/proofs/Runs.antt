@@ -1,22 +1,23 @@
 -- Runs over one file are one life.
-use Rattle.std.proofs.Common.{◌≡◌, inl, inr, ℕ, ◌≤◌, List, [], ◌∷◌, ◌++◌, length, reverse, Ok, refl, sym, ap, ◌∙◌, subst, arith}
+use Rattle.std.proofs.Common.{◌≡◌, inl, inr, ℕ, ◌≤◌, List, [], ◌∷◌, ◌++◌, length, reverse, true, Ok, refl, sym, ap, ◌∙◌, subst, arith}
+use Rattle.std.specs.Prelude.{Result}
 use Rattle.std.proofs.lemmas.List.{reverse-reverse}
 use Rattle.cluster_types.specs.declared.entry.Entry.{Entry}
 use Rattle.cluster_types.specs.declared.out.Out.{Out}
 use Rattle.cluster_defs.specs.Histories.{History, Legal, kept}
-use Rattle.cluster_defs.specs.Lives.{World, Move, Crash, Life, May, Sending, Belongs, moved_by, world}
+use Rattle.cluster_defs.specs.Lives.{World, Move, Crash, May, Belongs, moved_by, world}
 use Rattle.cluster_laws.proofs.Life.{life_legal, life_belongs}
 use Rattle.cluster_store.specs.Stores.{written}
 use Rattle.cluster_store.specs.Worlds.{MayGo, world_after}
 use Rattle.cluster_store.proofs.Lived.{with_history}
 use Rattle.task_journal.specs.Journal.{StandsFor, holding}
+use Rattle.task_journal.specs.declared.fault.OpenFault.{OpenFault}
 use Rattle.task_journal.specs.declared.found.Found.{Found}
-use Rattle.tape_drive.specs.Drive.{Stand, start, stand_at}
-use Rattle.tape_drive.specs.Served.{Comes}
-use Rattle.drive_laws.specs.Sent.{IsAtRest, HasSent, GoesOn, tape_outs, outs_of}
+use Rattle.tape_drive.specs.Drive.{stand_at}
+use Rattle.drive_laws.specs.Sent.{HasSent, GoesOn, tape_outs, outs_of}
 use Rattle.drive_laws.specs.Runs.{TapeRun, begun, MayLeave, Ran, IsLifeOf, IsOneHistory}
-use Rattle.drive_laws.proofs.Going.{world_on, may_on, sent_on, goes_on, world_of, life_on, outs_on, joined}
-use Rattle.drive_laws.proofs.Opening.{Grown, GrownTo, opens, grown_nothing, grow_comes}
+use Rattle.drive_laws.proofs.Going.{world_on, may_on, goes_on, world_of, life_on, outs_on, joined}
+use Rattle.drive_laws.proofs.Opening.{GrownTo, opens, grown_nothing, grow_comes}
 use Rattle.drive_laws.proofs.Tapes.{tape_goes}
 
 -- a run, up to its crash
@@ -102,5 +103,5 @@ left_is_next octets list at left next = ap reverse (sym (ap (λ (found : Found).
     same : holding (written at) left.0 ≡ holding list next.0
     same = inside (holding (written at) left.0) (holding list next.0) (sym left.1 ∙ next.1)
       where
-        inside : (a b : Found) → Ok a ≡ Ok b → a ≡ b
+        inside : (a b : Found) → ◌≡◌ {A = Result Found OpenFault} (Ok a) (Ok b) → a ≡ b
         inside a b is = cc

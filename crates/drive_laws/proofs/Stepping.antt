@@ -1,12 +1,12 @@
 -- A step, served, is moves of a life: its entries grow, all of it is flushed, and its outs are sent.
-use Rattle.std.proofs.Common.{◌≡◌, ℕ, suc, ◌+◌, ◌<◌, ◌≤◌, List, [], ◌∷◌, ◌++◌, length, map, Bool, true, false, cond, None, refl, sym, ap, ◌∙◌, subst, arith}
+use Rattle.std.proofs.Common.{◌≡◌, ℕ, suc, ◌<◌, List, [], ◌∷◌, ◌++◌, length, map, Bool, true, false, cond, refl, sym, ap, ◌∙◌, subst, arith}
 use Rattle.std.specs.List.{AllByRecursion as Each}
 use Rattle.std.proofs.lemmas.Bool.{lt-ltb}
 use Rattle.cluster_types.specs.declared.entry.Input.{Input as InputType}
 use Rattle.cluster_types.specs.declared.entry.Entry.{Entry}
 use Rattle.cluster_types.specs.declared.entry.Entry.TheVariants.{Input}
 use Rattle.cluster_types.specs.declared.out.Out.{Out}
-use Rattle.cluster_defs.specs.Scheduling.{due, Allowed}
+use Rattle.cluster_defs.specs.Scheduling.{due}
 use Rattle.cluster_defs.specs.Histories.{History, facts, decide_all}
 use Rattle.cluster_defs.specs.Outs.{outs, outs_from, outs_on}
 use Rattle.cluster_defs.specs.Lives.{World, Move, Flush, Sending, May, is_open, kept_end, sendings_to, moved_by}

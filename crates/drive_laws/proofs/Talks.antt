@@ -1,8 +1,8 @@
 -- What pieces tell on a link is what all their octets tell.
-use Rattle.std.proofs.Common.{◌≡◌, ℕ, List, [], ◌∷◌, ◌++◌, Some, None, Option, false, refl, sym, ap, ◌∙◌}
+use Rattle.std.proofs.Common.{◌≡◌, ℕ, List, [], ◌∷◌, Some, false, refl, sym, ap, ◌∙◌}
 use Rattle.std.specs.List.{flat_map}
 use Rattle.cluster_types.specs.declared.config.Channel.{Channel}
-use Rattle.tape_drive.specs.Links.{Link, new_link}
+use Rattle.tape_drive.specs.Links.{new_link}
 use Rattle.zmtp_peer.specs.PeerStream.{Talk, begins, talked}
 use Rattle.zmtp_peer.proofs.Pieces.{talked_append}
 use Rattle.drive_laws.specs.Agreement.{heard_all}

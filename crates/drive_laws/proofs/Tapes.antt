@@ -1,5 +1,5 @@
 -- A tape, served, is moves of a life.
-use Rattle.std.proofs.Common.{◌≡◌, ℕ, List, [], ◌∷◌, ◌++◌, Option, Some, None, refl, sym, ap, ◌∙◌, subst}
+use Rattle.std.proofs.Common.{◌≡◌, ℕ, List, [], ◌∷◌, Option, Some, None, refl, sym, subst}
 use Rattle.cluster_defs.specs.Histories.{History}
 use Rattle.cluster_defs.specs.Lives.{World}
 use Rattle.cluster_store.specs.Worlds.{world_after}
