@@ -4,6 +4,7 @@
 mod database;
 mod errors;
 mod generated;
+mod laws;
 mod quick;
 mod replay;
 #[cfg(test)]
