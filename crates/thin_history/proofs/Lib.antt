@@ -1,0 +1,4 @@
+pub mod Histories
+pub mod Holding
+pub mod Noting
+pub mod Passing

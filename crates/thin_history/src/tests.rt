@@ -1,0 +1,1 @@
+//! Thin histories of small clusters.
