@@ -5,7 +5,7 @@ ghost use Rattle.std.specs.List.{list_any};
 ghost use Rattle.cluster_defs.specs.Words.{Id};
 ghost use Rattle.cluster_defs.specs.Thin.{narrowed};
 ghost use Rattle.thin_history.specs.Going.{purged_in, holds, purged_by, gone_by};
-ghost use Rattle.thin_history.specs.Thinning.{gone_through};
+ghost use Rattle.thin_history.specs.Thinning.{copies_in, gone_through};
 
 use crate::notes::{Copied, Note};
 use cluster_state::state::State;
@@ -33,7 +33,7 @@ fn hold_each<'a>(held: &mut BTreeMap<&'a str, ()>, ids: &[&'a Text]) -> Result<(
 
 /// Puts an id at the end of a list, where it is wanted there.
 fn push_if<'a>(ids: &mut Vec<&'a Text>, wanted: bool, id: &'a Text) -> Result<(), AllocError>
-    ensures { OnOk result (ids.new.items ≡ ids.old.items ++ (if wanted then id ∷ [] else [])) }
+    ensures { OnOk result (ids.new.items ≡ ids.old.items ++ (if wanted then id.entry ∷ [] else [])) }
 {
     if wanted {
         ids.push(id)?;
@@ -93,7 +93,19 @@ impl<'a> Going<'a> {
         ensures gone { OnOk result (gone_by self.new ≡ narrowed (gone_by self.old) copies.now) }
     {
         let olds = self.olds_of(alloc, copies)?;
-        hold_each(&mut self.held, olds.as_slice())
+        hold_each(&mut self.held, olds.as_slice())?;
+        Ok(())
+    }
+
+    /// Holds what an entry that does this holds.
+    fn look_at(&mut self, alloc: Global, note: &'a Note) -> Result<(), AllocError>
+        ensures purged { OnOk result (purged_by self.new ≡ purged_by self.old) }
+        ensures gone { OnOk result (gone_by self.new ≡ narrowed (gone_by self.old) (copies_in note.now)) }
+    {
+        if let Note::Makes(copies) = note {
+            self.narrow(alloc, copies.as_slice())?;
+        }
+        Ok(())
     }
 }
 
@@ -108,9 +120,7 @@ pub fn going_after<'a>(
 {
     let mut going = Going::new(alloc, state);
     for note in notes.iter().rev() {
-        if let Note::Makes(copies) = note {
-            going.narrow(alloc, copies.as_slice())?;
-        }
+        going.look_at(alloc, note)?;
     }
     Ok(going)
 }
