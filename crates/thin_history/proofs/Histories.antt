@@ -4,8 +4,10 @@ use Rattle.std.proofs.lemmas.List.{reverse-append, take_more}
 use Rattle.cluster_types.specs.declared.entry.Entry.{Entry}
 use Rattle.cluster_defs.specs.Words.{Id}
 use Rattle.cluster_defs.specs.Facts.{event_in}
-use Rattle.cluster_defs.specs.Histories.{History, facts}
-use Rattle.cluster_defs.specs.Thin.{narrowed, thin_entry, thin_by, gone_from}
+use Rattle.cluster_defs.specs.Histories.{History, facts, Legal}
+use Rattle.cluster_defs.specs.Thin.{narrowed, thin_entry, thin_by, gone_from, let_go, thin}
+use Rattle.cluster_state.specs.Plain.{Plain, plain_of, facts_in}
+use Rattle.cluster_state.proofs.Exact.{exact}
 use Rattle.thin_history.specs.declared.notes.Note.{Note}
 use Rattle.thin_history.specs.Notes.{note_of, notes_of}
 use Rattle.thin_history.specs.Thinning.{thin_as, thin_noted, copies_in, gone_through}
@@ -40,3 +42,14 @@ thin_next gone purged notes entries done i note e x lt lu is same made so_far =
     ∙ ap (λ y. y ∷ thin_noted gone purged (reverse (take i notes)) (reverse (take i entries))) made
     ∙ sym (ap (λ ns. thin_noted gone purged ns (reverse (take (i + 1) entries))) (turned notes i note lt is)
     ∙ ap (thin_noted gone purged (note ∷ reverse (take i notes))) (turned entries i e lu same))
+
+-- what is known after a legal history, and the notes of its entries, tell its thin one
+pub thinned_is : (h : History) (p : Plain) (notes : List Note) (gone purged : Id → Bool) → Legal h → p ≡ plain_of (facts h) → notes ≡ notes_of h → purged ≡ (facts_in p).purged →
+    gone ≡ gone_through (facts_in p).purged notes → thin_noted gone purged notes h ≡ thin h
+thinned_is h p notes gone purged legal stands noted purged_are gone_are =
+    let told : (facts_in p).purged ≡ (facts h).purged = ap (λ q. (facts_in q).purged) stands ∙ ap (λ f. f.purged) (exact h legal) in
+    let goes : gone ≡ let_go h = gone_are ∙ ap (λ test. gone_through test notes) told ∙ ap (gone_through (facts h).purged) noted ∙ gone_is (facts h).purged h in
+    ap (λ test. thin_noted test purged notes h) goes
+    ∙ ap (λ test. thin_noted (let_go h) test notes h) (purged_are ∙ told)
+    ∙ ap (λ ns. thin_noted (let_go h) (facts h).purged ns h) noted
+    ∙ thin_is (let_go h) (facts h).purged h
