@@ -16,7 +16,7 @@ use std::marker::Model;
 use task_lookup::distinct::once;
 
 /// A new id, with the old one whose request it got.
-#[derive(Debug, Drop)]
+#[derive(Drop)]
 pub struct Copied {
     old: Text,
     new: Text,
@@ -34,7 +34,7 @@ impl Model for Copied {
 pub type Copies = Sequence<Copied>;
 
 /// What an entry does that bears on what a purge lets go.
-#[derive(Debug, Drop)]
+#[derive(Drop)]
 pub enum Note {
     Nothing,
     /// Its request is accepted under this id.
