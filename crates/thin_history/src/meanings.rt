@@ -72,12 +72,14 @@ pub fn event_in(
     ensures { IfOk result (λ event. event ≡ event_in (facts_in (plain state.now)) entry.now) }
 {
     match entry {
-        Entry::Input(Input::In {
-            conn,
-            moment: _,
-            word: _,
-            message,
-        }) => {
+        Entry::Input(
+            Input::In {
+                conn,
+                moment: _,
+                word: _,
+                message,
+            },
+        ) => {
             let event = event_on(alloc, state, *conn, message, scratch)?;
             Ok(event)
         }

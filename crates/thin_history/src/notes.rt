@@ -40,10 +40,7 @@ pub enum Note {
     /// Its request is accepted under this id.
     Accepts(Text),
     /// It is a valid reply for this id.
-    Answers {
-        id: Text,
-        ok: bool,
-    },
+    Answers { id: Text, ok: bool },
     /// It makes these copies.
     Makes(Copies),
 }

@@ -23,11 +23,7 @@ pub struct Pass {
 }
 
 /// Takes an entry, and says what it does.
-fn take_entry(
-    state: &mut State,
-    entry: &Entry,
-    scratch: &mut Scratch,
-) -> Result<Note, AllocError>
+fn take_entry(state: &mut State, entry: &Entry, scratch: &mut Scratch) -> Result<Note, AllocError>
     requires time { InTime entry.now }
     requires now { state.old.moment ≤ last_moment }
     ensures note { IfOk result (λ note. note ≡ note_of (facts_in (plain state.old)) entry.now) }

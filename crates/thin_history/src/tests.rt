@@ -194,7 +194,8 @@ fn is_saying(entries: &[Entry], contents: &[Content]) -> bool {
         if let Entry::Input(Input::In { message, .. }) = entry {
             let buffers = !message.buffers().is_empty();
             match left {
-                [(content, whole), behind @ ..] if *content == message.content() && *whole == buffers => {
+                [(content, whole), behind @ ..]
+                    if *content == message.content() && *whole == buffers => {
                     left = behind;
                 }
                 _ => return false,
@@ -218,7 +219,9 @@ fn thins_to(
 
 /// What a request and a reply that are let go have in place of their contents.
 const GONE: Content = (b"{}", false);
+
 const OK: Content = (b"{\"status\":\"ok\"}", false);
+
 const ERROR: Content = (b"{\"status\":\"error\"}", false);
 
 const fn whole(said: Said) -> Content<'static> {

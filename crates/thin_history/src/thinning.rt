@@ -22,21 +22,18 @@ fn same_entry(entry: &Entry) -> Result<Entry, AllocError>
 }
 
 /// An entry that does this, without what is let go.
-fn thin_entry(
-    alloc: Global,
-    going: &Going,
-    note: &Note,
-    entry: &Entry,
-) -> Result<Entry, AllocError>
+fn thin_entry(alloc: Global, going: &Going, note: &Note, entry: &Entry) -> Result<Entry, AllocError>
     ensures { IfOk result (λ e. e ≡ thin_as (gone_by going.now) (purged_by going.now) note.now entry.now) }
 {
     match entry {
-        Entry::Input(Input::In {
-            conn,
-            moment,
-            word,
-            message,
-        }) => Ok(Entry::Input(Input::In {
+        Entry::Input(
+            Input::In {
+                conn,
+                moment,
+                word,
+                message,
+            },
+        ) => Ok(Entry::Input(Input::In {
             conn: *conn,
             moment: *moment,
             word: *word,

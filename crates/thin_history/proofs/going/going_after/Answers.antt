@@ -20,8 +20,8 @@ loop-note-preserved c =
     record {
       purged = c.in_ok-look_at.ensures.purged ∙ c.loop-note.invariant.purged;
       gone =
-        looked_at (gone_by c.loop-note.going) (gone_by c.look_at.new.self) (reverse c.args.notes.now) (length done) _ c.in-Some.note.now (length_push done c.in-Some.note) turn c.in_ok-look_at.ensures.gone
-        ∙ c.loop-note.invariant.gone;
+          looked_at (gone_by c.loop-note.going) (gone_by c.look_at.new.self) (reverse c.args.notes.now) (length done) _ c.in-Some.note.now (length_push done c.in-Some.note) turn c.in_ok-look_at.ensures.gone
+          ∙ c.loop-note.invariant.gone;
     }
 
 pub returns-clause-gone : goal.returns-clause-gone

@@ -1,4 +1,4 @@
-use Rattle.std.proofs.Common.{◌≡◌, ◌≤◌, ◌∙◌, length, take, reverse, sym, ap, subst, arith}
+use Rattle.std.proofs.Common.{◌≤◌, ◌∙◌, length, reverse, sym, ap, subst, arith}
 use Rattle.std.proofs.lemmas.List.{take_all}
 use Rattle.cluster_types.specs.Limits.{last_moment}
 use Rattle.cluster_defs.specs.Histories.{facts}
@@ -29,7 +29,7 @@ loop-entry-preserved c =
     let i = c.loop-entry.entry-index in
     let e = c.entry-item.result in
     let more = passed_at xs i e (plain c.loop-entry.state) (plain c.take_entry.new.state) c.loop-entry.notes.items c.in_ok-note.note c.loop-entry-test.true c.entry-item.is c.requires.legal
-      (subst InTime (sym c.entry-item.is) (c.requires.time i e c.loop-entry-test.true)) c.loop-entry.invariant c.in_ok-note.ensures.note c.in_ok-note.ensures.after in
+    (subst InTime (sym c.entry-item.is) (c.requires.time i e c.loop-entry-test.true)) c.loop-entry.invariant c.in_ok-note.ensures.note c.in_ok-note.ensures.after in
     record { stands = more.stands; time = more.time; notes_are = ap reverse c.in_ok-push.ensures.items ∙ more.notes_are }
 
 pub returns-clause-stands : goal.returns-clause-stands

@@ -1,4 +1,4 @@
-use Rattle.std.proofs.Common.{◌≡◌, ◌∙◌, ◌<◌, ◌≤◌, ℕ, length, take, reverse, sym, ap, subst}
+use Rattle.std.proofs.Common.{◌∙◌, ◌<◌, ◌≤◌, ℕ, length, take, reverse, sym, ap, subst}
 use Rattle.std.proofs.lemmas.List.{take_all}
 use Rattle.thin_history.specs.Going.{purged_by, gone_by}
 use Rattle.thin_history.specs.Thinning.{thin_noted}
@@ -13,7 +13,7 @@ loop-place-preserved c =
     let inside : i < length notes = subst (λ (n : ℕ). i < n) (sym c.requires) c.loop-place-test.true in
     ap reverse c.in_ok-push.ensures.items
     ∙ thin_next (gone_by g) (purged_by g) notes c.args.entries.now c.loop-place.thin.items i c.index-notes-place.result c.index-entries-place.result c.in_ok-thin_entry.field-0
-      inside c.loop-place-test.true c.index-notes-place.is c.index-entries-place.is c.in_ok-thin_entry.ensures c.loop-place.invariant
+    inside c.loop-place-test.true c.index-notes-place.is c.index-entries-place.is c.in_ok-thin_entry.ensures c.loop-place.invariant
 
 pub returns : goal.returns
 returns c =

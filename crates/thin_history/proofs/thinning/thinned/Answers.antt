@@ -27,7 +27,7 @@ returns c =
     let stands : plain state ≡ plain_of (facts (reverse entries)) = c.in_ok-pass.ensures.stands ∙ ap (λ xs. plain_of (facts (reverse xs))) c.as_slice.ensures in
     let noted : reverse notes ≡ notes_of (reverse entries) = c.in_ok-pass.ensures.notes ∙ ap (λ xs. notes_of (reverse xs)) c.as_slice.ensures in
     let goes : gone ≡ gone_through (purged_in state) (reverse notes) =
-      c.in_ok-going.ensures.gone ∙ ap (λ ns. gone_through (purged_in state) (reverse ns)) c.as_slice-2.ensures.value in
+    c.in_ok-going.ensures.gone ∙ ap (λ ns. gone_through (purged_in state) (reverse ns)) c.as_slice-2.ensures.value in
     let thin_ones = c.in_ok-thin.thin.items in
     c.from_vec.ensures ∙ sym (reverse-reverse thin_ones)
     ∙ ap reverse (c.in_ok-thin.ensures

@@ -9,4 +9,4 @@ loop-copy-preserved c = λ q.
     let gone = gone_by c.args.self.now in
     ap (list_any (λ d. bytes_eq d.now q)) c.in_ok-push_if.ensures
     ∙ olds_more gone c.args.copies.now c.loop-copy.copy-index c.copy-item.result q c.loop-copy.olds.items c.old.result (not c.lets_go.result) c.loop-copy-test.true c.copy-item.is c.old.ensures
-      (ap not (c.lets_go.ensures ∙ ap gone c.new_id.ensures)) (c.loop-copy.invariant q)
+    (ap not (c.lets_go.ensures ∙ ap gone c.new_id.ensures)) (c.loop-copy.invariant q)
