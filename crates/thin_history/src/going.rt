@@ -16,6 +16,7 @@ use std::collections::BTreeMap;
 /// Which ids are let go: those that are purged, without the held ones.
 #[derive(Drop)]
 pub struct Going<'a> {
+    /// What is known after the history.
     state: &'a State,
     /// The ids that stay though they may be purged, since a copy stays that was made of them.
     held: BTreeMap<&'a str, ()>,
@@ -63,6 +64,7 @@ impl<'a> Going<'a> {
         }
     }
 
+    /// Whether an id is held.
     fn is_held(&self, id: &Text) -> bool
         ensures { result ≡ holds self.now.held id.now }
     {
@@ -97,7 +99,7 @@ impl<'a> Going<'a> {
         Ok(())
     }
 
-    /// Holds what an entry that does this holds.
+    /// Holds the old ids of those copies that stay of the ones that an entry made.
     fn look_at(&mut self, alloc: Global, note: &'a Note) -> Result<(), AllocError>
         ensures purged { OnOk result (purged_by self.new ≡ purged_by self.old) }
         ensures gone { OnOk result (gone_by self.new ≡ narrowed (gone_by self.old) (copies_in note.now)) }

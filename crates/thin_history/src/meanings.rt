@@ -34,6 +34,7 @@ fn meaning(
     }
 }
 
+/// The channel of a live connection.
 fn channel_of(state: &State, conn: u32) -> Option<Channel>
     ensures { result ≡ channel_on state.now.connections.items conn }
 {

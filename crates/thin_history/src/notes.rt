@@ -18,7 +18,9 @@ use task_lookup::distinct::once;
 /// A new id, with the old one whose request it got.
 #[derive(Drop)]
 pub struct Copied {
+    /// Whose request it is.
     old: Text,
+    /// `resubmit:` and the number of the new task.
     new: Text,
 }
 
@@ -36,6 +38,7 @@ pub type Copies = Sequence<Copied>;
 /// What an entry does that bears on what a purge lets go.
 #[derive(Drop)]
 pub enum Note {
+    /// None of the following.
     Nothing,
     /// Its request is accepted under this id.
     Accepts(Text),
@@ -46,12 +49,14 @@ pub enum Note {
 }
 
 impl Copied {
+    /// The id that was there before.
     pub fn old(&self) -> &Text
         ensures { result.now ≡ self.now.old }
     {
         &self.old
     }
 
+    /// The id of the copy.
     pub fn new_id(&self) -> &Text
         ensures { result.now ≡ self.now.new }
     {

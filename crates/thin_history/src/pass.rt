@@ -18,7 +18,9 @@ use std::alloc::{AllocError, Global};
 /// What is known after a history, and what each of its entries does, in their order.
 #[derive(Drop)]
 pub struct Pass {
+    /// The data after the newest entry.
     pub state: State,
+    /// What each entry does.
     pub notes: Vec<Note>,
 }
 

@@ -27,6 +27,7 @@ struct Said {
     content: &'static [u8],
 }
 
+/// The engine `e0` joins.
 const JOIN: Said = Said {
     conn: 1,
     header: b"{\"msg_id\":\"j\",\"msg_type\":\"registration_request\"}",
@@ -94,6 +95,7 @@ fn new_chooser(alloc: Global) -> Result<Chooser, AllocError> {
     Ok(Chooser::new(choose))
 }
 
+/// The database is opened.
 fn open() -> Input
     ensures { InTime (Entry.Input result) }
 {
@@ -105,6 +107,7 @@ fn open() -> Input
     }
 }
 
+/// A connection comes up.
 fn up(alloc: Global, conn: u32, channel: Channel) -> Result<Input, AllocError>
     ensures { IfOk result (λ i. InTime (Entry.Input i)) }
 {
@@ -167,6 +170,7 @@ fn core_after(alloc: Global, chooser: &Chooser, words: &[Said]) -> Result<Core, 
     Ok(core)
 }
 
+/// A copy of a list, whose entries share what they hold.
 fn copied(alloc: Global, list: &[Entry]) -> Result<Entries, AllocError>
     ensures { IfOk result (λ copied. copied ≡ list.now) }
 {
@@ -217,13 +221,16 @@ fn thins_to(
     Ok(thin.len() == core.history().len() && is_saying(thin.as_slice(), contents))
 }
 
-/// What a request and a reply that are let go have in place of their contents.
+/// What a request that is let go has in place of its content.
 const GONE: Content = (b"{}", false);
 
+/// The same of an ok reply.
 const OK: Content = (b"{\"status\":\"ok\"}", false);
 
+/// The same of a reply that tells of an error.
 const ERROR: Content = (b"{\"status\":\"error\"}", false);
 
+/// The content of what was said, with its buffer.
 const fn whole(said: Said) -> Content<'static> {
     (said.content, true)
 }
