@@ -1,4 +1,4 @@
-use Rattle.std.proofs.Common.{◌≡◌, ◌<◌, List, reverse, get_or, sym, subst}
+use Rattle.std.proofs.Common.{List, reverse, get_or, sym, subst}
 use Rattle.std.specs.Prelude.{All}
 use Rattle.std.proofs.lemmas.List.{get_or_default}
 use Rattle.cluster_types.specs.declared.entry.Entry.{Entry}
