@@ -1,0 +1,5 @@
+pub mod Histories
+pub mod Holding
+pub mod Narrowing
+pub mod Noting
+pub mod Passing

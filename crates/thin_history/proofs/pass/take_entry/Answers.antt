@@ -1,0 +1,17 @@
+use Rattle.std.proofs.Common.{length, sym, ap, ◌∙◌}
+use Rattle.std.proofs.lemmas.List.{length-map}
+use Rattle.cluster_defs.specs.Scheduling.{is_kept_as}
+use Rattle.cluster_state.specs.Seen.{Seen}
+use Rattle.cluster_state.specs.Plain.{facts_in}
+use Rattle.cluster_state.specs.Stands.{plain}
+use Rattle.thin_history.specs.Notes.{note_as}
+use Rattle.thin_history.proofs.pass.take_entry.Goals as goal
+
+pub returns-clause-note : goal.returns-clause-note
+returns-clause-note c =
+    let p = plain c.args.state.now in
+    let f = facts_in p in
+    c.in_ok-note.ensures
+    ∙ ap (λ n. note_as n c.in_ok-kept.kept c.in_ok-event.event) (c.len-known.ensures ∙ sym (length-map p.tasks (λ (t : Seen). t.row.id)))
+    ∙ ap (λ b. note_as (length f.known) b c.in_ok-event.event) c.in_ok-kept.ensures.kept
+    ∙ ap (λ o. note_as (length f.known) (is_kept_as f c.args.entry.now o) o) c.in_ok-event.ensures

@@ -1,0 +1,11 @@
+//! The entries of a history without the contents that a purge lets go.
+#![tactic(auto)]
+
+mod going;
+mod meanings;
+mod messages;
+mod notes;
+mod pass;
+#[cfg(test)]
+mod tests;
+pub mod thinning;
