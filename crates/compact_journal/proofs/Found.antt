@@ -1,10 +1,9 @@
 -- What is found in a journal that was written at once.
-use Rattle.std.proofs.Common.{◌≡◌, ℕ, suc, ◌+◌, ◌-◌, ◌<◌, ◌≤◌, ◌^◌, Bool, true, false, List, [], ◌∷◌, ◌++◌, length, take, drop, Ok, None, All, refl, subst, sym, ap, ◌∙◌, append_assoc, arith, length-append}
-use Rattle.std.specs.Prelude.{nat_lt, nat_le, if◌then◌else◌}
+use Rattle.std.proofs.Common.{◌≡◌, ℕ, ◌+◌, ◌-◌, ◌<◌, ◌≤◌, ◌^◌, Bool, true, false, List, [], ◌∷◌, ◌++◌, length, take, drop, Ok, None, All, refl, subst, sym, ap, ◌∙◌, append_assoc, arith, length-append}
+use Rattle.std.specs.Prelude.{nat_lt, if◌then◌else◌}
 use Rattle.std.specs.List.{flat_map}
 use Rattle.std.specs.Int.{w32, from_be_bytes}
 use Rattle.std.proofs.lemmas.Bool.{le-ltb, leb-true}
-use Rattle.std.proofs.lemmas.Grind.{flat_map-append}
 use Rattle.std.proofs.lemmas.List.{take_at, drop_at, drop-drop, append-nil}
 use Rattle.std.proofs.lemmas.List.Elements.{All-append, All-cons, All-head, All-tail, All-nil}
 use Rattle.std.proofs.lemmas.Nat.{from_be_bytes-to_be_bytes_4}
@@ -15,12 +14,12 @@ use Rattle.record_codec.specs.Spelling.{spelling, HasRecord}
 use Rattle.record_codec.specs.Records.{spellings}
 use Rattle.record_codec.proofs.Lengths.{length-be32}
 use Rattle.task_journal.specs.declared.gate.Gate.TheVariants.{Open}
-use Rattle.task_journal.specs.Journal.{holding, records_at, gate_in, found_from, head, journal, StandsFor}
+use Rattle.task_journal.specs.Journal.{holding, records_at, gate_in, found_from, head, StandsFor}
 use Rattle.task_journal.proofs.Batches.{records_again, count_fits}
 use Rattle.task_journal.proofs.Crash.{closed_gate}
 use Rattle.task_journal.proofs.Gates.{found_skip}
 use Rattle.task_journal.proofs.On.{journal_headed}
-use Rattle.compact_journal.specs.Compact.{most_octets, takes, batches_from, batches, batch_front, open_batch, closing, compacted, IsShort, HasJournal}
+use Rattle.compact_journal.specs.Compact.{most_octets, has_room, batches_from, batch_front, open_batch, compacted, FitsBatch, HasJournal}
 
 -- ---- a batch
 
@@ -40,7 +39,7 @@ parts : (es : List Entry) (rest : List ℕ) → open_batch es ++ rest ≡ 167 �
 unfolding open_batch inner
 parts es rest = append_assoc (batch_front es) (spellings es) rest
 
-gate : (es : List Entry) (rest : List ℕ) → IsShort es → gate_in (167 ∷ (inner es ++ rest)) ≡ Open (length (spellings es)) (length es)
+gate : (es : List Entry) (rest : List ℕ) → FitsBatch es → gate_in (167 ∷ (inner es ++ rest)) ≡ Open (length (spellings es)) (length es)
 unfolding inner
 gate es rest short =
     let a = be32 (length (spellings es)) in
@@ -52,7 +51,7 @@ gate es rest short =
     rw (long, first, second, number_is (length (spellings es)) (b ++ rest) short, number_is (length es) rest (omega (arith, count_fits es, short))) refl
 
 -- a batch is found in front of what is found behind it
-open_found : (size : ℕ) (es : List Entry) (rest : List ℕ) (entries : List Entry) (places : List ℕ) → All HasRecord es → IsShort es → found_from size 0 rest ≡ Ok (holding entries places)
+open_found : (size : ℕ) (es : List Entry) (rest : List ℕ) (entries : List Entry) (places : List ℕ) → All HasRecord es → FitsBatch es → found_from size 0 rest ≡ Ok (holding entries places)
     → (before : List ℕ) × (found_from size 0 (open_batch es ++ rest) ≡ Ok (holding (es ++ entries) before))
 unfolding found_from
 open_found size es rest entries places each short behind =
@@ -70,10 +69,10 @@ open_found size es rest entries places each short behind =
 
 -- ---- all batches
 
-taken_short : (batch : List Entry) (e : Entry) → takes batch e ≡ true → IsShort (batch ++ e ∷ [])
+taken_short : (batch : List Entry) (e : Entry) → has_room batch e ≡ true → FitsBatch (batch ++ e ∷ [])
 taken_short batch e is = let le : length (spellings (batch ++ e ∷ [])) ≤ most_octets = leb-true _ _ is in omega (arith, le)
 
-one_short : (e : Entry) → length (spelling e) < 2 ^ 32 → IsShort (e ∷ [])
+one_short : (e : Entry) → length (spelling e) < 2 ^ 32 → FitsBatch (e ∷ [])
 one_short e lt = omega (arith, lt, ap length (append-nil (spelling e)))
 
 -- the batches from the first one on, where it takes the next entry, or doesn't
@@ -84,25 +83,25 @@ chosen b batch e es = if b then batches_from (batch ++ e ∷ []) es else batch �
 abbrev Found : ℕ → List ℕ → List (List Entry) → List Entry → Type 0
 Found size rest batched list = (before : List ℕ) × (found_from size 0 (flat_map open_batch batched ++ rest) ≡ Ok (holding list before))
 
-by_choice : (b : Bool) (size : ℕ) (batch : List Entry) (e : Entry) (es : List Entry) (rest : List ℕ) → All HasRecord batch → All IsShort (chosen b batch e es)
-    → (All IsShort (batches_from (batch ++ e ∷ []) es) → Found size rest (batches_from (batch ++ e ∷ []) es) ((batch ++ e ∷ []) ++ es))
-    → (All IsShort (batches_from (e ∷ []) es) → Found size rest (batches_from (e ∷ []) es) (e ∷ es)) → Found size rest (chosen b batch e es) (batch ++ e ∷ es)
+by_choice : (b : Bool) (size : ℕ) (batch : List Entry) (e : Entry) (es : List Entry) (rest : List ℕ) → All HasRecord batch → All FitsBatch (chosen b batch e es)
+    → (All FitsBatch (batches_from (batch ++ e ∷ []) es) → Found size rest (batches_from (batch ++ e ∷ []) es) ((batch ++ e ∷ []) ++ es))
+    → (All FitsBatch (batches_from (e ∷ []) es) → Found size rest (batches_from (e ∷ []) es) (e ∷ es)) → Found size rest (chosen b batch e es) (batch ++ e ∷ es)
 by_choice true size batch e es rest front short joined apart =
     let one = joined short in
     (one.0, one.1 ∙ ap (λ (z : List Entry). Ok (holding z one.0)) (append_assoc batch (e ∷ []) es))
 by_choice false size batch e es rest front short joined apart =
-    let more = apart (All-tail IsShort batch (batches_from (e ∷ []) es) short) in
-    let one = open_found size batch (flat_map open_batch (batches_from (e ∷ []) es) ++ rest) (e ∷ es) more.0 front (All-head IsShort batch (batches_from (e ∷ []) es) short) more.1 in
+    let more = apart (All-tail FitsBatch batch (batches_from (e ∷ []) es) short) in
+    let one = open_found size batch (flat_map open_batch (batches_from (e ∷ []) es) ++ rest) (e ∷ es) more.0 front (All-head FitsBatch batch (batches_from (e ∷ []) es) short) more.1 in
     (one.0, ap (λ (z : List ℕ). found_from size 0 z) (append_assoc (open_batch batch) (flat_map open_batch (batches_from (e ∷ []) es)) rest) ∙ one.1)
 
-all_found : (size : ℕ) (batch es : List Entry) (rest places : List ℕ) → All HasRecord batch → All HasRecord es → All IsShort (batches_from batch es) → found_from size 0 rest ≡ Ok (holding [] places) → Found size rest (batches_from batch es) (batch ++ es)
+all_found : (size : ℕ) (batch es : List Entry) (rest places : List ℕ) → All HasRecord batch → All HasRecord es → All FitsBatch (batches_from batch es) → found_from size 0 rest ≡ Ok (holding [] places) → Found size rest (batches_from batch es) (batch ++ es)
 all_found size batch [] rest places front each short behind =
-    let one = open_found size batch rest [] places front (All-head IsShort batch [] short) behind in
+    let one = open_found size batch rest [] places front (All-head FitsBatch batch [] short) behind in
     (one.0, ap (λ (z : List ℕ). found_from size 0 (z ++ rest)) (append-nil (open_batch batch)) ∙ one.1)
 all_found size batch (e ∷ es) rest places front each short behind =
     let one : All HasRecord (e ∷ []) = All-cons HasRecord e [] (All-head HasRecord e es each) (All-nil HasRecord) in
     let others : All HasRecord es = All-tail HasRecord e es each in
-    by_choice (takes batch e) size batch e es rest front short
+    by_choice (has_room batch e) size batch e es rest front short
     (λ fits. all_found size (batch ++ e ∷ []) es rest places (All-append HasRecord batch (e ∷ []) front one) others fits behind)
     (λ fits. all_found size (e ∷ []) es rest places one others fits behind)
 
@@ -117,7 +116,7 @@ enough_of false batch e es long = omega (arith, length-open batch, length-append
 
 enough : (batch es : List Entry) → 10 ≤ length (flat_map open_batch (batches_from batch es))
 enough batch [] = omega (arith, length-open batch, ap length (append-nil (open_batch batch)))
-enough batch (e ∷ es) = enough_of (takes batch e) batch e es (enough (batch ++ e ∷ []) es)
+enough batch (e ∷ es) = enough_of (has_room batch e) batch e es (enough (batch ++ e ∷ []) es)
 
 -- ---- the journal
 
@@ -145,16 +144,16 @@ stands (e ∷ es) each short =
 abbrev IsSmall : Entry → Type 0
 IsSmall e = length (spelling e) < 2 ^ 32
 
-short_of : (b : Bool) (batch : List Entry) (e : Entry) (es : List Entry) → takes batch e ≡ b → IsShort batch → (IsShort (batch ++ e ∷ []) → All IsShort (batches_from (batch ++ e ∷ []) es)) → All IsShort (batches_from (e ∷ []) es) → All IsShort (chosen b batch e es)
+short_of : (b : Bool) (batch : List Entry) (e : Entry) (es : List Entry) → has_room batch e ≡ b → FitsBatch batch → (FitsBatch (batch ++ e ∷ []) → All FitsBatch (batches_from (batch ++ e ∷ []) es)) → All FitsBatch (batches_from (e ∷ []) es) → All FitsBatch (chosen b batch e es)
 short_of true batch e es is first joined apart = joined (taken_short batch e is)
-short_of false batch e es is first joined apart = All-cons IsShort batch (batches_from (e ∷ []) es) first apart
+short_of false batch e es is first joined apart = All-cons FitsBatch batch (batches_from (e ∷ []) es) first apart
 
-each_short : (batch es : List Entry) → IsShort batch → All IsSmall es → All IsShort (batches_from batch es)
-each_short batch [] first each = All-cons IsShort batch [] first (All-nil IsShort)
+each_short : (batch es : List Entry) → FitsBatch batch → All IsSmall es → All FitsBatch (batches_from batch es)
+each_short batch [] first each = All-cons FitsBatch batch [] first (All-nil FitsBatch)
 each_short batch (e ∷ es) first each =
     let others : All IsSmall es = All-tail IsSmall e es each in
-    short_of (takes batch e) batch e es refl first (λ short. each_short (batch ++ e ∷ []) es short others) (each_short (e ∷ []) es (one_short e (All-head IsSmall e es each)) others)
+    short_of (has_room batch e) batch e es refl first (λ short. each_short (batch ++ e ∷ []) es short others) (each_short (e ∷ []) es (one_short e (All-head IsSmall e es each)) others)
 
 pub has_journal : (list : List Entry) → All (λ e. length (spelling e) < 2 ^ 32) list → HasJournal list
-has_journal [] each = All-nil IsShort
+has_journal [] each = All-nil FitsBatch
 has_journal (e ∷ es) each = each_short (e ∷ []) es (one_short e (All-head IsSmall e es each)) (All-tail IsSmall e es each)

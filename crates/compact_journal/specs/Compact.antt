@@ -11,13 +11,13 @@ abbrev pub most_octets : ℕ
 most_octets = 1073741824
 
 -- whether the length of the records of a batch is at most that with one more entry
-abbrev pub takes : List Entry → Entry → Bool
-takes batch e = nat_le (length (spellings (batch ++ e ∷ []))) most_octets
+abbrev pub has_room : List Entry → Entry → Bool
+has_room batch e = nat_le (length (spellings (batch ++ e ∷ []))) most_octets
 
 -- the batches of entries, of which some are in the first one: it takes further ones while it can, and so does each behind it
 abbrev pub batches_from : List Entry → List Entry → List (List Entry)
 batches_from batch [] = batch ∷ []
-batches_from batch (e ∷ entries) = if takes batch e then batches_from (batch ++ e ∷ []) entries else batch ∷ batches_from (e ∷ []) entries
+batches_from batch (e ∷ entries) = if has_room batch e then batches_from (batch ++ e ∷ []) entries else batch ∷ batches_from (e ∷ []) entries
 
 -- the batches of entries
 abbrev pub batches : List Entry → List (List Entry)
@@ -42,9 +42,9 @@ unfoldable pub compacted : List Entry → List ℕ
 compacted entries = head ++ flat_map open_batch (batches entries) ++ closing entries
 
 -- a batch whose length can be written
-abbrev pub IsShort : List Entry → Type 0
-IsShort batch = length (spellings batch) < 2 ^ 32
+abbrev pub FitsBatch : List Entry → Type 0
+FitsBatch batch = length (spellings batch) < 2 ^ 32
 
 -- entries whose batches have lengths that can be written
 abbrev pub HasJournal : List Entry → Type 0
-HasJournal entries = All IsShort (batches entries)
+HasJournal entries = All FitsBatch (batches entries)

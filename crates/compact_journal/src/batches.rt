@@ -3,7 +3,7 @@
 ghost use Rattle.std.specs.Prelude.{◌≡◌, ◌+◌, ◌-◌, ◌^◌, ◌<◌, ◌≤◌, ◌++◌, ◌∷◌, take, drop, min, length, Err, All, OnOk};
 ghost use Rattle.record_codec.specs.Spelling.{IsWithinLimits};
 ghost use Rattle.record_codec.specs.Records.{spellings};
-ghost use Rattle.compact_journal.specs.Compact.{batches, batch_front, IsShort};
+ghost use Rattle.compact_journal.specs.Compact.{batches, batch_front, FitsBatch};
 
 use crate::fault::WriteError;
 use cluster_types::entry::Entry;
@@ -44,8 +44,8 @@ fn records_size(entries: &[Entry]) -> u64
 /// Appends the front of a batch: its open gate, a pad, the length of the records and their number.
 pub fn put_front(into: &mut Vec<u8>, entries: &[Entry]) -> Result<(), WriteError>
     ensures front { OnOk result (into.new.items ≡ into.old.items ++ batch_front entries.now) }
-    ensures short { OnOk result (IsShort entries.now) }
-    ensures long { result ≡ Err WriteError.TooLong → IsShort entries.now → ⊥ }
+    ensures short { OnOk result (FitsBatch entries.now) }
+    ensures long { result ≡ Err WriteError.TooLong → FitsBatch entries.now → ⊥ }
     ensures kind { result ≡ Err WriteError.WriteFailed → ⊥ }
 {
     let size = records_size(entries);

@@ -5,4 +5,6 @@ mod batches;
 pub mod fault;
 pub mod laws;
 mod pending;
+#[cfg(test)]
+mod tests;
 pub mod writing;

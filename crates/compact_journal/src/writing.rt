@@ -6,7 +6,7 @@ ghost use Rattle.cluster_types.specs.Causes.{Rose};
 ghost use Rattle.edges.specs.Streams.{Added};
 ghost use Rattle.record_codec.specs.Spelling.{HasRecord};
 ghost use Rattle.task_journal.specs.Journal.{head, StandsFor};
-ghost use Rattle.compact_journal.specs.Compact.{open_batch, batches, closing, compacted, IsShort, HasJournal};
+ghost use Rattle.compact_journal.specs.Compact.{open_batch, batches, closing, compacted, FitsBatch, HasJournal};
 ghost use Rattle.compact_journal.specs.Sent.{Sent, SentSome};
 
 use crate::batches::{first_batch, put_front};
@@ -26,8 +26,8 @@ fn put_batch<K: Sink>(
     requires { All HasRecord entries.now }
     ensures ok { OnOk result (Sent (pending.old.items ++ open_batch entries.now) (K.written output.old) (K.written output.new) pending.new.items) }
     ensures err { OnErr result (SentSome (pending.old.items ++ open_batch entries.now) (K.written output.old) (K.written output.new)) }
-    ensures short { OnOk result (IsShort entries.now) }
-    ensures long { result ≡ Err WriteError.TooLong → IsShort entries.now → ⊥ }
+    ensures short { OnOk result (FitsBatch entries.now) }
+    ensures long { result ≡ Err WriteError.TooLong → FitsBatch entries.now → ⊥ }
     ensures cause { result ≡ Err WriteError.WriteFailed → Rose (K.faults output.old) (K.faults output.new) }
     ensures later { K.faults output.old ≤ K.faults output.new }
 {
@@ -49,11 +49,11 @@ fn put_batches<K: Sink>(
     ensures cause { result ≡ Err WriteError.WriteFailed → Rose (K.faults output.old) (K.faults output.new) }
     ensures later { K.faults output.old ≤ K.faults output.new }
 {
-    let mut at = 0;
-    while at < entries.len() {
-        let next = at + first_batch(&entries[at..]);
-        put_batch(output, pending, &entries[at..next])?;
-        at = next;
+    let mut rest = entries;
+    while !rest.is_empty() {
+        let (batch, behind) = rest.split_at(first_batch(rest));
+        put_batch(output, pending, batch)?;
+        rest = behind;
     }
     Ok(())
 }
