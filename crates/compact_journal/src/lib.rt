@@ -1,4 +1,4 @@
-//! Journals that are written at once, in as few batches as may be.
+//! Journals that are written at once.
 #![tactic(auto)]
 
 mod batches;
