@@ -158,7 +158,6 @@ fn name_of(command: &Command) -> &'static str {
         Command::Replay { .. } => "replay",
         Command::Dump { .. } => "dump",
         Command::Check { .. } => "check",
-        Command::Compact { .. } => "compact",
         Command::Work { .. } => "work",
     }
 }
@@ -215,15 +214,6 @@ const DATABASES: &[(&[&str], &str, &str)] = &[
     (&["check", "db", "--help"], "", ""),
     (&["check", "\u{fc}ber.db"], "check", "\u{fc}ber.db"),
     (&["check", "db", "--version"], "", ""),
-    (&["compact", "db"], "compact", "db"),
-    (&["compact", ""], "compact", ""),
-    (&["compact", "compact"], "compact", "compact"),
-    (&["compact"], "", ""),
-    (&["compact", "db", "db"], "", ""),
-    (&["compact", "db", "--key", "k"], "", ""),
-    (&["compact", "--", "db"], "", ""),
-    (&["compact", "-db"], "", ""),
-    (&["compacts", "db"], "", ""),
     (&["work", "1", "2"], "work", ""),
     (&["Dump", "db"], "", ""),
     (&["dum", "db"], "", ""),

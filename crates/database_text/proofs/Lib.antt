@@ -1,4 +1,2 @@
 mod Fronts
 mod Places
-mod Thinning
-mod Standing

@@ -1,3 +1,2 @@
 pub mod Texts
 pub mod Compared
-pub mod Compacted

@@ -1,7 +1,5 @@
 //! Disks that are printed, and texts that are checked against them.
 
-mod compacting;
-
 use crate::check::check;
 use crate::dump::dump;
 use cluster_types::entry::Entry;

@@ -2,7 +2,7 @@
 use Rattle.std.proofs.Common.{◌≡◌, ℕ, List, Option, Some, None, refl, ap, ◌∙◌, ◌⊎◌, ⊎_elim, inl, inr}
 use Rattle.std.specs.Prelude.{IfSome}
 use Rattle.command_words.specs.declared.command.Command.{Command}
-use Rattle.command_words.specs.declared.command.Command.TheVariants.{Replay, Dump, Check, Compact, Work}
+use Rattle.command_words.specs.declared.command.Command.TheVariants.{Replay, Dump, Check, Work}
 use Rattle.command_words.specs.declared.ending.Ending.{Ending}
 use Rattle.command_words.specs.declared.ending.Ending.TheVariants.{Done, Usage, ReadFault, WriteFault, DiskFault, BadTape, Damaged, OutOfMemory, HistoryFull, Different}
 use Rattle.command_words.specs.Lines.{status, line}
@@ -83,7 +83,6 @@ pub never_usage : (tells : Type 0) (content : List ℕ) (left rest before now : 
 never_usage tells content left rest before now old new (Replay database options) ends = ends
 never_usage tells content left rest before now old new (Dump database) ends = ends
 never_usage tells content left rest before now old new (Check database) ends = ends.1
-never_usage tells content left rest before now old new (Compact database) ends = ends
 never_usage tells content left rest before now old new (Work seed tasks) ends = ends
 
 pub read_by_none : {T : Type 0} (o : Option T) (P : T → Type 0) → IfSome o P → ((x : T) → P x → ⊥) → o ≡ None

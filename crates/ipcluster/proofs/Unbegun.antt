@@ -2,10 +2,9 @@
 use Rattle.std.proofs.Common.{inl, ℕ, List, Option, Some, None, refl, arith}
 use Rattle.std.specs.Prelude.{IfSome}
 use Rattle.command_words.specs.declared.command.Command.{Command}
-use Rattle.command_words.specs.declared.command.Command.TheVariants.{Replay, Dump, Check, Compact, Work}
+use Rattle.command_words.specs.declared.command.Command.TheVariants.{Replay, Dump, Check, Work}
 use Rattle.command_words.specs.declared.ending.Ending.TheVariants.{OutOfMemory}
 use Rattle.disk_model.specs.Crashes.{LeavesOnly}
-use Rattle.database_text.specs.Compacted.{compact_octets}
 use Rattle.history_text.specs.Lines.{text}
 use Rattle.task_journal.specs.Reads.{OnlyReads}
 use Rattle.ipcluster.specs.Commands.{Ends, MayLeaveOf}
@@ -20,7 +19,6 @@ pub memory_ends : (tells : Type 0) (content : List ℕ) (left w : Option (List �
 memory_ends tells content left w old (Replay database options) = unopened_ends tells content options left left w old
 memory_ends tells content left w old (Dump database) = λ told list stands. front_none (text list) w
 memory_ends tells content left w old (Check database) = (refl, tt)
-memory_ends tells content left w old (Compact database) = λ told list stands. front_none (compact_octets list) w
 memory_ends tells content left w old (Work seed tasks) = refl
 
 pub still_leaves : {D : Type 0} (image : D → List ℕ → Type 0) (moment : D → ℕ) (image_since : D → ℕ → List ℕ → Type 0) → ((disk : D) (c : List ℕ) → image_since disk (moment disk) c → image disk c) → (disk : D) (content octets : List ℕ) (k : Command) →
@@ -28,7 +26,6 @@ pub still_leaves : {D : Type 0} (image : D → List ℕ → Type 0) (moment : D 
 still_leaves image moment image_since only_now disk content octets (Replay database options) = still image moment image_since only_now disk (MayLeaveOf (Replay database options) content octets (image disk)) (λ c now. inl (inl now))
 still_leaves image moment image_since only_now disk content octets (Dump database) = still image moment image_since only_now disk (image disk) (λ c now. now)
 still_leaves image moment image_since only_now disk content octets (Check database) = still image moment image_since only_now disk (image disk) (λ c now. now)
-still_leaves image moment image_since only_now disk content octets (Compact database) = still image moment image_since only_now disk (image disk) (λ c now. now)
 still_leaves image moment image_since only_now disk content octets (Work seed tasks) = still image moment image_since only_now disk (image disk) (λ c now. now)
 
 pub still_reads : {D : Type 0} (content : D → List ℕ) (image : D → List ℕ → Type 0) (moment : D → ℕ) (image_since : D → ℕ → List ℕ → Type 0) (faults : D → ℕ) (disk : D) → OnlyReads content image moment image_since faults disk disk

@@ -2,12 +2,11 @@
 use Rattle.std.specs.Prelude.{◌≡◌, ◌⊎◌, ℕ, List, Option}
 use Rattle.cluster_types.specs.declared.entry.Entry.{Entry}
 use Rattle.command_words.specs.declared.command.Command.{Command}
-use Rattle.command_words.specs.declared.command.Command.TheVariants.{Replay, Dump, Check, Compact, Work}
+use Rattle.command_words.specs.declared.command.Command.TheVariants.{Replay, Dump, Check, Work}
 use Rattle.command_words.specs.declared.ending.Ending.{Ending}
 use Rattle.command_words.specs.declared.ending.Ending.TheVariants.{Done, Usage, ReadFault, WriteFault, DiskFault, Damaged, OutOfMemory, Different}
 use Rattle.command_words.specs.Lines.{line}
 use Rattle.database_text.specs.Texts.{IsDamaged, WroteFront, Told, DiffersAt}
-use Rattle.database_text.specs.Compacted.{compact_octets, IsUnfitAt, IsCompacted}
 use Rattle.edges.specs.Streams.{Added, IsAtEnd}
 use Rattle.history_text.specs.Lines.{text}
 use Rattle.task_journal.specs.Journal.{StandsFor}
@@ -47,21 +46,11 @@ CheckEnds tells content left rest DiskFault = rest ≡ left
 CheckEnds tells content left rest OutOfMemory = Unit {0}
 CheckEnds tells content left rest _ = ⊥
 
--- how a compact ends: with the octets of a journal of the list without what purges let go, or a front of them
-abbrev pub CompactEnds : (tells : Type 0) → List ℕ → (before now : Option (List ℕ)) → Ending → Type 0
-CompactEnds tells content before now Done = IsCompacted tells content before now
-CompactEnds tells content before now WriteFault = tells → (list : List Entry) → StandsFor content list → WroteFront (compact_octets list) before now
-CompactEnds tells content before now OutOfMemory = tells → (list : List Entry) → StandsFor content list → WroteFront (compact_octets list) before now
-CompactEnds tells content before now DiskFault = now ≡ before
-CompactEnds tells content before now (Damaged place) = (now ≡ before) × (tells → IsUnfitAt content place)
-CompactEnds tells content before now _ = ⊥
-
 -- how a command ends
 abbrev pub Ends : (tells : Type 0) → List ℕ → (left rest before now : Option (List ℕ)) → (old new : List ℕ → Type 0) → Command → Ending → Type 0
 Ends tells content left rest before now old new (Replay database options) end = ReplayEnds tells content options left rest before now old new end
 Ends tells content left rest before now old new (Dump database) end = DumpEnds tells content before now end
 Ends tells content left rest before now old new (Check database) end = (now ≡ before) × CheckEnds tells content left rest end
-Ends tells content left rest before now old new (Compact database) end = CompactEnds tells content before now end
 Ends tells content left rest before now old new (Work seed tasks) end = WorkEnds tells content seed tasks before now new end
 
 -- whether a command is about a database, and not about a disk in memory

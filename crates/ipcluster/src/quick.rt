@@ -16,7 +16,6 @@ use cluster_types::message::WordList;
 use command_words::command::{Command, CommandError, command_of};
 use command_words::ending::Ending;
 use database_text::check::check;
-use database_text::compact::compact;
 use database_text::dump::dump;
 use disk_model::disk::Disk;
 use edges::sink::Sink;
@@ -46,7 +45,6 @@ fn obey<S: Source, K: Sink, D: Disk>(
         Command::Replay { options, .. } => replay(alloc, options, chooser, input, output, disk),
         Command::Dump { .. } => (dump(alloc, &mut disk, output), disk),
         Command::Check { .. } => (check(alloc, &mut disk, input), disk),
-        Command::Compact { .. } => (compact(alloc, &mut disk, chooser, output), disk),
         Command::Work { seed, tasks } => generated(alloc, *seed, *tasks, chooser, output, disk),
     }
 }
@@ -79,13 +77,12 @@ fn run<S: Source, K: Sink, D: Disk>(
 ///
 /// `replay` reads a tape from the input, serves it, and writes what is sent, as records of a tape, to the output; what is
 /// kept of its history goes to the disk before what it sends is written. `dump` writes the entries of the disk as lines, and
-/// `check` compares the input with these lines. `compact` writes the list of the disk as a journal at once, without what
-/// purges let go. These three change nothing on the disk. `work` does generated work over a disk that is empty, and writes
-/// what it is summed up to.
+/// `check` compares the input with these lines; these two change nothing on the disk. `work` does generated work over a disk
+/// that is empty, and writes what it is summed up to.
 ///
 /// The status: 0 all was done; 2 the words have no reading; 3 a read failed; 4 a write failed; 5 a call of the disk failed;
-/// 6 the tape has a fault, before which all was served; 7 the disk holds no journal, or a damaged one, or for `replay` and
-/// `compact` one whose list isn't that of a cluster, or for `work` anything; 8 there was no memory; 9 the next step would pass a limit of the history, before which
+/// 6 the tape has a fault, before which all was served; 7 the disk holds no journal, or a damaged one, or for `replay` one
+/// whose list isn't that of a cluster, or for `work` anything; 8 there was no memory; 9 the next step would pass a limit of the history, before which
 /// all was served; 10 the input isn't the text of the entries. At each status but 0 it writes the line that says so to
 /// `errors`, as far as these take it: a write there that fails changes nothing.
 pub fn quick<S: Source, K: Sink, E: Sink, D: Disk>(

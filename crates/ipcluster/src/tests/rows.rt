@@ -78,8 +78,6 @@ const DUMP: &[&str] = &["dump", "db"];
 
 const CHECK: &[&str] = &["check", "db"];
 
-const COMPACT: &[&str] = &["compact", "db"];
-
 const THREE_ENTRIES: &[&str] = &["replay", "--key", "k", "--entries", "3", "db"];
 
 /// A command over a disk: its status and line, its output, and what the disk holds afterwards.
@@ -105,15 +103,6 @@ fn shown(alloc: Global, row: &Row) -> Result<(u8, bool, bool, bool), Fail> {
 const NO_TASKS: &[&str] = &["work", "1", "0"];
 
 const ROWS: &[Row] = &[
-    Row {
-        words: COMPACT,
-        input: b"",
-        disk: ONE_OPEN,
-        status: 0,
-        line: "",
-        output: ONE_OPEN,
-        left: ONE_OPEN,
-    },
     Row {
         words: WORK,
         input: b"",
