@@ -10,5 +10,3 @@ mod machine;
 pub mod namespace;
 mod operation;
 pub mod run;
-#[cfg(test)]
-mod tests;

@@ -17,6 +17,4 @@ pub mod program;
 mod reader;
 pub mod refusal;
 mod scanner;
-#[cfg(test)]
-mod tests;
 pub mod token;

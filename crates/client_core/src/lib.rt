@@ -9,8 +9,6 @@ pub mod laws;
 pub mod limits;
 mod request;
 mod taking;
-#[cfg(test)]
-mod tests;
 mod texts;
 pub mod took;
 mod used;

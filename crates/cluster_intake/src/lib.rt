@@ -12,8 +12,6 @@ ghost use Rattle.message_defs.specs.Reply.{read_reply};
 ghost use Rattle.message_defs.specs.Submit.{read_submit};
 
 pub mod fault;
-#[cfg(test)]
-mod tests;
 pub mod understood;
 
 use cluster_types::config::Channel;

@@ -146,7 +146,8 @@ later_any : (a b : Bool) → b ≡ true → (a || b) ≡ true
 later_any true b h = refl
 later_any false b h = h
 
-found_listed : (test : Id → Bool) (known : List Id) (id : Id) → find test known ≡ Some id → is_listed id known ≡ true
+-- what is found in a list of ids is listed in it
+pub found_listed : (test : Id → Bool) (known : List Id) (id : Id) → find test known ≡ Some id → is_listed id known ≡ true
 found_listed test [] id e = cc
 found_listed test (i ∷ known) id e =
     (elim (test i) as (λ b. cond b (Some i) (find test known) ≡ Some id → (bytes_eq i id || is_listed id known) ≡ true) [

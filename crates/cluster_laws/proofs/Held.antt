@@ -2,7 +2,7 @@
 use Rattle.std.proofs.Common.{◌≡◌, ℕ, List, [], ◌∷◌, ◌++◌, Bool, true, false, cond, ◌&&◌, ◌||◌, refl, sym, ap, ◌∙◌, subst, Option, Some, None, bytes_eq, ⊎_elim}
 use Rattle.std.specs.Prelude.{find, option_map, ◌==◌}
 use Rattle.std.specs.Option.{is_some, option_and_then}
-use Rattle.std.proofs.lemmas.Bool.{or_cases, or_left, both_ways}
+use Rattle.std.proofs.lemmas.Bool.{or_cases, both_ways}
 use Rattle.std.proofs.lemmas.List.Folds.{list_any-append}
 use Rattle.cluster_types.specs.declared.message.Message.{Message}
 use Rattle.cluster_types.specs.declared.verdict.Verdict.{Verdict}
@@ -29,11 +29,11 @@ use Rattle.cluster_defs.specs.Scheduling.{verdict_at, failing, failing_as, rests
 use Rattle.cluster_defs.specs.Histories.{History, facts, Legal}
 use Rattle.cluster_defs.specs.Outcomes.{outcome, outcome_by, hand_out, handed_message}
 use Rattle.cluster_defs.specs.Outs.{pass_to, outs}
-use Rattle.cluster_defs.proofs.Options.{if_some, same_id, id_self}
+use Rattle.cluster_defs.proofs.Options.{if_some, same_id}
 use Rattle.cluster_defs.proofs.Says.{due_says}
 use Rattle.cluster_laws.proofs.Copies.{old_copied, listed_copied}
 use Rattle.cluster_laws.proofs.Safe.{hand_says, hand_live}
-use Rattle.cluster_laws.proofs.Closed.{closed, Requested, requested}
+use Rattle.cluster_laws.proofs.Closed.{closed, found_listed, Requested, requested}
 
 some_left : {X : Type 0} (o p : Option X) → is_some o ≡ true → is_some (or_else o p) ≡ true
 some_left None p h = cc
@@ -278,18 +278,6 @@ number_conn n (e ∷ live) h =
       | true ↦ λ _. refl
       | false ↦ λ k. number_conn n live k
     ]) h
-
-found_listed : (test : Id → Bool) (known : List Id) (id : Id) → find test known ≡ Some id → is_listed id known ≡ true
-found_listed test [] id e = cc
-found_listed test (i ∷ known) id e =
-    (elim (test i) as (λ b. cond b (Some i) (find test known) ≡ Some id → (bytes_eq i id || is_listed id known) ≡ true) [
-      | true ↦ λ is. let same : i ≡ id = cc in or_left (bytes_eq i id) (is_listed id known) (rw same (id_self id))
-      | false ↦ λ is. later (bytes_eq i id) _ (found_listed test known id is)
-    ]) e
-  where
-    later : (a b : Bool) → b ≡ true → (a || b) ≡ true
-    later true b h = refl
-    later false b h = h
 
 hand_made : (f : Facts) (id : Id) (r : Request) (b : Body) → f.request_of id ≡ Some r → f.body_of id ≡ Some b → hand_out f id ≡ Some (handed_message r b)
 hand_made f id r b request body = rw (request, body) refl

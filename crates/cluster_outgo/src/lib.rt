@@ -9,9 +9,6 @@ ghost use Rattle.message_defs.specs.Texts.{made_header};
 ghost use Rattle.jupyter_parts.specs.Signed.{signed_frames, IsSigned};
 ghost use Rattle.cluster_outgo.specs.Frames.{IsSendable, frames_of};
 
-#[cfg(test)]
-mod tests;
-
 use cluster_types::octets::Octets;
 use cluster_types::out::Out;
 use cluster_types::text::Text;

@@ -1,5 +1,5 @@
 -- Of an id that isn't known, a legal history says nothing.
-use Rattle.std.proofs.Common.{◌≡◌, ℕ, List, [], ◌∷◌, ◌++◌, Bool, true, false, cond, ◌&&◌, ◌||◌, refl, sym, ap, ◌∙◌, subst, bytes_eq, Option, Some, None}
+use Rattle.std.proofs.Common.{◌≡◌, ℕ, List, [], ◌∷◌, ◌++◌, Bool, true, false, cond, ◌&&◌, ◌||◌, refl, ap, ◌∙◌, subst, bytes_eq, Option, Some, None}
 use Rattle.std.specs.Prelude.{find, option_map}
 use Rattle.std.proofs.lemmas.Bool.{false_from_ne_true, both_ways}
 use Rattle.std.proofs.lemmas.List.Folds.{list_any-append}
@@ -18,9 +18,9 @@ use Rattle.cluster_defs.specs.Acceptance.{Demand, accepted, accepted_id, request
 use Rattle.cluster_defs.specs.Purges.{Copy, copied_by, copied_ids, copied_from}
 use Rattle.cluster_defs.specs.Steps.{next, reply_from, engine_end}
 use Rattle.cluster_defs.specs.Histories.{History, facts, Legal}
-use Rattle.cluster_defs.proofs.Options.{same_id, id_self}
+use Rattle.cluster_defs.proofs.Options.{same_id}
 use Rattle.cluster_defs.proofs.Says.{due_says}
-use Rattle.cluster_laws.proofs.Closed.{listed_stays}
+use Rattle.cluster_laws.proofs.Closed.{found_listed, listed_stays}
 use Rattle.cluster_state.proofs.Lists.{or_left, or_right}
 
 pub record Blank (f : Facts) (id : Id) : Type 0 where
@@ -28,15 +28,6 @@ pub record Blank (f : Facts) (id : Id) : Type 0 where
   pub body : f.body_of id ≡ None
   pub task : f.task id ≡ new_task
   pub reply : f.reply_of id ≡ None
-
--- what is found is listed
-found_listed : (test : Id → Bool) (ids : List Id) (id : Id) → find test ids ≡ Some id → is_listed id ids ≡ true
-found_listed test [] id h = cc
-found_listed test (i ∷ ids) id h =
-    (elim (test i) as (λ b. cond b (Some i) (find test ids) ≡ Some id → (bytes_eq i id || is_listed id ids) ≡ true) [
-      | true ↦ λ here. or_left _ _ (let same : i ≡ id = cc in subst (λ j. bytes_eq j id ≡ true) (sym same) (id_self id))
-      | false ↦ λ rest. or_right _ _ (found_listed test ids id rest)
-    ]) h
 
 -- an id that isn't known after an entry wasn't known before
 unlisted_before : (f : Facts) (e : Entry) (id : Id) → is_listed id (next f e).known ≡ false → is_listed id f.known ≡ false

@@ -17,7 +17,8 @@ use Rattle.cluster_store.specs.Worlds.{world_after, MayGo}
 use Rattle.cluster_store.proofs.Fits.{decides_to}
 use Rattle.cluster_store.proofs.Waits.{due_no_open}
 
-told_kept : (e : Entry) (told : ℕ → ℕ) → is_open e ≡ false → told_after e told ≡ told
+-- an entry other than an Open leaves what was told
+pub told_kept : (e : Entry) (told : ℕ → ℕ) → is_open e ≡ false → told_after e told ≡ told
 told_kept (Input (Open moment scheme hwm misses)) told off = cc
 told_kept (Input (Up c channel moment word identity)) told off = refl
 told_kept (Input (Down c moment word)) told off = refl
@@ -32,16 +33,19 @@ told_kept (Lose n) told off = refl
 abbrev pub with_history : World → History → World
 with_history w history = record w { history = history }
 
-record Grown (w : World) (new : History) : Type 0 where
+-- a world whose history grew to another one in whole steps, and in which nothing else changed
+pub record Grown (w : World) (new : History) : Type 0 where
   pub moves : List Move
   pub may : MayGo w moves
   pub is : world_after w moves ≡ with_history w new
+  pub longer : length w.history ≤ length new
 
 grown_more : (w : World) (h : History) (e : Entry) → w.down ≡ false → Allowed (facts h) e → is_open e ≡ false → Grown w h → Grown w (e ∷ h)
 grown_more w h e up allowed off g = record {
   moves = Grow e ∷ g.moves;
   may = (subst (λ (v : World). May v (Grow e)) (sym g.is) (allowed, opens w.down up), g.may);
   is = ap (λ (v : World). moved_by v (Grow e)) g.is ∙ made;
+  longer = let le = g.longer in omega (arith, le);
 }
   where
     opens : (b : Bool) → b ≡ false → OpensIf b e
@@ -51,7 +55,7 @@ grown_more w h e up allowed off g = record {
     made : moved_by (with_history w h) (Grow e) ≡ with_history w (e ∷ h)
     made = λ i. record { history = e ∷ h; mark = w.mark; sent = w.sent; told = told_kept e w.told off i; down = sym up i }
 
-grown_all : (w : World) (h : History) (ds : List Entry) → w.down ≡ false → Decided h ds → Grown w h → Grown w (ds ++ h)
+pub grown_all : (w : World) (h : History) (ds : List Entry) → w.down ≡ false → Decided h ds → Grown w h → Grown w (ds ++ h)
 grown_all w h [] up each g = g
 grown_all w h (d ∷ ds) up each g = grown_more w (ds ++ h) d up (due_allowed (facts (ds ++ h)) d each.0) (due_no_open (ds ++ h) d each.0) (grown_all w h ds up each.1 g)
 
@@ -59,7 +63,7 @@ pub step_grows : (w : World) (input : InputType) → w.down ≡ false → Allowe
     (moves : List Move) × MayGo w moves × (world_after w moves ≡ record w { history = decide_all (Input input ∷ w.history) })
 step_grows w input up allowed off =
     let to = decides_to (Input input ∷ w.history) in
-    let first : Grown w w.history = record { moves = []; may = tt; is = refl } in
+    let first : Grown w w.history = record { moves = []; may = tt; is = refl; longer = omega arith } in
     let g : Grown w (decide_all (Input input ∷ w.history)) = subst (Grown w) (sym to.appended) (grown_all w (Input input ∷ w.history) to.decisions up to.each_due (grown_more w w.history (Input input) up allowed off first)) in
     (g.moves, g.may, g.is)
 

@@ -1,9 +1,10 @@
 //! Opening a store over a disk.
 
-ghost use Rattle.std.specs.Prelude.{◌≡◌, ◌≤◌, ◌⊎◌, ℕ, length, false, IfOk, IfErr, IsErrOf};
+ghost use Rattle.std.specs.Prelude.{◌≡◌, ◌≤◌, ◌⊎◌, ℕ, length, false, All, IfOk, IfErr, IsErrOf};
 ghost use Rattle.cluster_types.specs.Causes.{Rose};
 ghost use Rattle.cluster_types.specs.Limits.{last_moment};
 ghost use Rattle.disk_model.specs.Crashes.{LeavesOnly};
+ghost use Rattle.record_codec.specs.Spelling.{HasRecord};
 ghost use Rattle.task_journal.specs.Journal.{StandsFor};
 ghost use Rattle.task_journal.specs.Reads.{OnlyReads};
 ghost use Rattle.task_journal.specs.Settled.{Unharmed, Spared, OnRefusal};
@@ -83,7 +84,9 @@ pub fn read_list<D: Disk>(
     disk: &mut D,
     chooser: &Chooser,
 ) -> Result<Entries, OpenFault>
-    ensures list { D.tells → IfOk result (λ list. StandsFor (D.content disk.old) list × IsFit list) }
+    ensures list { D.tells → IfOk result (λ list. StandsFor (D.content disk.old) list) }
+    ensures fit { IfOk result IsFit }
+    ensures has { IfOk result (λ list. All HasRecord list) }
     ensures refused { D.tells → IfErr result (WhyNot (D.content disk.old)) }
     ensures reads { OnlyReads D.content D.image D.moment D.image_since D.faults disk.old disk.new }
     ensures cause { IsErrOf result OpenFault.DiskFault → Rose (D.faults disk.old) (D.faults disk.new) }

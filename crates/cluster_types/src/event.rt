@@ -17,7 +17,7 @@ pub struct Dep {
 }
 
 /// A request for a task, as its header and metadata say it.
-#[derive(Clone, Debug, Drop)]
+#[derive(Debug, Drop)]
 pub struct Submission {
     pub id: Text,
     pub msg_type: Text,
@@ -36,7 +36,7 @@ pub struct Submission {
 }
 
 /// A question about the cluster.
-#[derive(Clone, Debug, Drop)]
+#[derive(Debug, Drop)]
 pub enum Query {
     Connection,
     /// The queues of the listed engines; an empty list asks for all.
@@ -51,7 +51,7 @@ pub enum Query {
 }
 
 /// What a message asks for.
-#[derive(Clone, Debug, Drop)]
+#[derive(Debug, Drop)]
 pub enum Event {
     Submit(Submission),
     Direct(Submission),

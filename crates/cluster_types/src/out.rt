@@ -10,7 +10,7 @@ use crate::text::Text;
 pub type Outs = Sequence<Out>;
 
 /// What is sent to a connection.
-#[derive(Clone, Debug, Drop)]
+#[derive(Debug, Drop)]
 pub enum Out {
     /// A message that is passed on, part for part.
     Pass {

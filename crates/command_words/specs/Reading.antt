@@ -4,7 +4,7 @@ use Rattle.cluster_types.specs.declared.config.Scheme.{Scheme}
 use Rattle.cluster_types.specs.declared.config.Scheme.TheVariants.{LeastLoad}
 use Rattle.cluster_types.specs.Limits.{most_entries, most_record_octets}
 use Rattle.command_words.specs.declared.command.Command.{Command}
-use Rattle.command_words.specs.declared.command.Command.TheVariants.{Replay, Dump, Check, Work}
+use Rattle.command_words.specs.declared.command.Command.TheVariants.{Replay, Dump, Check, Compact, Work}
 use Rattle.command_words.specs.declared.command.ReplayOptions.{ReplayOptions}
 use Rattle.command_words.specs.Items.{Item, known_items, places, values}
 use Rattle.command_words.specs.Values.{needed, optional, key_from, scheme_from, number_from}
@@ -19,6 +19,9 @@ dump_word = codes "dump"
 
 unfoldable pub check_word : List ℕ
 check_word = codes "check"
+
+unfoldable pub compact_word : List ℕ
+compact_word = codes "compact"
 
 unfoldable pub work_word : List ℕ
 work_word = codes "work"
@@ -80,6 +83,7 @@ abbrev pub database_of : Command → Option (List ℕ)
 database_of (Replay database options) = Some database
 database_of (Dump database) = Some database
 database_of (Check database) = Some database
+database_of (Compact database) = Some database
 database_of (Work seed tasks) = None
 
 -- THE COMMANDS
@@ -118,6 +122,9 @@ dump_of words = option_map Dump (database_in words)
 abbrev pub check_of : List (List ℕ) → Option Command
 check_of words = option_map Check (database_in words)
 
+abbrev pub compact_of : List (List ℕ) → Option Command
+compact_of words = option_map Compact (database_in words)
+
 abbrev pub work_with : Option ℕ → Option ℕ → Option Command
 work_with (Some seed) (Some tasks) = Some (Work seed tasks)
 work_with _ _ = None
@@ -139,6 +146,7 @@ asked_by command words =
     if bytes_eq command replay_word then replay_of words
     else if bytes_eq command dump_word then dump_of words
     else if bytes_eq command check_word then check_of words
+    else if bytes_eq command compact_word then compact_of words
     else if bytes_eq command work_word then work_of words
     else None
 

@@ -1,7 +1,7 @@
 //! What a command line asks for.
 
 ghost use Rattle.std.specs.Prelude.{◌≡◌, ◌∷◌, [], Some, None, Err, IfOk, bytes_eq};
-ghost use Rattle.command_words.specs.Reading.{reading, asked_by, database_of, only_word, database_in, replay_of, dump_of, check_of, work_of, work_behind, replay_behind, replay_options, replay_word, dump_word, check_word, work_word, IsInRange, key_name, scheme_name, hwm_name, misses_name, entries_name, bytes_name};
+ghost use Rattle.command_words.specs.Reading.{reading, asked_by, database_of, only_word, database_in, replay_of, dump_of, check_of, compact_of, work_of, work_behind, replay_behind, replay_options, replay_word, dump_word, check_word, compact_word, work_word, IsInRange, key_name, scheme_name, hwm_name, misses_name, entries_name, bytes_name};
 ghost use Rattle.std.specs.Option.{option_copied};
 ghost use Rattle.command_words.specs.Simple.{values_of, word_id};
 
@@ -50,6 +50,10 @@ pub enum Command {
     Check {
         database: Text,
     },
+    /// A journal of the history that the database keeps, without what purges let go, is to be written at once.
+    Compact {
+        database: Text,
+    },
     /// Generated work is to be done over a disk in memory, and summed up.
     Work {
         /// What the work is drawn from, below 2^31.
@@ -68,6 +72,7 @@ impl Command {
             Command::Replay { database, .. } => Some(database),
             Command::Dump { database } => Some(database),
             Command::Check { database } => Some(database),
+            Command::Compact { database } => Some(database),
             Command::Work { .. } => None,
         }
     }
@@ -270,6 +275,16 @@ fn check_of(alloc: Global, behind: &[Text]) -> Result<Command, CommandError>
     Ok(Command::Check { database })
 }
 
+/// What the words behind `compact` ask for.
+fn compact_of(alloc: Global, behind: &[Text]) -> Result<Command, CommandError>
+    ensures ok { IfOk result (λ c. compact_of behind.now ≡ Some c) }
+    ensures usage { result ≡ Err CommandError.Usage → compact_of behind.now ≡ None }
+    ensures range { IfOk result IsInRange }
+{
+    let database = database_in(alloc, "compact", behind)?;
+    Ok(Command::Compact { database })
+}
+
 /// `work` with a seed and a number of tasks.
 fn work_with(seed: &str, tasks: &str) -> Result<Command, CommandError>
     ensures ok { IfOk result (λ c. work_behind (seed.now ∷ tasks.now ∷ []) ≡ Some c) }
@@ -337,6 +352,14 @@ fn is_check(word: &Text) -> bool
     word.as_slice() == b"check".as_slice()
 }
 
+/// Whether a word is the command `compact`.
+#[tactic(auto, unfolding(crate::specs::Reading::compact_word))]
+fn is_compact(word: &Text) -> bool
+    ensures { result ≡ bytes_eq word.now compact_word }
+{
+    word.as_slice() == b"compact".as_slice()
+}
+
 /// Whether a word is the command `work`.
 #[tactic(auto, unfolding(crate::specs::Reading::work_word))]
 fn is_work(word: &Text) -> bool
@@ -359,6 +382,9 @@ fn asked_by(alloc: Global, command: &Text, behind: &[Text]) -> Result<Command, C
     }
     if is_check(command) {
         return check_of(alloc, behind);
+    }
+    if is_compact(command) {
+        return compact_of(alloc, behind);
     }
     if is_work(command) {
         return work_of(alloc, behind);

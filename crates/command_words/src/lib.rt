@@ -4,6 +4,4 @@
 pub mod command;
 pub mod ending;
 mod matches;
-#[cfg(test)]
-mod tests;
 mod values;

@@ -1,11 +1,12 @@
 -- Fronts of what is to be written.
-use Rattle.std.proofs.Common.{◌≡◌, ℕ, suc, ◌+◌, ◌<◌, Result, Ok, Err, List, ◌∷◌, ◌++◌, length, get_or, take, drop, Option, Some, None, refl, sym, ap, ◌∙◌, append_assoc, arith}
-use Rattle.std.proofs.lemmas.List.{take-append-drop}
+use Rattle.std.proofs.Common.{◌≡◌, ℕ, suc, ◌+◌, ◌<◌, Result, Ok, Err, List, [], ◌∷◌, ◌++◌, length, get_or, take, drop, Option, Some, None, refl, sym, ap, ◌∙◌, append_assoc, arith}
+use Rattle.std.proofs.lemmas.List.{append-nil, take-append-drop}
 use Rattle.std.proofs.Math.Seq.{drop-cons}
 use Rattle.cluster_types.specs.declared.entry.Entry.{Entry}
 use Rattle.history_text.specs.Lines.{line, text}
 use Rattle.std.specs.Result.{OnErr}
 use Rattle.edges.specs.Streams.{Added}
+use Rattle.compact_journal.specs.Sent.{SentSome}
 use Rattle.database_text.specs.Texts.{WroteFront}
 
 -- of a whole, a part was written, and the rest is still to come
@@ -20,6 +21,16 @@ added_both a b (Some xs) v w p q = rw (q, p) (ap Some (append_assoc xs a b))
 
 pub front_take : (whole : List ℕ) (n : ℕ) (u v : Option (List ℕ)) → Added (take n whole) u v → WroteFront whole u v
 front_take whole n u v p = record { front = take n whole; rest = drop n whole; parts = sym (take-append-drop n whole); added = p }
+
+pub front_none : (whole : List ℕ) (w : Option (List ℕ)) → WroteFront whole w w
+front_none whole None = record { front = []; rest = whole; parts = refl; added = refl }
+front_none whole (Some xs) = record { front = []; rest = whole; parts = refl; added = ap Some (sym (append-nil xs)) }
+
+pub front_all : (whole : List ℕ) (u v : Option (List ℕ)) → Added whole u v → WroteFront whole u v
+front_all whole u v p = record { front = whole; rest = []; parts = sym (append-nil whole); added = p }
+
+pub front_some : (whole : List ℕ) (u v : Option (List ℕ)) → SentSome whole u v → WroteFront whole u v
+front_some whole u v p = record { front = p.1.front; rest = p.0; parts = p.1.parts; added = p.1.added }
 
 -- a piece more, and all of it
 pub sent_more : {whole : List ℕ} {u v : Option (List ℕ)} {rest : List ℕ} → Sent whole u v rest → (piece more : List ℕ) (w : Option (List ℕ)) → rest ≡ piece ++ more → Added piece v w → Sent whole u w more

@@ -1,2 +1,4 @@
 mod Fronts
 mod Places
+mod Thinning
+mod Standing

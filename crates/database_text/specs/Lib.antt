@@ -1,2 +1,3 @@
 pub mod Texts
 pub mod Compared
+pub mod Compacted

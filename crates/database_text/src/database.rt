@@ -1,14 +1,19 @@
 //! The entries of a disk.
 
-ghost use Rattle.std.specs.Prelude.{◌≡◌, ◌⊎◌, ℕ, IfOk, IfErr, IsErrOf};
+ghost use Rattle.std.specs.Prelude.{◌≡◌, ◌⊎◌, ℕ, All, IfOk, IfErr, IsErrOf};
 ghost use Rattle.cluster_types.specs.Causes.{Rose};
+ghost use Rattle.cluster_store.specs.Openings.{IsFit};
+ghost use Rattle.record_codec.specs.Spelling.{HasRecord};
 ghost use Rattle.task_journal.specs.Journal.{StandsFor};
 ghost use Rattle.task_journal.specs.Reads.{OnlyReads};
 ghost use Rattle.database_text.specs.Texts.{IsDamaged, IsRefusal};
+ghost use Rattle.database_text.specs.Compacted.{IsUnfitAt};
 
+use cluster_store::opening::read_list;
 use cluster_types::entry::Entries;
 use command_words::ending::Ending;
 use disk_model::disk::Disk;
+use load_schemes::chooser::Chooser;
 use std::alloc::Global;
 use task_journal::fault::OpenFault;
 use task_journal::reading::read_journal;
@@ -37,6 +42,22 @@ pub fn entries_on<D: Disk>(alloc: Global, disk: &mut D) -> Result<Entries, Endin
 {
     match read_journal(alloc, disk) {
         Ok((entries, _)) => Ok(entries),
+        Err(fault) => Err(ending_at(fault)),
+    }
+}
+
+/// The list of a disk, in order, where it is one that a cluster goes on from, or how a command ends that can't have it.
+pub fn list_on<D: Disk>(alloc: Global, disk: &mut D, chooser: &Chooser) -> Result<Entries, Ending>
+    ensures list { D.tells → IfOk result (λ list. StandsFor (D.content disk.old) list) }
+    ensures fit { IfOk result IsFit }
+    ensures has { IfOk result (λ list. All HasRecord list) }
+    ensures refusal { IfErr result IsRefusal }
+    ensures damaged { D.tells → IfErr result (λ ending. (place : ℕ) → ending ≡ Ending.Damaged place → IsUnfitAt (D.content disk.old) place) }
+    ensures reads { OnlyReads D.content D.image D.moment D.image_since D.faults disk.old disk.new }
+    ensures cause { IsErrOf result Ending.DiskFault → Rose (D.faults disk.old) (D.faults disk.new) }
+{
+    match read_list(alloc, disk, chooser) {
+        Ok(entries) => Ok(entries),
         Err(fault) => Err(ending_at(fault)),
     }
 }

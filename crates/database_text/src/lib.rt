@@ -1,8 +1,7 @@
-//! Printing the entries of a disk as text, and comparing a text with them.
+//! Printing the entries of a disk as text, comparing a text with them, and writing them as a journal at once.
 #![tactic(auto)]
 
 pub mod check;
+pub mod compact;
 mod database;
 pub mod dump;
-#[cfg(test)]
-mod tests;

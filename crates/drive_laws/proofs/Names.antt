@@ -1,6 +1,6 @@
 -- What is sent about ids is about known ones.
 use Rattle.std.proofs.Common.{◌≡◌, inl, inr, ℕ, List, [], ◌∷◌, ◌++◌, map, Bool, true, false, cond, not, ◌||◌, ◌&&◌, Option, Some, None, refl, ap, ◌∙◌, subst}
-use Rattle.std.specs.Prelude.{find, filter, bytes_eq, is_none, nat_le, length}
+use Rattle.std.specs.Prelude.{filter, bytes_eq, is_none, nat_le, length}
 use Rattle.std.specs.List.{AllByRecursion as Each}
 use Rattle.std.proofs.lemmas.Bool.{or_left}
 use Rattle.std.proofs.lemmas.List.Folds.{list_any-append}
@@ -31,20 +31,12 @@ use Rattle.cluster_defs.specs.Lives.{Sends}
 use Rattle.cluster_defs.specs.Queries.{answer_event, answer_type}
 use Rattle.cluster_defs.proofs.Options.{id_self}
 use Rattle.cluster_defs.proofs.Says.{due_says}
-use Rattle.cluster_laws.proofs.Closed.{listed_stays}
+use Rattle.cluster_laws.proofs.Closed.{found_listed, listed_stays}
 use Rattle.cluster_laws.proofs.Copies.{AllCopied, all_copied}
 use Rattle.cluster_laws.proofs.Lists.{or_right}
 use Rattle.drive_laws.specs.Names.{IsKnown, IsAbout, IsAboutKnown}
 
 -- LISTS
-
-found_listed : (test : Id → Bool) (known : List Id) (id : Id) → find test known ≡ Some id → is_listed id known ≡ true
-found_listed test [] id e = cc
-found_listed test (i ∷ known) id e =
-    (elim (test i) as (λ b. cond b (Some i) (find test known) ≡ Some id → (bytes_eq i id || is_listed id known) ≡ true) [
-      | true ↦ λ is. let same : i ≡ id = cc in or_left (bytes_eq i id) (is_listed id known) (rw same (id_self id))
-      | false ↦ λ is. or_right (bytes_eq i id) (is_listed id known) (found_listed test known id is)
-    ]) e
 
 each_joined : (P : Out → Type 0) (xs ys : List Out) → Each P xs → Each P ys → Each P (xs ++ ys)
 each_joined P [] ys h k = k

@@ -1,24 +1,20 @@
 -- An Open after a crash, and a history that grows by whole steps.
-use Rattle.std.proofs.Common.{◌≡◌, ⊎_elim, ℕ, ◌≤◌, List, [], ◌∷◌, ◌++◌, length, Bool, true, false, cond, Some, None, refl, sym, ap, ◌∙◌, subst, arith}
+use Rattle.std.proofs.Common.{◌≡◌, ⊎_elim, ℕ, ◌≤◌, List, [], ◌∷◌, ◌++◌, length, Bool, true, false, cond, None, refl, sym, ap, ◌∙◌, subst, arith}
 use Rattle.cluster_types.specs.declared.config.Config.{Config}
 use Rattle.cluster_types.specs.declared.config.Scheme.{Scheme}
 use Rattle.cluster_types.specs.declared.entry.Input.{Input as InputType}
-use Rattle.cluster_types.specs.declared.entry.Input.TheVariants.{Open, Up, Down, In, Beat, Time}
-use Rattle.cluster_types.specs.declared.entry.Entry.{Entry}
-use Rattle.cluster_types.specs.declared.entry.Entry.TheVariants.{Input, Hand, Settle, Lose}
+use Rattle.cluster_types.specs.declared.entry.Input.TheVariants.{Open}
+use Rattle.cluster_types.specs.declared.entry.Entry.TheVariants.{Input}
 use Rattle.cluster_defs.specs.Scheduling.{due}
 use Rattle.cluster_defs.specs.Histories.{History, facts, decide_all}
-use Rattle.cluster_defs.specs.Lives.{World, Move, Grow, Flush, Send, Crash, Life, May, OpensIf, is_open, told_after, moved_by, world}
-use Rattle.cluster_defs.specs.Runs.{Decided}
+use Rattle.cluster_defs.specs.Lives.{World, Move, Grow, Flush, Send, Crash, Life, May, OpensIf, is_open, moved_by, world}
 use Rattle.cluster_laws.proofs.Kept.{kept_facts}
-use Rattle.cluster_core.proofs.Growing.{due_allowed}
 use Rattle.cluster_core.proofs.Plans.{decide_all_rests}
 use Rattle.cluster_core.specs.declared.size.HistorySize.{HistorySize}
 use Rattle.cluster_store.specs.Worlds.{MayGo, world_after}
 use Rattle.cluster_store.proofs.Fits.{decides_to}
-use Rattle.cluster_store.proofs.Lived.{with_history, step_grows}
+use Rattle.cluster_store.proofs.Lived.{Grown, grown_all, with_history, step_grows}
 use Rattle.cluster_store.proofs.Stepping.{step_of, step_longer}
-use Rattle.cluster_store.proofs.Waits.{due_no_open}
 use Rattle.tape.specs.declared.record.TapeRecord.{TapeRecord}
 use Rattle.tape_drive.specs.Drive.{Stand, served}
 use Rattle.tape_drive.specs.Served.{IsOnWay, Comes, inputs_taken}
@@ -32,43 +28,6 @@ use Rattle.drive_laws.proofs.Stepping.{NoOpens}
 use Rattle.drive_laws.proofs.Tapes.{served_is}
 
 -- GROWTH ALONE
-
--- a world whose history grew to another one in whole steps, and in which nothing else changed
-pub record Grown (w : World) (new : History) : Type 0 where
-  pub moves : List Move
-  pub may : MayGo w moves
-  pub is : world_after w moves ≡ with_history w new
-  pub longer : length w.history ≤ length new
-
-told_kept : (e : Entry) (told : ℕ → ℕ) → is_open e ≡ false → told_after e told ≡ told
-told_kept (Input (Open moment scheme hwm misses)) told off = cc
-told_kept (Input (Up c channel moment word identity)) told off = refl
-told_kept (Input (Down c moment word)) told off = refl
-told_kept (Input (In c moment word m)) told off = refl
-told_kept (Input (Beat moment word)) told off = refl
-told_kept (Input (Time moment word)) told off = refl
-told_kept (Hand id n) told off = refl
-told_kept (Settle id v c) told off = refl
-told_kept (Lose n) told off = refl
-
-grown_more : (w : World) (h : History) (d : Entry) → w.down ≡ false → due (facts h) ≡ Some d → Grown w h → Grown w (d ∷ h)
-grown_more w h d up is g = record {
-  moves = Grow d ∷ g.moves;
-  may = (subst (λ (v : World). May v (Grow d)) (sym g.is) (due_allowed (facts h) d is, opens w.down up), g.may);
-  is = ap (λ (v : World). moved_by v (Grow d)) g.is ∙ made;
-  longer = let le = g.longer in omega (arith, le);
-}
-  where
-    opens : (b : Bool) → b ≡ false → OpensIf b d
-    opens true is = cc
-    opens false is = tt
-
-    made : moved_by (with_history w h) (Grow d) ≡ with_history w (d ∷ h)
-    made = λ i. record { history = d ∷ h; mark = w.mark; sent = w.sent; told = told_kept d w.told (due_no_open h d is) i; down = sym up i }
-
-grown_all : (w : World) (h : History) (ds : List Entry) → w.down ≡ false → Decided h ds → Grown w h → Grown w (ds ++ h)
-grown_all w h [] up each g = g
-grown_all w h (d ∷ ds) up each g = grown_more w (ds ++ h) d up each.0 (grown_all w h ds up each.1 g)
 
 -- AN OPEN
 

@@ -15,5 +15,3 @@ mod kinds;
 pub mod laws;
 mod reading;
 mod request;
-#[cfg(test)]
-mod tests;

@@ -9,5 +9,3 @@ mod messages;
 mod passes;
 mod questions;
 mod rows;
-#[cfg(test)]
-mod tests;

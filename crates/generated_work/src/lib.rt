@@ -9,5 +9,3 @@ pub mod laws;
 mod records;
 pub mod summary;
 mod tasks;
-#[cfg(test)]
-mod tests;

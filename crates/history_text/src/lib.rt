@@ -4,5 +4,3 @@
 pub mod comparison;
 pub mod lines;
 mod seen;
-#[cfg(test)]
-mod tests;

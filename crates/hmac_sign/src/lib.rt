@@ -172,6 +172,3 @@ fn hex_of(digest: &[u8; 32]) -> [u8; 64]
     let _ = hex::encode_to_slice(digest, &mut digits);
     digits
 }
-
-#[cfg(test)]
-mod tests;

@@ -9,6 +9,4 @@ mod results;
 mod rows;
 mod scan;
 mod tally;
-#[cfg(test)]
-mod tests;
 mod weights;

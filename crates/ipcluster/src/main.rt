@@ -2,13 +2,6 @@
 #![tactic(auto)]
 
 mod database;
-mod errors;
-mod generated;
-mod laws;
-mod quick;
-mod replay;
-#[cfg(test)]
-mod tests;
 
 ghost use Rattle.std.specs.Prelude.{◌≡◌, ◌<◌, length};
 ghost use Rattle.cluster_defs.specs.Scheduling.{pick};
@@ -24,10 +17,10 @@ use disk_model::file::FileDisk;
 use disk_model::memory::MemDisk;
 use edges::sink::Sink;
 use edges::standard::{StdSink, StdSource};
-use errors::tell;
 use load_schemes::chooser::Chooser;
 use load_schemes::place::place_of;
-use quick::quick;
+use quick_commands::errors::tell;
+use quick_commands::quick::quick;
 use std::alloc::AllocError;
 use std::process::ExitCode;
 use std::{env, io};

@@ -14,7 +14,5 @@ mod object;
 mod points;
 pub mod reply;
 pub mod submit;
-#[cfg(test)]
-mod tests;
 mod values;
 pub mod write;

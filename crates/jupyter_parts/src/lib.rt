@@ -5,6 +5,4 @@
 pub mod fault;
 pub mod laws;
 pub mod read;
-#[cfg(test)]
-mod tests;
 pub mod write;

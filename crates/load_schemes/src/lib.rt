@@ -3,5 +3,3 @@
 
 pub mod chooser;
 pub mod place;
-#[cfg(test)]
-mod tests;

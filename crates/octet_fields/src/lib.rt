@@ -6,6 +6,4 @@
 
 pub mod reading;
 pub mod stop;
-#[cfg(test)]
-mod tests;
 pub mod writing;

@@ -6,7 +6,5 @@ pub mod laws;
 mod message;
 pub mod reading;
 pub mod size;
-#[cfg(test)]
-mod tests;
 mod values;
 pub mod writing;

@@ -4,5 +4,3 @@
 pub mod answers;
 pub mod plan;
 pub mod purge;
-#[cfg(test)]
-mod tests;

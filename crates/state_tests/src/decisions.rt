@@ -1,6 +1,6 @@
 //! Decisions over small clusters.
 
-ghost use Rattle.std.specs.Prelude.{◌≡◌, ◌<◌, length, None, IfOk};
+ghost use Rattle.std.specs.Prelude.{◌≡◌, ◌<◌, length, None};
 ghost use Rattle.cluster_defs.specs.Scheduling.{pick};
 
 use cluster_defs::engine::Engine;
@@ -18,8 +18,12 @@ use cluster_types::verdict::{Cause, Verdict};
 use due_decisions::due::due;
 use load_schemes::chooser::{Choose, Chooser};
 use load_schemes::place::place_of;
-use std::alloc::{AllocError, Global};
-use std::test::Fail;
+use std::alloc::Global;
+use std::process::Abort;
+
+fn text<R: Abort>(rt: &R, alloc: Global, name: &str) -> Text {
+    Text::new(alloc, name).expect(rt, "memory is ample")
+}
 
 /// A dependency that completed tasks meet, and failed ones if it says so.
 fn dep(alloc: Global, failure: bool) -> Dep {
@@ -31,29 +35,36 @@ fn dep(alloc: Global, failure: bool) -> Dep {
     }
 }
 
-fn list(alloc: Global, dep: &mut Dep, id: &str) -> Result<(), AllocError> {
-    let id = Text::new(alloc, id)?;
-    dep.ids.push(id)?;
-    Ok(())
+fn list<R: Abort>(rt: &R, alloc: Global, dep: &mut Dep, id: &str) {
+    let id = text(rt, alloc, id);
+    dep.ids.push(id).expect(rt, "memory is ample");
 }
 
 /// A dependency on the tasks `x` and `y`.
-fn on_both(alloc: Global, failure: bool) -> Result<Dep, AllocError> {
+fn on_both<R: Abort>(rt: &R, alloc: Global, failure: bool) -> Dep {
     let mut both = dep(alloc, failure);
-    list(alloc, &mut both, "x")?;
-    list(alloc, &mut both, "y")?;
-    Ok(both)
+    list(rt, alloc, &mut both, "x");
+    list(rt, alloc, &mut both, "y");
+    both
+}
+
+fn message<R: Abort>(rt: &R, alloc: Global) -> SharedMessage {
+    let buffers = Sequence::new(alloc);
+    SharedMessage::new(alloc, b"", b"{}", b"{}", b"{}", b"{}", buffers).expect(
+        rt,
+        "memory is ample",
+    )
 }
 
 /// A Submit with these dependencies, accepted at moment 1000.
-fn request(alloc: Global, after: Dep, follow: Dep) -> Result<Request, AllocError> {
-    Ok(Request {
+fn request<R: Abort>(rt: &R, alloc: Global, after: Dep, follow: Dep) -> Request {
+    Request {
         owner: None,
         direct_to: None,
-        message: SharedMessage::new(alloc, b"", b"{}", b"{}", b"{}", b"{}", Sequence::new(alloc))?,
-        msg_type: Text::new(alloc, "execute_request")?,
-        session: Text::new(alloc, "")?,
-        username: Text::new(alloc, "")?,
+        message: message(rt, alloc),
+        msg_type: text(rt, alloc, "execute_request"),
+        session: text(rt, alloc, ""),
+        username: text(rt, alloc, ""),
         after,
         follow,
         listed: Sequence::new(alloc),
@@ -62,83 +73,75 @@ fn request(alloc: Global, after: Dep, follow: Dep) -> Result<Request, AllocError
         timeout: 0,
         retries: 0,
         invalid: false,
-    })
-}
-
-/// A Submit that waits for nothing.
-fn plain(alloc: Global) -> Result<Request, AllocError> {
-    request(alloc, dep(alloc, false), dep(alloc, false))
-}
-
-/// A Submit that waits for `x` and `y`.
-fn after_both(alloc: Global, failure: bool) -> Result<Request, AllocError> {
-    let after = on_both(alloc, failure)?;
-    request(alloc, after, dep(alloc, false))
-}
-
-/// A Submit that follows `x` and `y`.
-fn follows_both(alloc: Global) -> Result<Request, AllocError> {
-    let follow = on_both(alloc, false)?;
-    request(alloc, dep(alloc, false), follow)
-}
-
-fn invalid(alloc: Global) -> Result<Request, AllocError> {
-    let mut request = plain(alloc)?;
-    request.invalid = true;
-    Ok(request)
-}
-
-/// A Submit that waits for five seconds at most.
-fn impatient(alloc: Global) -> Result<Request, AllocError> {
-    let mut request = plain(alloc)?;
-    request.timeout = 5;
-    Ok(request)
-}
-
-/// A direct request to engine 0.
-fn direct(alloc: Global) -> Result<Request, AllocError> {
-    let mut request = plain(alloc)?;
-    request.direct_to = Some(0);
-    Ok(request)
-}
-
-/// A task that was just accepted.
-fn task_of(alloc: Global, id: &Text, request: Request) -> Result<Task, AllocError>
-    ensures { IfOk result (λ t. t.settled ≡ None) }
-{
-    Task::new(alloc, id, 1, request)
-}
-
-fn push(tasks: &mut Tasks, task: Result<Task, AllocError>) -> Result<(), AllocError>
-    requires { IfOk task (λ t. t.settled ≡ None) }
-{
-    match task {
-        Ok(task) => tasks.push(task),
-        Err(error) => Err(error),
     }
 }
 
-/// Adds a task with a request, if there is memory for both.
-fn add(
-    alloc: Global,
-    tasks: &mut Tasks,
-    id: &str,
-    request: Result<Request, AllocError>,
-) -> Result<(), AllocError> {
-    let request = request?;
-    let id = Text::new(alloc, id)?;
-    push(tasks, task_of(alloc, &id, request))
+/// A Submit that waits for nothing.
+fn plain<R: Abort>(rt: &R, alloc: Global) -> Request {
+    request(rt, alloc, dep(alloc, false), dep(alloc, false))
+}
+
+/// A Submit that waits for `x` and `y`.
+fn after_both<R: Abort>(rt: &R, alloc: Global, failure: bool) -> Request {
+    let after = on_both(rt, alloc, failure);
+    request(rt, alloc, after, dep(alloc, false))
+}
+
+/// A Submit that follows `x` and `y`.
+fn follows_both<R: Abort>(rt: &R, alloc: Global) -> Request {
+    let follow = on_both(rt, alloc, false);
+    request(rt, alloc, dep(alloc, false), follow)
+}
+
+fn invalid<R: Abort>(rt: &R, alloc: Global) -> Request {
+    let mut request = plain(rt, alloc);
+    request.invalid = true;
+    request
+}
+
+/// A Submit that waits for five seconds at most.
+fn impatient<R: Abort>(rt: &R, alloc: Global) -> Request {
+    let mut request = plain(rt, alloc);
+    request.timeout = 5;
+    request
+}
+
+/// A direct request to engine 0.
+fn direct<R: Abort>(rt: &R, alloc: Global) -> Request {
+    let mut request = plain(rt, alloc);
+    request.direct_to = Some(0);
+    request
+}
+
+/// A task that was just accepted.
+fn task_of<R: Abort>(rt: &R, alloc: Global, id: &Text, request: Request) -> Task
+    ensures { result.settled ≡ None }
+{
+    Task::new(alloc, id, 1, request).expect(rt, "memory is ample")
+}
+
+fn push<R: Abort>(rt: &R, tasks: &mut Tasks, task: Task)
+    requires { task.settled ≡ None }
+{
+    tasks.push(task).expect(rt, "memory is ample");
+}
+
+/// Adds a task with a request.
+fn add<R: Abort>(rt: &R, alloc: Global, tasks: &mut Tasks, id: &str, request: Request) {
+    let id = text(rt, alloc, id);
+    push(rt, tasks, task_of(rt, alloc, &id, request));
 }
 
 /// Settles a task on an engine.
-fn finish(
+fn finish<R: Abort>(
+    rt: &R,
     alloc: Global,
     tasks: &mut Tasks,
     id: &str,
     verdict: Verdict,
     engine: u32,
-) -> Result<(), AllocError> {
-    let id = Text::new(alloc, id)?;
+) {
+    let id = text(rt, alloc, id);
     let settled = Settled {
         verdict,
         cause: Cause::Reply,
@@ -146,83 +149,72 @@ fn finish(
         moment: 0,
     };
     tasks.settle(&id, settled, None);
-    Ok(())
 }
 
-fn hand(alloc: Global, tasks: &mut Tasks, id: &str, engine: u32) -> Result<(), AllocError> {
-    let id = Text::new(alloc, id)?;
+fn hand<R: Abort>(rt: &R, alloc: Global, tasks: &mut Tasks, id: &str, engine: u32) {
+    let id = text(rt, alloc, id);
     tasks.hand(&id, engine);
-    Ok(())
 }
 
-fn join(alloc: Global, state: &mut State, number: u32) -> Result<(), AllocError> {
-    let uuid = Text::new(alloc, "e")?;
-    state.engines.push(Engine {
+fn join<R: Abort>(rt: &R, alloc: Global, state: &mut State, number: u32) {
+    let engine = Engine {
         number,
         conn: number,
-        uuid,
+        uuid: text(rt, alloc, "e"),
         mark: 0,
-    })?;
-    state.by_use.push(number)?;
-    Ok(())
+    };
+    state.engines.push(engine).expect(rt, "memory is ample");
+    state.by_use.push(number).expect(rt, "memory is ample");
 }
 
 /// A cluster of the engines 0 and 1.
-fn two_engines(alloc: Global) -> Result<State, AllocError> {
+fn two_engines<R: Abort>(rt: &R, alloc: Global) -> State {
     let mut state = State::new(alloc);
-    join(alloc, &mut state, 0)?;
-    join(alloc, &mut state, 1)?;
-    Ok(state)
+    join(rt, alloc, &mut state, 0);
+    join(rt, alloc, &mut state, 1);
+    state
 }
 
-fn finish_both(alloc: Global, tasks: &mut Tasks, last: Verdict) -> Result<(), AllocError> {
-    add(alloc, tasks, "x", plain(alloc))?;
-    add(alloc, tasks, "y", plain(alloc))?;
-    finish(alloc, tasks, "x", Verdict::Completed, 0)?;
-    finish(alloc, tasks, "y", last, 1)
+fn finish_both<R: Abort>(rt: &R, alloc: Global, tasks: &mut Tasks, last: Verdict) {
+    add(rt, alloc, tasks, "x", plain(rt, alloc));
+    add(rt, alloc, tasks, "y", plain(rt, alloc));
+    finish(rt, alloc, tasks, "x", Verdict::Completed, 0);
+    finish(rt, alloc, tasks, "y", last, 1);
 }
 
 /// The same with `x` completed on engine 0, `y` settled on engine 1, and `a`.
-fn with_both(
-    alloc: Global,
-    last: Verdict,
-    request: Result<Request, AllocError>,
-) -> Result<State, AllocError> {
-    let mut state = two_engines(alloc)?;
-    finish_both(alloc, &mut state.tasks, last)?;
-    add(alloc, &mut state.tasks, "a", request)?;
-    Ok(state)
+fn with_both<R: Abort>(rt: &R, alloc: Global, last: Verdict, request: Request) -> State {
+    let mut state = two_engines(rt, alloc);
+    finish_both(rt, alloc, &mut state.tasks, last);
+    add(rt, alloc, &mut state.tasks, "a", request);
+    state
 }
 
 /// The two engines, where `a` runs on engine 0 and `b` waits.
-fn with_load(alloc: Global) -> Result<State, AllocError> {
-    let mut state = two_engines(alloc)?;
-    add(alloc, &mut state.tasks, "a", plain(alloc))?;
-    hand(alloc, &mut state.tasks, "a", 0)?;
-    add(alloc, &mut state.tasks, "b", plain(alloc))?;
-    Ok(state)
+fn with_load<R: Abort>(rt: &R, alloc: Global) -> State {
+    let mut state = two_engines(rt, alloc);
+    add(rt, alloc, &mut state.tasks, "a", plain(rt, alloc));
+    hand(rt, alloc, &mut state.tasks, "a", 0);
+    add(rt, alloc, &mut state.tasks, "b", plain(rt, alloc));
+    state
 }
 
 /// A cluster without engines, where `a` waits at a moment.
-fn with_one(
-    alloc: Global,
-    clock: u64,
-    request: Result<Request, AllocError>,
-) -> Result<State, AllocError> {
+fn with_one<R: Abort>(rt: &R, alloc: Global, clock: u64, request: Request) -> State {
     let mut state = State::new(alloc);
     state.clock = clock;
-    add(alloc, &mut state.tasks, "a", request)?;
-    Ok(state)
+    add(rt, alloc, &mut state.tasks, "a", request);
+    state
 }
 
 /// Engine 0 after so many beats, of which it may miss one, and a direct request to it.
-fn with_beats(alloc: Global, beats: u64) -> Result<State, AllocError> {
+fn with_beats<R: Abort>(rt: &R, alloc: Global, beats: u64) -> State {
     let mut state = State::new(alloc);
     state.misses = 1;
     state.beats = beats;
-    join(alloc, &mut state, 0)?;
-    add(alloc, &mut state.tasks, "a", direct(alloc))?;
-    Ok(state)
+    join(rt, alloc, &mut state, 0);
+    add(rt, alloc, &mut state.tasks, "a", direct(rt, alloc));
+    state
 }
 
 /// What was decided, in a word.
@@ -252,70 +244,71 @@ fn told(found: &Option<Entry>, name: &str) -> Outcome {
 }
 
 /// What is decided over a state, of a task with this name.
-fn decided(
+fn decided<R: Abort>(
+    rt: &R,
     alloc: Global,
-    state: Result<State, AllocError>,
     chooser: &Chooser,
+    state: &State,
     name: &str,
-) -> Result<Outcome, AllocError> {
-    let state = state?;
-    let found = due(alloc, &state, chooser)?;
-    Ok(told(&found, name))
+) -> Outcome {
+    let found = due(alloc, state, chooser).expect(rt, "memory is ample");
+    told(&found, name)
 }
 
-#[test]
-fn worked_decisions(rt: HostRuntime) -> Result<(), Fail> {
-    let alloc = rt.alloc();
+/// A chooser that places tasks as a controller does.
+fn new_chooser<R: Abort>(rt: &R, alloc: Global) -> Chooser {
     let choose: Choose = Box::new(
         alloc,
         |scheme: Scheme, loads: &[u32], word: u64| -> usize
             requires { 0 < length loads.now }
             ensures { result ≡ pick scheme loads.now word }
         { place_of(scheme, loads, word) },
-    )?;
-    let chooser = Chooser::new(choose);
+    )
+    .expect(rt, "memory is ample");
+    Chooser::new(choose)
+}
+
+/// Checks what is decided over a state, of a task with this name.
+fn decides<R: Abort>(rt: &R, chooser: &Chooser, state: State, name: &str, outcome: Outcome) {
+    let alloc = state.allocator();
+    assert_eq!(rt; decided(rt, alloc, chooser, &state, name), outcome);
+}
+
+#[test]
+fn worked_decisions(rt: HostRuntime) {
+    let alloc = rt.alloc();
+    let chooser = new_chooser(&rt, alloc);
     let impossible = Outcome::Failed(Cause::ImpossibleDependency);
-    for (state, name, outcome) in [
-        (
-            with_both(alloc, Verdict::Failed, plain(alloc)),
-            "a",
-            Outcome::Handed(0),
-        ),
-        (with_load(alloc), "b", Outcome::Handed(1)),
-        (
-            with_both(alloc, Verdict::Failed, after_both(alloc, true)),
-            "a",
-            Outcome::Handed(0),
-        ),
-        (
-            with_both(alloc, Verdict::Failed, after_both(alloc, false)),
-            "a",
-            impossible,
-        ),
-        (
-            with_both(alloc, Verdict::Completed, follows_both(alloc)),
-            "a",
-            impossible,
-        ),
-        (
-            with_one(alloc, 0, invalid(alloc)),
-            "a",
-            Outcome::Failed(Cause::InvalidDependency),
-        ),
-        (
-            with_one(alloc, 5999, impatient(alloc)),
-            "a",
-            Outcome::Nothing,
-        ),
-        (
-            with_one(alloc, 6000, impatient(alloc)),
-            "a",
-            Outcome::Failed(Cause::TaskTimeout),
-        ),
-        (with_beats(alloc, 1), "a", Outcome::Handed(0)),
-        (with_beats(alloc, 2), "a", Outcome::Lost(0)),
-    ] {
-        assert_eq!(rt; decided(alloc, state, &chooser, name)?, outcome);
-    }
-    Ok(())
+    let state = with_both(&rt, alloc, Verdict::Failed, plain(&rt, alloc));
+    decides(&rt, &chooser, state, "a", Outcome::Handed(0));
+    let state = with_load(&rt, alloc);
+    decides(&rt, &chooser, state, "b", Outcome::Handed(1));
+    let state = with_both(&rt, alloc, Verdict::Failed, after_both(&rt, alloc, true));
+    decides(&rt, &chooser, state, "a", Outcome::Handed(0));
+    let state = with_both(&rt, alloc, Verdict::Failed, after_both(&rt, alloc, false));
+    decides(&rt, &chooser, state, "a", impossible);
+    let state = with_both(&rt, alloc, Verdict::Completed, follows_both(&rt, alloc));
+    decides(&rt, &chooser, state, "a", impossible);
+    let state = with_one(&rt, alloc, 0, invalid(&rt, alloc));
+    decides(
+        &rt,
+        &chooser,
+        state,
+        "a",
+        Outcome::Failed(Cause::InvalidDependency),
+    );
+    let state = with_one(&rt, alloc, 5999, impatient(&rt, alloc));
+    decides(&rt, &chooser, state, "a", Outcome::Nothing);
+    let state = with_one(&rt, alloc, 6000, impatient(&rt, alloc));
+    decides(
+        &rt,
+        &chooser,
+        state,
+        "a",
+        Outcome::Failed(Cause::TaskTimeout),
+    );
+    let state = with_beats(&rt, alloc, 1);
+    decides(&rt, &chooser, state, "a", Outcome::Handed(0));
+    let state = with_beats(&rt, alloc, 2);
+    decides(&rt, &chooser, state, "a", Outcome::Lost(0));
 }

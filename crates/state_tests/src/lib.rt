@@ -1,8 +1,10 @@
-//! Tests of the state of a cluster and of its decisions. They stand in a crate of their own since a crate that has tests is
-//! proved twice.
+//! Tests of the state of a cluster, of its decisions, and of the schemes that choose an engine. They stand in a crate
+//! of their own since a crate that has tests is proved twice.
 #![tactic(auto)]
 
 #[cfg(test)]
 mod decisions;
+#[cfg(test)]
+mod schemes;
 #[cfg(test)]
 mod state;

@@ -1,7 +1,5 @@
 //! A small cluster, entry by entry.
 
-ghost use Rattle.std.specs.Prelude.{◌≡◌, None, IfOk};
-ghost use Rattle.cluster_types.specs.declared.entry.Entry.{Entry};
 ghost use Rattle.cluster_state.specs.Plain.{InTime};
 
 use cluster_defs::acceptance::Acceptance;
@@ -12,135 +10,234 @@ use cluster_state::engines::{
     conn_of, end_engine, engine_named, engine_on, joining, mark_on, number_on, raises_some,
     use_engine,
 };
-use cluster_state::outcomes::outcome_for;
 use cluster_state::state::State;
-use cluster_state::task::Settled;
 use cluster_types::config::{Channel, Scheme};
 use cluster_types::entry::{Entry, Input};
 use cluster_types::event::{Dep, Event, Submission};
 use cluster_types::limits::LAST_MOMENT;
-use cluster_types::message::Ids;
+use cluster_types::message::{Engines, Ids};
 use cluster_types::octets::Octets;
 use cluster_types::sequence::Sequence;
 use cluster_types::shared_message::SharedMessage;
 use cluster_types::text::Text;
 use cluster_types::verdict::{Cause, Verdict};
-use std::alloc::{AllocError, Global};
-use std::test::Fail;
+use std::alloc::Global;
+use std::process::Abort;
 
-fn message(alloc: Global, header: &[u8]) -> Result<SharedMessage, AllocError> {
+fn text<R: Abort>(rt: &R, alloc: Global, name: &str) -> Text {
+    Text::new(alloc, name).expect(rt, "memory is ample")
+}
+
+fn message<R: Abort>(rt: &R, alloc: Global, header: &[u8]) -> SharedMessage {
     let buffers = Sequence::new(alloc);
-    SharedMessage::new(alloc, b"", header, b"{}", b"{}", b"{}", buffers)
+    SharedMessage::new(alloc, b"", header, b"{}", b"{}", b"{}", buffers).expect(
+        rt,
+        "memory is ample",
+    )
+}
+
+fn ids<R: Abort>(rt: &R, alloc: Global, names: &[&str]) -> Ids {
+    let mut list = Ids::new(alloc);
+    for name in names {
+        let id = text(rt, alloc, *name);
+        list.push(id).expect(rt, "memory is ample");
+    }
+    list
 }
 
 /// A dependency on the listed tasks.
-fn on(alloc: Global, ids: &[&str]) -> Result<Dep, AllocError> {
-    let mut listed = Ids::new(alloc);
-    for id in ids {
-        listed.push(Text::new(alloc, *id)?)?;
-    }
-    Ok(Dep {
-        ids: listed,
+fn on<R: Abort>(rt: &R, alloc: Global, names: &[&str]) -> Dep {
+    Dep {
+        ids: ids(rt, alloc, names),
         all: true,
         success: true,
         failure: false,
-    })
+    }
 }
 
 /// What a request says that depends on nothing.
-fn submission(alloc: Global, id: &str) -> Result<Submission, AllocError> {
-    Ok(Submission {
-        id: Text::new(alloc, id)?,
-        msg_type: Text::new(alloc, "execute_request")?,
-        session: Text::new(alloc, "")?,
-        username: Text::new(alloc, "")?,
-        after: on(alloc, &[])?,
-        follow: on(alloc, &[])?,
+fn submission<R: Abort>(rt: &R, alloc: Global, id: &str) -> Submission {
+    Submission {
+        id: text(rt, alloc, id),
+        msg_type: text(rt, alloc, "execute_request"),
+        session: text(rt, alloc, ""),
+        username: text(rt, alloc, ""),
+        after: on(rt, alloc, &[]),
+        follow: on(rt, alloc, &[]),
         targets: Sequence::new(alloc),
         timeout: 0,
         retries: 0,
-    })
+    }
 }
 
 /// Takes an entry without a message.
-fn take(state: &mut State, entry: &Entry) -> Result<bool, AllocError>
+fn take<R: Abort>(rt: &R, state: &mut State, entry: &Entry) -> bool
     requires { InTime entry.now }
 {
     if state.moment > LAST_MOMENT {
-        return Ok(false);
+        return false;
     }
-    state.take(entry, &None)
+    state.take(entry, &None).expect(rt, "memory is ample")
+}
+
+fn opens<R: Abort>(rt: &R, state: &mut State) {
+    state
+        .take_open(0, Scheme::LeastLoad, 1, 10)
+        .expect(rt, "memory is ample");
+}
+
+fn connects<R: Abort>(
+    rt: &R,
+    alloc: Global,
+    state: &mut State,
+    conn: u32,
+    channel: Channel,
+    peer: &[u8],
+) {
+    let identity = Octets::new(alloc, peer).expect(rt, "memory is ample");
+    state
+        .connect(conn, channel, &identity)
+        .expect(rt, "memory is ample");
+}
+
+/// Whether an engine joins on connection 1.
+fn joins<R: Abort>(rt: &R, alloc: Global, state: &mut State, uuid: &str) -> bool {
+    let uuid = text(rt, alloc, uuid);
+    state.take_join(1, &uuid).expect(rt, "memory is ample")
 }
 
 /// An opened cluster with connection 1 of an engine and connection 2 of a client, once engine 0 has joined.
-fn joined(alloc: Global) -> Result<State, AllocError> {
+fn joined<R: Abort>(rt: &R, alloc: Global) -> State {
     let mut state = State::new(alloc);
-    state.take_open(0, Scheme::LeastLoad, 1, 10)?;
-    state.connect(1, Channel::Engine, &Octets::new(alloc, b"e")?)?;
-    state.connect(2, Channel::Task, &Octets::new(alloc, b"c")?)?;
-    let _ = state.take_join(1, &Text::new(alloc, "e0")?)?;
-    Ok(state)
+    opens(rt, &mut state);
+    connects(rt, alloc, &mut state, 1, Channel::Engine, b"e");
+    connects(rt, alloc, &mut state, 2, Channel::Task, b"c");
+    let _ = joins(rt, alloc, &mut state, "e0");
+    state
+}
+
+/// Whether a request with this id is accepted on connection 2.
+fn submits<R: Abort>(rt: &R, alloc: Global, state: &mut State, id: &str) -> bool {
+    let request = message(rt, alloc, b"h");
+    let submission = submission(rt, alloc, id);
+    state
+        .take_demand(2, 5, &request, false, &submission)
+        .expect(rt, "memory is ample")
 }
 
 /// The same, once the task `a` was accepted.
-fn accepted(alloc: Global) -> Result<State, AllocError> {
-    let mut state = joined(alloc)?;
-    let request = message(alloc, b"h")?;
-    let _ = state.take_demand(2, 5, &request, false, &submission(alloc, "a")?)?;
-    Ok(state)
+fn accepted<R: Abort>(rt: &R, alloc: Global) -> State {
+    let mut state = joined(rt, alloc);
+    let _ = submits(rt, alloc, &mut state, "a");
+    state
+}
+
+/// The task `a` is handed to engine 0.
+fn hand<R: Abort>(rt: &R, alloc: Global, state: &mut State) {
+    let a = text(rt, alloc, "a");
+    state.hand(&a, 0, false).expect(rt, "memory is ample");
 }
 
 /// The same, once `a` was handed to engine 0.
-fn handed(alloc: Global) -> Result<State, AllocError> {
-    let mut state = accepted(alloc)?;
-    state.hand(&Text::new(alloc, "a")?, 0, false)?;
-    Ok(state)
+fn handed<R: Abort>(rt: &R, alloc: Global) -> State {
+    let mut state = accepted(rt, alloc);
+    hand(rt, alloc, &mut state);
+    state
 }
 
 /// Whether a good reply to `a` with this header counts.
-fn reply(alloc: Global, state: &mut State, header: &str) -> Result<bool, AllocError> {
-    let message = message(alloc, header.as_bytes())?;
-    let task = Text::new(alloc, "a")?;
-    let header = Text::new(alloc, header)?;
-    state.take_reply(1, &task, &header, true, false, &message)
+fn reply<R: Abort>(rt: &R, alloc: Global, state: &mut State, header: &str) -> bool {
+    let message = message(rt, alloc, header.as_bytes());
+    let task = text(rt, alloc, "a");
+    let header = text(rt, alloc, header);
+    state
+        .take_reply(1, &task, &header, true, false, &message)
+        .expect(rt, "memory is ample")
+}
+
+/// What comes of it that an engine with this uuid joins on a connection.
+fn joining_on<R: Abort>(rt: &R, alloc: Global, state: &State, conn: u32, uuid: &str) -> Joining {
+    let uuid = text(rt, alloc, uuid);
+    joining(&state.engines, state.next_engine, conn, &uuid)
+}
+
+/// The engines with these uuids.
+fn targets<R: Abort>(rt: &R, alloc: Global, state: &State, uuids: &[&str]) -> Engines {
+    let listed = ids(rt, alloc, uuids);
+    targets_of(alloc, &state.engines, listed.as_slice()).expect(rt, "memory is ample")
+}
+
+fn beats<R: Abort>(rt: &R, state: &mut State) {
+    state.beat().expect(rt, "memory is ample");
+}
+
+/// Whether this echo on connection 1 raises a mark.
+fn would_raise(state: &State, beat: u64) -> bool {
+    raises_some(&state.engines, 1, beat)
+}
+
+/// Whether this echo on connection 1 is taken.
+fn echoes(state: &mut State, beat: u64) -> bool {
+    state.take_pong(1, beat)
+}
+
+fn marks(state: &mut State, beat: u64) {
+    mark_on(&mut state.engines, 1, beat);
+}
+
+/// Whether the engine on connection 1 leaves.
+fn leaves_now<R: Abort>(rt: &R, state: &mut State) -> bool {
+    state.take_leave(1).expect(rt, "memory is ample")
+}
+
+fn is_connected(state: &State, conn: u32) -> bool {
+    connection_on(&state.connections, conn).is_some()
 }
 
 #[test]
-fn connections_and_engines(rt: HostRuntime) -> Result<(), Fail> {
+fn connections_and_engines(rt: HostRuntime) {
     let alloc = rt.alloc();
-    let mut state = joined(alloc)?;
-    let e0 = Text::new(alloc, "e0")?;
-    let e1 = Text::new(alloc, "e1")?;
-    let next = state.next_engine;
-    assert!(rt; next == 1 && number_on(&state.engines, 1) == Some(0));
-    assert!(rt;
-        joining(&state.engines, next, 1, &e0) == Joining::Repeat { engine: 0 }
-            && joining(&state.engines, next, 1, &e1) == Joining::AlreadyJoined { engine: 0 }
-            && joining(&state.engines, next, 3, &e0) == Joining::UuidInUse { engine: 0 }
-            && joining(&state.engines, next, 3, &e1) == Joining::Accepted
+    let mut state = joined(&rt, alloc);
+    assert!(rt; state.next_engine == 1 && number_on(&state.engines, 1) == Some(0));
+    assert_eq!(rt;
+        joining_on(&rt, alloc, &state, 1, "e0"),
+        Joining::Repeat { engine: 0 }
     );
-    let listed = on(alloc, &["e1", "e0"])?.ids;
-    let targets = targets_of(alloc, &state.engines, listed.as_slice())?;
+    assert_eq!(rt;
+        joining_on(&rt, alloc, &state, 1, "e1"),
+        Joining::AlreadyJoined { engine: 0 }
+    );
+    assert_eq!(rt;
+        joining_on(&rt, alloc, &state, 3, "e0"),
+        Joining::UuidInUse { engine: 0 }
+    );
+    assert_eq!(rt; joining_on(&rt, alloc, &state, 3, "e1"), Joining::Accepted);
+    let targets = targets(&rt, alloc, &state, &["e1", "e0"]);
     assert!(rt; targets.as_slice() == [0].as_slice());
-    state.beat()?;
-    assert!(rt; raises_some(&state.engines, 1, 1) && state.take_pong(1, 1));
-    assert!(rt; !state.take_pong(1, 1) && !state.take_pong(1, 2));
-    mark_on(&mut state.engines, 1, 7);
-    assert!(rt; !raises_some(&state.engines, 1, 7));
+    beats(&rt, &mut state);
+    assert!(rt; would_raise(&state, 1) && echoes(&mut state, 1));
+    assert!(rt; !echoes(&mut state, 1) && !echoes(&mut state, 2));
+    marks(&mut state, 7);
+    assert!(rt; !would_raise(&state, 7));
     for leaves in [true, false] {
-        assert!(rt; state.take_leave(1)? == leaves);
+        assert!(rt; leaves_now(&rt, &mut state) == leaves);
     }
     state.disconnect(2);
-    assert!(rt;
-        connection_on(&state.connections, 2).is_none()
-            && connection_on(&state.connections, 1).is_some()
-    );
-    Ok(())
+    assert!(rt; !is_connected(&state, 2) && is_connected(&state, 1));
+}
+
+/// Uses the engines 0, 1 and 0, and tells the order of their last use.
+fn used<R: Abort>(rt: &R, alloc: Global) -> Vec<u32> {
+    let mut by_use = Vec::new(alloc);
+    for engine in [0, 1, 0] {
+        use_engine(&mut by_use, engine).expect(rt, "memory is ample");
+    }
+    by_use
 }
 
 #[test]
-fn an_engine_is_found(rt: HostRuntime) -> Result<(), Fail> {
-    let mut state = joined(rt.alloc())?;
+fn an_engine_is_found(rt: HostRuntime) {
+    let mut state = joined(&rt, rt.alloc());
     assert!(rt;
         engine_on(&state.engines, 1).is_some()
             && engine_named(&state.engines, b"e0").is_some()
@@ -149,109 +246,176 @@ fn an_engine_is_found(rt: HostRuntime) -> Result<(), Fail> {
     );
     end_engine(&mut state.engines, 0);
     assert!(rt; engine_on(&state.engines, 1).is_none());
-    let mut by_use = Vec::new(rt.alloc());
-    for engine in [0, 1, 0] {
-        use_engine(&mut by_use, engine)?;
-    }
+    let by_use = used(&rt, rt.alloc());
     assert!(rt; by_use.as_slice() == [1, 0].as_slice());
-    Ok(())
+}
+
+/// What becomes of a request in this state.
+fn acceptance(
+    state: &State,
+    direct: bool,
+    submission: &Submission,
+    message: &SharedMessage,
+) -> Acceptance {
+    state.acceptance(direct, submission, message)
 }
 
 #[test]
-fn requests_over_one_task(rt: HostRuntime) -> Result<(), Fail> {
+fn requests_over_one_task(rt: HostRuntime) {
     let alloc = rt.alloc();
-    let state = accepted(alloc)?;
-    let (a, copy) = (submission(alloc, "a")?, submission(alloc, "resubmit:1")?);
-    let (told, other) = (message(alloc, b"h")?, message(alloc, b"i")?);
-    assert!(rt;
-        state.acceptance(false, &a, &other) == Acceptance::Again { repeat: true }
-            && state.acceptance(true, &a, &told) == Acceptance::Again { repeat: false }
-            && state.acceptance(false, &copy, &told) == Acceptance::Reserved
+    let state = accepted(&rt, alloc);
+    let a = submission(&rt, alloc, "a");
+    let copy = submission(&rt, alloc, "resubmit:1");
+    let told = message(&rt, alloc, b"h");
+    let other = message(&rt, alloc, b"i");
+    assert_eq!(rt;
+        acceptance(&state, false, &a, &other),
+        Acceptance::Again { repeat: true }
+    );
+    assert_eq!(rt;
+        acceptance(&state, true, &a, &told),
+        Acceptance::Again { repeat: false }
+    );
+    assert_eq!(rt;
+        acceptance(&state, false, &copy, &told),
+        Acceptance::Reserved
     );
     assert!(rt; is_known(&state.tasks, &a.id) && !is_known(&state.tasks, &copy.id));
-    let (known, unknown) = (on(alloc, &["a"])?, on(alloc, &["a", "c"])?);
+    let known = on(&rt, alloc, &["a"]);
+    let unknown = on(&rt, alloc, &["a", "c"]);
     assert!(rt;
         !is_invalid(&state.tasks, &copy.id, &known, &a.follow)
             && is_invalid(&state.tasks, &a.id, &a.after, &known)
             && is_invalid(&state.tasks, &copy.id, &unknown, &a.follow)
     );
-    Ok(())
+}
+
+fn hands(attempts: &mut Attempts, engine: u32) {
+    attempts.hand(engine);
+}
+
+fn ends<R: Abort>(rt: &R, attempts: &mut Attempts, engine: u32) {
+    attempts.end(engine).expect(rt, "memory is ample");
+}
+
+fn replies<R: Abort>(rt: &R, attempts: &mut Attempts, header: &Text, how: Ending) {
+    attempts
+        .take_reply(header, how)
+        .expect(rt, "memory is ample");
+}
+
+fn loses<R: Abort>(rt: &R, attempts: &mut Attempts) {
+    attempts.lose().expect(rt, "memory is ample");
+}
+
+fn has_heard(attempts: &Attempts, header: &Text) -> bool {
+    attempts.has_heard(header)
 }
 
 #[test]
-fn attempts(rt: HostRuntime) -> Result<(), Fail> {
+fn attempts(rt: HostRuntime) {
     let alloc = rt.alloc();
     let mut attempts = Attempts::new(alloc);
-    let header = Text::new(alloc, "r")?;
-    assert!(rt; is_never(attempts.last) && one_more(41)? == 42);
-    attempts.hand(3);
-    attempts.end(4)?;
+    let header = text(&rt, alloc, "r");
+    assert!(rt; is_never(attempts.last) && one_more(41).expect(&rt, "a greater count") == 42);
+    hands(&mut attempts, 3);
+    ends(&rt, &mut attempts, 4);
     assert!(rt;
         runs(attempts.last)
             && runs_at(3, attempts.last)
             && !runs_at(4, attempts.last)
             && attempts.spent == 0
     );
-    attempts.end(3)?;
+    ends(&rt, &mut attempts, 3);
     assert!(rt; !runs(attempts.last) && attempts.spent == 1 && engine_of(attempts.last) == Some(3));
-    attempts.hand(3);
-    assert!(rt; !attempts.has_heard(&header));
-    attempts.take_reply(&header, Ending::Declines)?;
+    hands(&mut attempts, 3);
+    assert!(rt; !has_heard(&attempts, &header));
+    replies(&rt, &mut attempts, &header, Ending::Declines);
     assert!(rt; attempts.spent == 1 && attempts.excluded.as_slice() == [3].as_slice());
-    attempts.hand(3);
-    assert!(rt; attempts.has_heard(&header));
-    attempts.take_reply(&header, Ending::Badly)?;
+    hands(&mut attempts, 3);
+    assert!(rt; has_heard(&attempts, &header));
+    replies(&rt, &mut attempts, &header, Ending::Badly);
     assert!(rt; attempts.spent == 2);
-    attempts.hand(4);
-    attempts.lose()?;
+    hands(&mut attempts, 4);
+    loses(&rt, &mut attempts);
     assert!(rt; attempts.spent == 3);
-    Ok(())
+}
+
+/// Whether a purge of some tasks drops them.
+fn purges<R: Abort>(rt: &R, state: &mut State, listed: &Ids) -> bool {
+    state
+        .take_purge(false, listed)
+        .expect(rt, "memory is ample")
+}
+
+/// The engine on connection 1 ends.
+fn ends_engine<R: Abort>(rt: &R, state: &mut State) {
+    state.end_engine_on(1).expect(rt, "memory is ample");
+}
+
+/// Whether a task has spent one attempt, and doesn't run.
+fn has_spent_one(state: &State, id: &Text) -> bool {
+    let found = state.tasks.find(id);
+    found.is_some_and(|task| task.attempts().spent == 1 && !task.row().running)
 }
 
 #[test]
-fn a_lost_engine_ends_its_attempt(rt: HostRuntime) -> Result<(), Fail> {
+fn a_lost_engine_ends_its_attempt(rt: HostRuntime) {
     let alloc = rt.alloc();
-    let mut state = handed(alloc)?;
-    let listed = on(alloc, &["a"])?.ids;
-    assert!(rt; !state.take_purge(false, &listed)?);
-    state.end_engine_on(1)?;
-    let found = state.tasks.find(&Text::new(alloc, "a")?);
-    assert!(rt; found.is_some_and(|task| task.attempts().spent == 1 && !task.row().running));
-    Ok(())
+    let mut state = handed(&rt, alloc);
+    let listed = ids(&rt, alloc, &["a"]);
+    assert!(rt; !purges(&rt, &mut state, &listed));
+    ends_engine(&rt, &mut state);
+    assert!(rt; has_spent_one(&state, &text(&rt, alloc, "a")));
 }
 
-#[test]
-fn a_task_is_settled_once(rt: HostRuntime) -> Result<(), Fail> {
-    let alloc = rt.alloc();
-    let mut state = handed(alloc)?;
-    for (header, counts) in [("r", true), ("s", false)] {
-        assert!(rt; reply(alloc, &mut state, header)? == counts);
-    }
-    let ids = on(alloc, &["a", "resubmit:2"])?.ids;
-    let [a, copy] = ids.as_slice() else {
-        return Err("two ids".into());
-    };
+/// Settles a task by its reply.
+fn settle<R: Abort>(rt: &R, state: &mut State, id: Text) -> bool {
     let settle = Entry::Settle {
-        id: a.clone()?,
+        id,
         verdict: Verdict::Completed,
         cause: Cause::Reply,
     };
-    let _ = take(&mut state, &settle)?;
-    assert!(rt; state.tasks.len() == 1 && state.tasks.unsettled().is_empty());
-    let found = state.tasks.find(a);
-    assert!(rt; found.is_some_and(|task| task.settled().is_some() && task.reply().is_some()));
-    let listed = on(alloc, &["a"])?.ids;
-    assert!(rt; state.take_resubmit(9, &listed)?);
-    let found = state.tasks.find(copy);
-    assert!(rt; found.is_some_and(|task| task.request().accepted_at == 9));
-    for drops in [true, false] {
-        assert!(rt; state.take_purge(false, &listed)? == drops);
-    }
-    Ok(())
+    take(rt, state, &settle)
+}
+
+/// Whether a task is settled, by a reply.
+fn is_settled(state: &State, id: &Text) -> bool {
+    let found = state.tasks.find(id);
+    found.is_some_and(|task| task.settled().is_some() && task.reply().is_some())
+}
+
+/// Whether some tasks are made again at moment 9.
+fn resubmits<R: Abort>(rt: &R, state: &mut State, listed: &Ids) -> bool {
+    state.take_resubmit(9, listed).expect(rt, "memory is ample")
+}
+
+/// Whether a task was accepted at moment 9.
+fn is_of_nine(state: &State, id: &Text) -> bool {
+    let found = state.tasks.find(id);
+    found.is_some_and(|task| task.request().accepted_at == 9)
 }
 
 #[test]
-fn an_open_is_kept(rt: HostRuntime) -> Result<(), Fail> {
+fn a_task_is_settled_once(rt: HostRuntime) {
+    let alloc = rt.alloc();
+    let mut state = handed(&rt, alloc);
+    for (header, counts) in [("r", true), ("s", false)] {
+        assert!(rt; reply(&rt, alloc, &mut state, header) == counts);
+    }
+    let _ = settle(&rt, &mut state, text(&rt, alloc, "a"));
+    assert!(rt; state.tasks.len() == 1 && state.tasks.unsettled().is_empty());
+    assert!(rt; is_settled(&state, &text(&rt, alloc, "a")));
+    let listed = ids(&rt, alloc, &["a"]);
+    assert!(rt; resubmits(&rt, &mut state, &listed));
+    assert!(rt; is_of_nine(&state, &text(&rt, alloc, "resubmit:2")));
+    for drops in [true, false] {
+        assert!(rt; purges(&rt, &mut state, &listed) == drops);
+    }
+}
+
+#[test]
+fn an_open_is_kept(rt: HostRuntime) {
     let mut state = State::new(rt.alloc());
     let open = Entry::Input(Input::Open {
         moment: 7,
@@ -259,7 +423,6 @@ fn an_open_is_kept(rt: HostRuntime) -> Result<(), Fail> {
         hwm: 2,
         misses: 3,
     });
-    assert!(rt; take(&mut state, &open)?);
+    assert!(rt; take(&rt, &mut state, &open));
     assert!(rt; state.opens == 1 && state.hwm == 2 && state.misses == 3 && state.clock == 7);
-    Ok(())
 }

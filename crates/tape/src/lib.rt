@@ -5,6 +5,4 @@ pub mod laws;
 pub mod reader;
 pub mod reading;
 pub mod record;
-#[cfg(test)]
-mod tests;
 pub mod writing;

@@ -9,6 +9,4 @@ pub mod gate;
 pub mod journal;
 pub mod opening;
 pub mod reading;
-#[cfg(test)]
-mod tests;
 mod window;

@@ -5,5 +5,3 @@ pub mod building;
 pub mod distinct;
 pub mod list;
 pub mod standing;
-#[cfg(test)]
-mod tests;

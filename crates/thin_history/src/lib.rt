@@ -6,6 +6,4 @@ mod meanings;
 mod messages;
 mod notes;
 mod pass;
-#[cfg(test)]
-mod tests;
 pub mod thinning;

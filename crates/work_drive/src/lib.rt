@@ -6,6 +6,4 @@ pub mod fault;
 mod moves;
 mod results;
 mod summing;
-#[cfg(test)]
-mod tests;
 pub mod work;

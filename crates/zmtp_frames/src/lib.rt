@@ -9,6 +9,4 @@ pub mod laws;
 pub mod metadata;
 mod names;
 pub mod reader;
-#[cfg(test)]
-mod tests;
 pub mod writing;

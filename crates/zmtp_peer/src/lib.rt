@@ -7,6 +7,4 @@ pub mod laws;
 pub mod parts;
 pub mod peer;
 pub mod phase;
-#[cfg(test)]
-mod tests;
 pub mod writing;

@@ -1,0 +1,6 @@
+pub mod Acting
+pub mod Extending
+pub mod Named
+pub mod Numbers
+pub mod Short
+pub mod Taking

@@ -1,0 +1,11 @@
+use Rattle.std.proofs.Common.{sym, subst}
+use Rattle.history_lock.specs.History.{Extends}
+use Rattle.controller_desk.specs.Contents.{content_of}
+use Rattle.controller_desk.proofs.Extending.{in_turn}
+use Rattle.controller_desk.proofs.desk.Desk.act.Goals as goal
+
+pub leave-requires-clause-later : goal.leave-requires-clause-later
+leave-requires-clause-later g c = subst (λ v. Extends v.seen (content_of g.D.Disk.faults c.act-result.new.self)) (sym c.enter-locked.ensures.known) c.act-result.ensures.on.extends
+
+pub returns-clause-turn : goal.returns-clause-turn
+returns-clause-turn g c = (c.enter-locked.result, c.act-result.new.self, in_turn g.D.Disk.faults _ _ _ c.enter-locked.result c.act-result.new.self c.enter-locked.ensures.later c.enter-locked.ensures.known c.leave.ensures.known c.act-result.ensures.on, c.act-result.ensures.acted.0, c.act-result.ensures.acted.1, c.act-result.ensures.acted.2)

@@ -1,0 +1,7 @@
+use Rattle.std.proofs.Common.{ℕ, ◌<◌, ◌^◌, subst}
+use Rattle.controller_desk.specs.Turns.{GoesOn}
+use Rattle.controller_desk.proofs.Extending.{acted_on}
+use Rattle.controller_desk.proofs.locked.Locked.act.Goals as goal
+
+pub returns-clause-on : goal.returns-clause-on
+returns-clause-on g c = subst (λ v. GoesOn g.D.Disk.faults v c.act_on.new.store) c.self.view_is (acted_on g.D.Disk.faults c.self.inside.store c.now-moment.result.millis c.next-word.result c.args.conn c.args.reading.message c.act_on.result c.act_on.new.store (subst (λ (n : ℕ). n < 2 ^ 64) c.fulls-fulls.ensures c.fulls-fulls.type_inv) c.act_on.ensures.acted)

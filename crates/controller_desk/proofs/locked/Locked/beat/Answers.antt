@@ -1,0 +1,8 @@
+use Rattle.std.proofs.Common.{ℕ, ◌<◌, ◌^◌, subst, refl}
+use Rattle.cluster_types.specs.declared.entry.Input.TheVariants.{Beat, Time}
+use Rattle.controller_desk.specs.Turns.{GoesOn}
+use Rattle.controller_desk.proofs.Extending.{tried_on}
+use Rattle.controller_desk.proofs.locked.Locked.beat.Goals as goal
+
+pub returns-clause-on : goal.returns-clause-on
+returns-clause-on g c = subst (λ v. GoesOn g.D.Disk.faults v c.beat_on.new.store) c.self.view_is (tried_on g.D.Disk.faults c.self.inside.store (Beat c.now-moment.result.millis c.next-word.result) c.beat_on.result c.beat_on.new.store (subst (λ (n : ℕ). n < 2 ^ 64) c.fulls-fulls.ensures c.fulls-fulls.type_inv) refl c.beat_on.ensures.tried)

@@ -1,0 +1,267 @@
+//! The calls of threads. Each but those on passes is one turn at the lock.
+
+ghost use Rattle.std.specs.Prelude.{◌≡◌, ◌<◌, ◌+◌, ◌↔◌, ◌≤◌, ℕ, [], Err, None, false, length, slice_index, IfOk, IfSome, IsSome, IsErr, OnOk, OnErr};
+ghost use Rattle.cluster_types.specs.Causes.{Rose};
+ghost use Rattle.cluster_defs.specs.Scheduling.{due};
+ghost use Rattle.cluster_defs.specs.Histories.{facts, Legal, is_stopping};
+ghost use Rattle.cluster_store.specs.Stores.{StoreView};
+ghost use Rattle.record_codec.specs.Spelling.{IsShort};
+ghost use Rattle.history_lock.specs.History.{Extends, merged};
+ghost use Rattle.history_lock.specs.Rule.{without_turn, whole, split_kept, split_given};
+ghost use Rattle.history_lock.specs.Names.{known, lock_of, room_of, lock_id, IsIdle};
+ghost use Rattle.controller_desk.specs.Calls.{HasTried, HasActed, HasOpened, HasClosed, HasTaken, HasFlushed};
+ghost use Rattle.controller_desk.specs.Contents.{content_of};
+ghost use Rattle.controller_desk.specs.Turns.{InTurn};
+ghost use Rattle.controller_desk.specs.Ups.{IsSet, ups};
+
+use crate::acted::Acted;
+use crate::fault::ActError;
+use crate::locked::Locked;
+use crate::reading::Reading;
+use cluster_store::store::Store;
+use cluster_store::taken::Taken;
+use cluster_types::config::Channel;
+use cluster_types::entry::Input;
+use disk_model::disk::Disk;
+use history_lock::lock::{HistoryLock, NoPass, Pass};
+use load_schemes::chooser::Chooser;
+use std::alloc::{AllocError, Global};
+use std::sync::Wait;
+use task_journal::fault::AppendFault;
+use thread_edges::clock::Clock;
+use thread_edges::words::Words;
+
+/// How many passes a desk has in all.
+const PASSES: u32 = 4096;
+
+/// A store that threads use by passes.
+#[derive(Drop)]
+pub struct Desk<D: Disk, C: Clock, W: Words> {
+    pub lock: HistoryLock<Locked<D, C, W>>,
+}
+
+impl<D: Disk + Drop, C: Clock + Drop, W: Words + Drop> Desk<D, C, W> {
+    /// A desk over a store on which no connection came up since the last Open, and its first pass.
+    pub fn new(
+        alloc: Global,
+        store: Store<D>,
+        clock: C,
+        random: W,
+    ) -> Result<(Desk<D, C, W>, Pass<Locked<D, C, W>>), AllocError>
+        requires set { IsSet store }
+        requires fresh { ups store.history ≡ 0 }
+        ensures lock { IfOk result (λ r. IsIdle (lock_id r.0.lock) r.1) }
+        ensures room { IfOk result (λ r. room_of r.1 + 1 ≡ 4096) }
+        ensures known { IfOk result (λ r. known r.1 ≡ without_turn whole (content_of D.faults store) []) }
+    {
+        let (lock, pass) = HistoryLock::new(alloc, Locked::new(store, clock, random), PASSES)?;
+        Ok((Desk { lock }, pass))
+    }
+
+    /// Takes a message on a connection, which was read before: best for the channel of the connection.
+    pub fn act<R: Wait>(
+        &self,
+        rt: &R,
+        pass: &mut Pass<Locked<D, C, W>>,
+        chooser: &Chooser,
+        conn: u32,
+        reading: Reading,
+    ) -> Result<Acted, ActError>
+        requires idle { IsIdle (lock_id self.now.lock) pass.old }
+        requires short { IsShort reading.message }
+        ensures idle { IsIdle (lock_id self.now.lock) pass.new }
+        ensures room { room_of pass.new ≡ room_of pass.old }
+        ensures turn { (before : StoreView D) × (after : StoreView D) × InTurn D.faults (known pass.old) before after (known pass.new)
+            × (moment : ℕ) × (word : ℕ) × HasActed before moment word conn reading.message result after }
+        ensures rests { Legal (known pass.new).seen.list × (due (facts (known pass.new).seen.list) ≡ None) }
+    {
+        let mut locked = self.lock.enter(rt, pass);
+        let result = locked.act(chooser, conn, reading);
+        locked.rest();
+        self.lock.leave(pass, locked);
+        result
+    }
+
+    /// Brings up a connection with the next number of this opening, from 1, where fewer than 1,024 are live. One without an identity is called after its number.
+    pub fn open_conn<R: Wait>(
+        &self,
+        rt: &R,
+        pass: &mut Pass<Locked<D, C, W>>,
+        chooser: &Chooser,
+        channel: Channel,
+        identity: &[u8],
+    ) -> Result<u32, ActError>
+        requires idle { IsIdle (lock_id self.now.lock) pass.old }
+        requires identity { length identity.now < 256 }
+        ensures idle { IsIdle (lock_id self.now.lock) pass.new }
+        ensures room { room_of pass.new ≡ room_of pass.old }
+        ensures turn { (before : StoreView D) × (after : StoreView D) × InTurn D.faults (known pass.old) before after (known pass.new)
+            × (moment : ℕ) × (word : ℕ) × HasOpened before moment word channel identity.now result after }
+        ensures rests { Legal (known pass.new).seen.list × (due (facts (known pass.new).seen.list) ≡ None) }
+    {
+        let mut locked = self.lock.enter(rt, pass);
+        let result = locked.open_conn(chooser, channel, identity);
+        locked.rest();
+        self.lock.leave(pass, locked);
+        result
+    }
+
+    /// Takes a connection down, where it is live.
+    pub fn close_conn<R: Wait>(
+        &self,
+        rt: &R,
+        pass: &mut Pass<Locked<D, C, W>>,
+        chooser: &Chooser,
+        conn: u32,
+    ) -> Result<bool, ActError>
+        requires idle { IsIdle (lock_id self.now.lock) pass.old }
+        ensures idle { IsIdle (lock_id self.now.lock) pass.new }
+        ensures room { room_of pass.new ≡ room_of pass.old }
+        ensures turn { (before : StoreView D) × (after : StoreView D) × InTurn D.faults (known pass.old) before after (known pass.new)
+            × (moment : ℕ) × (word : ℕ) × HasClosed before moment word conn result after }
+        ensures rests { Legal (known pass.new).seen.list × (due (facts (known pass.new).seen.list) ≡ None) }
+    {
+        let mut locked = self.lock.enter(rt, pass);
+        let result = locked.close_conn(chooser, conn);
+        locked.rest();
+        self.lock.leave(pass, locked);
+        result
+    }
+
+    /// Sends a round of heartbeats.
+    pub fn beat<R: Wait>(
+        &self,
+        rt: &R,
+        pass: &mut Pass<Locked<D, C, W>>,
+        chooser: &Chooser,
+    ) -> Result<(), ActError>
+        requires idle { IsIdle (lock_id self.now.lock) pass.old }
+        ensures idle { IsIdle (lock_id self.now.lock) pass.new }
+        ensures room { room_of pass.new ≡ room_of pass.old }
+        ensures turn { (before : StoreView D) × (after : StoreView D) × InTurn D.faults (known pass.old) before after (known pass.new)
+            × (moment : ℕ) × (word : ℕ) × HasTried before (Input.Beat moment word) result after }
+        ensures rests { Legal (known pass.new).seen.list × (due (facts (known pass.new).seen.list) ≡ None) }
+    {
+        let mut locked = self.lock.enter(rt, pass);
+        let result = locked.beat(chooser);
+        locked.rest();
+        self.lock.leave(pass, locked);
+        result
+    }
+
+    /// Lets time pass.
+    pub fn time<R: Wait>(
+        &self,
+        rt: &R,
+        pass: &mut Pass<Locked<D, C, W>>,
+        chooser: &Chooser,
+    ) -> Result<(), ActError>
+        requires idle { IsIdle (lock_id self.now.lock) pass.old }
+        ensures idle { IsIdle (lock_id self.now.lock) pass.new }
+        ensures room { room_of pass.new ≡ room_of pass.old }
+        ensures turn { (before : StoreView D) × (after : StoreView D) × InTurn D.faults (known pass.old) before after (known pass.new)
+            × (moment : ℕ) × (word : ℕ) × HasTried before (Input.Time moment word) result after }
+        ensures rests { Legal (known pass.new).seen.list × (due (facts (known pass.new).seen.list) ≡ None) }
+    {
+        let mut locked = self.lock.enter(rt, pass);
+        let result = locked.time(chooser);
+        locked.rest();
+        self.lock.leave(pass, locked);
+        result
+    }
+
+    /// Writes what is kept and isn't safe yet, without memory.
+    pub fn flush<R: Wait>(
+        &self,
+        rt: &R,
+        pass: &mut Pass<Locked<D, C, W>>,
+    ) -> Result<(), AppendFault>
+        requires idle { IsIdle (lock_id self.now.lock) pass.old }
+        ensures idle { IsIdle (lock_id self.now.lock) pass.new }
+        ensures room { room_of pass.new ≡ room_of pass.old }
+        ensures turn { (before : StoreView D) × (after : StoreView D) × InTurn D.faults (known pass.old) before after (known pass.new)
+            × HasFlushed D.faults before result after }
+        ensures rests { Legal (known pass.new).seen.list × (due (facts (known pass.new).seen.list) ≡ None) }
+    {
+        let mut locked = self.lock.enter(rt, pass);
+        let result = locked.flush();
+        locked.rest();
+        self.lock.leave(pass, locked);
+        result
+    }
+
+    /// Takes the next out to a connection, where all that is kept up to its entry is safe, without memory.
+    pub fn take_out<R: Wait>(&self, rt: &R, pass: &mut Pass<Locked<D, C, W>>, conn: u32) -> Taken
+        requires idle { IsIdle (lock_id self.now.lock) pass.old }
+        ensures idle { IsIdle (lock_id self.now.lock) pass.new }
+        ensures room { room_of pass.new ≡ room_of pass.old }
+        ensures turn { (before : StoreView D) × (after : StoreView D) × InTurn D.faults (known pass.old) before after (known pass.new)
+            × HasTaken before conn result after }
+        ensures rests { Legal (known pass.new).seen.list × (due (facts (known pass.new).seen.list) ≡ None) }
+    {
+        let mut locked = self.lock.enter(rt, pass);
+        let result = locked.take_out(conn);
+        locked.rest();
+        self.lock.leave(pass, locked);
+        result
+    }
+
+    /// Whether a shutdown was asked since the last Open.
+    pub fn stopping<R: Wait>(&self, rt: &R, pass: &mut Pass<Locked<D, C, W>>) -> bool
+        requires idle { IsIdle (lock_id self.now.lock) pass.old }
+        ensures idle { IsIdle (lock_id self.now.lock) pass.new }
+        ensures room { room_of pass.new ≡ room_of pass.old }
+        ensures later { Extends (known pass.old).seen (known pass.new).seen }
+        ensures added { (known pass.new).added ≡ (known pass.old).added }
+        ensures stops { result ≡ is_stopping (known pass.new).seen.list }
+    {
+        let locked = self.lock.enter(rt, pass);
+        let result = locked.stopping();
+        self.lock.leave(pass, locked);
+        result
+    }
+
+    /// Makes a pass with a room of its own, which has seen the same and has added nothing. `NoPass` where the room of
+    /// `pass` doesn't do.
+    pub fn split(
+        &self,
+        pass: &mut Pass<Locked<D, C, W>>,
+        room: u32,
+    ) -> Result<Pass<Locked<D, C, W>>, NoPass>
+        requires idle { IsIdle (lock_id self.now.lock) pass.old }
+        ensures exact { IsErr result ↔ (room_of pass.old ≤ room) }
+        ensures idle { IsIdle (lock_id self.now.lock) pass.new }
+        ensures room { OnOk result (room_of pass.new + room + 1 ≡ room_of pass.old) }
+        ensures known { OnOk result (known pass.new ≡ split_kept (known pass.old)) }
+        ensures err { OnErr result ((room_of pass.new ≡ room_of pass.old) × (known pass.new ≡ known pass.old)) }
+        ensures made { IfOk result (λ p. IsIdle (lock_id self.now.lock) p × (room_of p ≡ room) × (known p ≡ split_given (known pass.old))) }
+    {
+        self.lock.split(pass, room)
+    }
+
+    /// Takes in another pass, which is spent. Its room isn't given back.
+    pub fn join(&self, pass: &mut Pass<Locked<D, C, W>>, other: Pass<Locked<D, C, W>>)
+        requires idle { IsIdle (lock_id self.now.lock) pass.old }
+        requires other { IsIdle (lock_id self.now.lock) other }
+        ensures idle { IsIdle (lock_id self.now.lock) pass.new }
+        ensures room { room_of pass.new ≡ room_of pass.old }
+        ensures known { known pass.new ≡ without_turn ((known pass.old).share + (known other).share) (merged (known pass.old).seen (known other).seen) (known pass.old).added }
+        ensures later { Extends (known pass.old).seen (known pass.new).seen }
+        ensures others { Extends (known other).seen (known pass.new).seen }
+    {
+        self.lock.join(pass, other);
+    }
+
+    /// Ends the desk. It gives the store, unless a pass went off with the turn: always where every other pass was joined.
+    pub fn close(self, pass: Pass<Locked<D, C, W>>) -> Option<Store<D>>
+        requires idle { IsIdle (lock_id self.lock) pass }
+        ensures later { IfSome result (λ store. Extends (known pass).seen (content_of D.faults store)) }
+        ensures whole { (known pass).share ≡ whole → IsSome result }
+    {
+        let Desk { lock } = self;
+        match lock.close(pass) {
+            Some(locked) => Some(locked.close()),
+            None => None,
+        }
+    }
+}

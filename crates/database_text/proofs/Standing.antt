@@ -1,0 +1,20 @@
+-- What a disk stands for, and what a cluster goes on from.
+use Rattle.std.proofs.Common.{◌≡◌, List, ℕ, [], ◌∷◌, ◌++◌, Result, Ok, reverse, sym, ap, subst, ◌∙◌}
+use Rattle.std.proofs.lemmas.List.{append-nil}
+use Rattle.cluster_types.specs.declared.entry.Entry.{Entry}
+use Rattle.cluster_defs.specs.Histories.{History, Legal}
+use Rattle.cluster_store.specs.Openings.{IsFit}
+use Rattle.task_journal.specs.declared.fault.OpenFault.{OpenFault}
+use Rattle.task_journal.specs.declared.found.Found.{Found}
+use Rattle.task_journal.specs.Journal.{StandsFor, holding}
+
+found_is : (a b : Found) → ◌≡◌ {A = Result Found OpenFault} (Ok a) (Ok b) → a ≡ b
+found_is a b e = cc
+
+-- a disk stands for one list
+pub one_list : (octets : List ℕ) (a b : List Entry) → StandsFor octets a → StandsFor octets b → a ≡ b
+one_list octets a b p q = ap (λ (f : Found). f.entries) (found_is (holding a p.0) (holding b q.0) (sym p.1 ∙ q.1))
+
+-- a list that a cluster goes on from is that of a legal history
+pub fit_legal : (list : List Entry) → IsFit list → Legal (reverse list)
+fit_legal list fit = subst (λ (h : History). Legal h) (append-nil (reverse list)) fit.0.legal

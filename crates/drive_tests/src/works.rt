@@ -1,0 +1,69 @@
+//! Runs by worked values.
+
+ghost use Rattle.std.specs.Prelude.{◌<◌, ◌≡◌, length};
+ghost use Rattle.cluster_defs.specs.Scheduling.{pick};
+
+use cluster_types::config::Scheme;
+use disk_model::memory::MemDisk;
+use generated_work::summary::Summary;
+use load_schemes::chooser::Chooser;
+use load_schemes::place::place_of;
+use std::alloc::{AllocError, Global};
+use std::process::Abort;
+use work_drive::fault::WorkError;
+use work_drive::work::work;
+
+/// A chooser of the four schemes.
+fn chooser(alloc: Global) -> Result<Chooser, AllocError> {
+    let choose = Box::new(
+        alloc,
+        |scheme: Scheme, loads: &[u32], word: u64| -> usize
+            requires { 0 < length loads.now }
+            ensures { result ≡ pick scheme loads.now word }
+        { place_of(scheme, loads, word) },
+    )?;
+    Ok(Chooser::new(choose))
+}
+
+/// The lines of the summary of a seed and so many tasks, over an empty disk.
+fn lines<R: Abort>(rt: &R, alloc: Global, seed: u32, tasks: u32) -> String {
+    let chooser = chooser(alloc).expect(rt, "memory is ample");
+    let disk = MemDisk::new(alloc, b"").expect(rt, "memory is ample");
+    assert!(rt; seed < 2_147_483_648 && tasks <= 500_000);
+    let (answer, _disk) = work(alloc, disk, &chooser, seed, tasks);
+    let summary = answer.expect(rt, "a summary");
+    summary.lines(alloc).expect(rt, "memory is ample")
+}
+
+#[test]
+fn summaries(rt: HostRuntime) {
+    for (seed, tasks, text) in [
+        (
+            1,
+            0,
+            "tasks 0\ncompleted 0\nfailed 0\nhands 0\nentries 10\nsum 0\n",
+        ),
+        (
+            1,
+            2,
+            "tasks 2\ncompleted 2\nfailed 0\nhands 2\nentries 18\nsum 2093\n",
+        ),
+        (
+            7,
+            1,
+            "tasks 1\ncompleted 1\nfailed 0\nhands 1\nentries 14\nsum 284\n",
+        ),
+    ] {
+        assert_eq!(rt; lines(&rt, rt.alloc(), seed, tasks).as_str(), text);
+    }
+}
+
+#[test]
+fn a_disk_that_is_not_empty(rt: HostRuntime) {
+    let alloc = rt.alloc();
+    let chooser = chooser(alloc).expect(&rt, "memory is ample");
+    let disk = MemDisk::new(alloc, b"x").expect(&rt, "memory is ample");
+    let (answer, disk) = work(alloc, disk, &chooser, 1, 2);
+    assert!(rt; matches!(answer, Err(WorkError::NotEmpty(0))));
+    assert_eq!(rt; disk.content(), b"x".as_slice());
+}

@@ -1,5 +1,0 @@
-use Rattle.history_lock.specs.Names.{IsIdle, lock_id}
-use Rattle.history_lock.proofs.tests.lose_often.Given as goal
-
-abbrev pub invariant-loop : goal.invariant-loop
-invariant-loop g l = IsIdle (lock_id l.lock) l.pass

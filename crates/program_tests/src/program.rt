@@ -1,0 +1,233 @@
+//! Tests of the top call.
+
+ghost use Rattle.std.specs.Prelude.{◌≡◌, ◌<◌, length};
+ghost use Rattle.cluster_defs.specs.Scheduling.{pick};
+
+mod crashes;
+mod one_task;
+mod rows;
+
+use cluster_types::config::Scheme;
+use cluster_types::message::WordList;
+use cluster_types::text::Text;
+use disk_model::fuse::FuseDisk;
+use disk_model::memory::MemDisk;
+use edges::memory::{MemSink, MemSource};
+use load_schemes::chooser::{Choose, Chooser};
+use load_schemes::place::place_of;
+use quick_commands::quick::quick;
+use std::alloc::{AllocError, Global};
+use std::process::Abort;
+
+/// An Up of connection 1 on channel engine, bare, with the identity `c`.
+const UP: &[u8] = b"\x01\0\0\0\0\0\0\0\0\0\0\0\0\0\0\0\0\0\0\0\x01\x03\x01\x01c";
+
+/// The Up, and five octets of a round of heartbeats.
+const TORN: &[u8] = b"\x01\0\0\0\0\0\0\0\0\0\0\0\0\0\0\0\0\0\0\0\x01\x03\x01\x01c\x04\0\0\0\0";
+
+/// The Up, and time that passes, whose records have 24 and 17 octets.
+const LATER: &[u8] =
+    b"\x01\0\0\0\0\0\0\0\0\0\0\0\0\0\0\0\0\0\0\0\x01\x03\x01\x01c\x05\0\0\0\0\0\0\0\0\0\0\0\0\0\0\0\0";
+
+/// The Up twice: a number must be above those before it.
+const TWICE: &[u8] =
+    b"\x01\0\0\0\0\0\0\0\0\0\0\0\0\0\0\0\0\0\0\0\x01\x03\x01\x01c\x01\0\0\0\0\0\0\0\0\0\0\0\0\0\0\0\0\0\0\0\x01\x03\x01\x01c";
+
+/// An Up with the identity `e`, and the registration of the engine `e0` on its connection, signed under the key `k`.
+const JOINING: &[u8] =
+    b"\x01\0\0\0\0\0\0\0\0\0\0\0\0\0\0\0\0\0\0\0\x01\x03\x01\x01e\x06\0\0\0\0\0\0\0\0\0\0\0\0\0\0\0\0\0\0\0\x01\x06\0\0\0\x09<IDS|MSG>\0\0\0@d2f52e7ee3d1bb06564157fe40e43ed04a1d7379b14330f3fc557ded7a84af38\0\0\06{\"msg_id\":\"join-e0\",\"msg_type\":\"registration_request\"}\0\0\0\x02{}\0\0\0\x02{}\0\0\0\x0d{\"uuid\":\"e0\"}";
+
+/// The same on connection 2, with the identity `f`.
+const SECOND: &[u8] =
+    b"\x01\0\0\0\0\0\0\0\0\0\0\0\0\0\0\0\0\0\0\0\x02\x03\x01\x01f\x06\0\0\0\0\0\0\0\0\0\0\0\0\0\0\0\0\0\0\0\x02\x06\0\0\0\x09<IDS|MSG>\0\0\0@d2f52e7ee3d1bb06564157fe40e43ed04a1d7379b14330f3fc557ded7a84af38\0\0\06{\"msg_id\":\"join-e0\",\"msg_type\":\"registration_request\"}\0\0\0\x02{}\0\0\0\x02{}\0\0\0\x0d{\"uuid\":\"e0\"}";
+
+fn words<R: Abort>(rt: &R, alloc: Global, texts: &[&str]) -> WordList {
+    let mut words = WordList::new(alloc);
+    for text in texts {
+        let text = Text::new(alloc, text).expect(rt, "memory is ample");
+        words.push(text).expect(rt, "memory is ample");
+    }
+    words
+}
+
+/// Which reads of the input, writes of the output and writes of the errors fail, counted from 1.
+#[derive(Clone, Copy)]
+struct Failing<'a> {
+    reads: &'a [u64],
+    writes: &'a [u64],
+    lines: &'a [u64],
+}
+
+const NONE: Failing = Failing {
+    reads: &[],
+    writes: &[],
+    lines: &[],
+};
+
+/// What a run left.
+#[derive(Drop)]
+struct Left {
+    status: u8,
+    output: MemSink,
+    errors: MemSink,
+    disk: MemDisk,
+}
+
+/// A disk with this content whose call of one number fails; 0 is the number of none.
+fn disk_of<R: Abort>(rt: &R, alloc: Global, content: &[u8], call: u64) -> FuseDisk {
+    let disk = MemDisk::new(alloc, content).expect(rt, "memory is ample");
+    FuseDisk::new(disk, call)
+}
+
+/// A chooser that places tasks as a controller does.
+fn new_chooser(alloc: Global) -> Result<Chooser, AllocError> {
+    let choose: Choose = Box::new(
+        alloc,
+        |scheme: Scheme, loads: &[u32], word: u64| -> usize
+            requires { 0 < length loads.now }
+            ensures { result ≡ pick scheme loads.now word }
+        { place_of(scheme, loads, word) },
+    )?;
+    Ok(Chooser::new(choose))
+}
+
+/// Does what these words ask for, on this input, over a disk.
+fn run<R: Abort>(
+    rt: &R,
+    alloc: Global,
+    texts: &[&str],
+    tape: &[u8],
+    failing: &Failing,
+    disk: FuseDisk,
+) -> Left {
+    let words = words(rt, alloc, texts);
+    let mut input = MemSource::new(alloc, tape, failing.reads).expect(rt, "memory is ample");
+    let mut output = MemSink::new(alloc, failing.writes).expect(rt, "memory is ample");
+    let mut errors = MemSink::new(alloc, failing.lines).expect(rt, "memory is ample");
+    let chooser = new_chooser(alloc).expect(rt, "memory is ample");
+    let (status, disk) = quick(
+        alloc,
+        &words,
+        &mut input,
+        &mut output,
+        &mut errors,
+        disk,
+        chooser,
+    );
+    Left {
+        status,
+        output,
+        errors,
+        disk: disk.into_disk(),
+    }
+}
+
+const REPLAY: &[&str] = &["replay", "--key", "k", "db"];
+
+const ONE_ENTRY: &[&str] = &["replay", "--key", "k", "--entries", "1", "db"];
+
+const WORK: &[&str] = &["work", "1", "2"];
+
+const UNREAD: &[&str] = &["replay", "db", "--key"];
+
+/// Whether these words, on this tape, come to this status and this line of the errors, with nothing written.
+fn ends_as<R: Abort>(
+    rt: &R,
+    alloc: Global,
+    texts: &[&str],
+    tape: &[u8],
+    failing: &Failing,
+    status: u8,
+    line: &str,
+) -> bool {
+    let left = run(rt, alloc, texts, tape, failing, disk_of(rt, alloc, b"", 0));
+    left.status == status
+        && left.errors.written() == line.as_bytes()
+        && left.output.written().is_empty()
+}
+
+const SECOND_READ: Failing = Failing {
+    reads: &[2],
+    writes: &[],
+    lines: &[],
+};
+
+const FIRST_WRITE: Failing = Failing {
+    reads: &[],
+    writes: &[1],
+    lines: &[],
+};
+
+const SECOND_WRITE: Failing = Failing {
+    reads: &[],
+    writes: &[2],
+    lines: &[],
+};
+
+const FIRST_LINE: Failing = Failing {
+    reads: &[],
+    writes: &[],
+    lines: &[1],
+};
+
+#[test]
+fn ends(rt: HostRuntime) {
+    let alloc = rt.alloc();
+    for (texts, tape, failing, status, line) in [
+        (REPLAY, b"".as_slice(), &NONE, 0, ""),
+        (REPLAY, TORN, &NONE, 6, "ipcluster: bad tape at 25\n"),
+        (REPLAY, TWICE, &NONE, 6, "ipcluster: bad tape at 25\n"),
+        (
+            UNREAD,
+            UP,
+            &NONE,
+            2,
+            "ipcluster: the command line has no reading\n",
+        ),
+        (REPLAY, UP, &SECOND_READ, 3, "ipcluster: read fault\n"),
+        (REPLAY, JOINING, &FIRST_WRITE, 4, "ipcluster: write fault\n"),
+        (REPLAY, TORN, &FIRST_LINE, 6, ""),
+        (WORK, b"", &FIRST_WRITE, 4, "ipcluster: write fault\n"),
+        (
+            ONE_ENTRY,
+            LATER,
+            &NONE,
+            9,
+            "ipcluster: history full at 2 entries and 41 bytes\n",
+        ),
+    ] {
+        assert!(rt;
+            ends_as(&rt, alloc, texts, tape, failing, status, line),
+            "at {line}"
+        );
+    }
+}
+
+#[test]
+fn an_engine_joins_before_a_write_fails(rt: HostRuntime) {
+    let alloc = rt.alloc();
+    let first = run(
+        &rt,
+        alloc,
+        REPLAY,
+        JOINING,
+        &NONE,
+        disk_of(&rt, alloc, b"", 0),
+    );
+    assert!(rt; first.status == 0 && first.errors.written().is_empty());
+    assert!(rt;
+        first
+            .output
+            .written()
+            .ends_with(b"{\"status\":\"ok\",\"id\":0}")
+    );
+    let mut tape = Vec::from_slice(alloc, JOINING).expect(&rt, "memory is ample");
+    tape.extend_from_slice(SECOND)
+        .expect(&rt, "memory is ample");
+    let disk = disk_of(&rt, alloc, b"", 0);
+    let left = run(&rt, alloc, REPLAY, tape.as_slice(), &SECOND_WRITE, disk);
+    assert!(rt;
+        left.status == 4 && left.errors.written() == b"ipcluster: write fault\n".as_slice()
+    );
+    assert!(rt; left.output.written() == first.output.written());
+}

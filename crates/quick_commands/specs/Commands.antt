@@ -1,0 +1,81 @@
+-- How each command ends, and what it leaves.
+use Rattle.std.specs.Prelude.{◌≡◌, ◌⊎◌, ℕ, List, Option}
+use Rattle.cluster_types.specs.declared.entry.Entry.{Entry}
+use Rattle.command_words.specs.declared.command.Command.{Command}
+use Rattle.command_words.specs.declared.command.Command.TheVariants.{Replay, Dump, Check, Compact, Work}
+use Rattle.command_words.specs.declared.ending.Ending.{Ending}
+use Rattle.command_words.specs.declared.ending.Ending.TheVariants.{Done, Usage, ReadFault, WriteFault, DiskFault, Damaged, OutOfMemory, Different}
+use Rattle.command_words.specs.Lines.{line}
+use Rattle.database_text.specs.Texts.{IsDamaged, WroteFront, Told, DiffersAt}
+use Rattle.database_text.specs.Compacted.{compact_octets, IsUnfitAt, IsCompacted}
+use Rattle.edges.specs.Streams.{Added, IsAtEnd}
+use Rattle.history_text.specs.Lines.{text}
+use Rattle.task_journal.specs.Journal.{StandsFor}
+use Rattle.quick_commands.specs.Replays.{ReplayEnds, MayLeave}
+use Rattle.quick_commands.specs.Works.{WorkEnds}
+use Rattle.quick_commands.specs.Written.{Said}
+
+-- the line of an end is written to the errors, and nothing where all was done
+abbrev pub Says : Ending → (before now : Option (List ℕ)) → (faults later : ℕ) → Type 0
+Says Done before now faults later = now ≡ before
+Says end before now faults later = Said (line end) before now faults later
+
+-- words without a reading were told so, unless there was no memory
+abbrev pub Unread : Ending → Type 0
+Unread end = (end ≡ Usage) ⊎ (end ≡ OutOfMemory)
+
+-- a fact of a list of entries, for which the disk stands where it tells
+abbrev pub Of : (tells : Type 0) → List ℕ → (List Entry → Type 0) → Type 0
+Of tells content P = (list : List Entry) × (tells → StandsFor content list) × P list
+
+-- how a dump ends: with the text of the entries, or a front of it
+abbrev pub DumpEnds : (tells : Type 0) → List ℕ → (before now : Option (List ℕ)) → Ending → Type 0
+DumpEnds tells content before now Done = Of tells content (λ list. Added (text list) before now)
+DumpEnds tells content before now WriteFault = tells → (list : List Entry) → StandsFor content list → WroteFront (text list) before now
+DumpEnds tells content before now OutOfMemory = tells → (list : List Entry) → StandsFor content list → WroteFront (text list) before now
+DumpEnds tells content before now DiskFault = now ≡ before
+DumpEnds tells content before now (Damaged place) = (now ≡ before) × (tells → IsDamaged content place)
+DumpEnds tells content before now _ = ⊥
+
+-- how a check ends: the input is the text of the entries, or differs from it at a place
+abbrev pub CheckEnds : (tells : Type 0) → List ℕ → (left rest : Option (List ℕ)) → Ending → Type 0
+CheckEnds tells content left rest Done = Of tells content (λ list. Told left (λ octets. octets ≡ text list)) × IsAtEnd rest
+CheckEnds tells content left rest (Different place) = Of tells content (λ list. Told left (λ octets. DiffersAt octets (text list) place))
+CheckEnds tells content left rest (Damaged place) = (rest ≡ left) × (tells → IsDamaged content place)
+CheckEnds tells content left rest ReadFault = Unit {0}
+CheckEnds tells content left rest DiskFault = rest ≡ left
+CheckEnds tells content left rest OutOfMemory = Unit {0}
+CheckEnds tells content left rest _ = ⊥
+
+-- how a compact ends: with the octets of a journal of the list without what purges let go, or a front of them
+abbrev pub CompactEnds : (tells : Type 0) → List ℕ → (before now : Option (List ℕ)) → Ending → Type 0
+CompactEnds tells content before now Done = IsCompacted tells content before now
+CompactEnds tells content before now WriteFault = tells → (list : List Entry) → StandsFor content list → WroteFront (compact_octets list) before now
+CompactEnds tells content before now OutOfMemory = tells → (list : List Entry) → StandsFor content list → WroteFront (compact_octets list) before now
+CompactEnds tells content before now DiskFault = now ≡ before
+CompactEnds tells content before now (Damaged place) = (now ≡ before) × (tells → IsUnfitAt content place)
+CompactEnds tells content before now _ = ⊥
+
+-- how a command ends
+abbrev pub Ends : (tells : Type 0) → List ℕ → (left rest before now : Option (List ℕ)) → (old new : List ℕ → Type 0) → Command → Ending → Type 0
+Ends tells content left rest before now old new (Replay database options) end = ReplayEnds tells content options left rest before now old new end
+Ends tells content left rest before now old new (Dump database) end = DumpEnds tells content before now end
+Ends tells content left rest before now old new (Check database) end = (now ≡ before) × CheckEnds tells content left rest end
+Ends tells content left rest before now old new (Compact database) end = CompactEnds tells content before now end
+Ends tells content left rest before now old new (Work seed tasks) end = WorkEnds tells content seed tasks before now new end
+
+-- whether a command is about a database, and not about a disk in memory
+abbrev pub HasDatabase : Command → Type 0
+HasDatabase (Work seed tasks) = ⊥
+HasDatabase _ = Unit {0}
+
+-- whether a command changes nothing on the disk
+abbrev pub OnlyLooks : Command → Type 0
+OnlyLooks (Replay database options) = ⊥
+OnlyLooks (Work seed tasks) = ⊥
+OnlyLooks _ = Unit {0}
+
+-- what a crash at any moment of a command about a database may leave
+abbrev pub MayLeaveOf : Command → List ℕ → List ℕ → (List ℕ → Type 0) → List ℕ → Type 0
+MayLeaveOf (Replay database options) content octets old c = MayLeave content options octets old c
+MayLeaveOf _ content octets old c = old c

@@ -1,0 +1,282 @@
+//! Journals of other programs, and disks that fail or are damaged.
+
+use cluster_types::config::Scheme;
+use cluster_types::entry::{Entries, Entry, Input};
+use disk_model::disk::Disk;
+use disk_model::fuse::FuseDisk;
+use disk_model::memory::MemDisk;
+use std::alloc::Global;
+use std::process::Abort;
+use task_journal::batch::Batch;
+use task_journal::fault::{AppendFault, OpenFault};
+use task_journal::journal::Journal;
+use task_journal::reading::read_journal;
+
+/// A journal of one Open under the default options.
+const ONE_OPEN: [u8; 60] = [
+    0x49, 0x50, 0x43, 0x4a, 0x52, 0x4e, 0x4c, 0x31, 0x00, 0x00, 0x00, 0x01, 0x00, 0x00, 0x00, 0x00,
+    0x00, 0x00, 0x00, 0x00, 0x00, 0x00, 0x00, 0x00, 0x00, 0x00, 0x00, 0x00, 0x00, 0x00, 0x00, 0xa7,
+    0x00, 0x00, 0x00, 0x00, 0x12, 0x00, 0x00, 0x00, 0x01, 0x01, 0x00, 0x00, 0x00, 0x00, 0x00, 0x00,
+    0x00, 0x00, 0x01, 0x00, 0x00, 0x00, 0x01, 0x00, 0x00, 0x00, 0x0a, 0x00,
+];
+
+/// A journal of three batches: an Open; an Up of an engine and the loss of engine 4; a task that is handed out.
+const THREE: [u8; 117] = [
+    0x49, 0x50, 0x43, 0x4a, 0x52, 0x4e, 0x4c, 0x31, 0x00, 0x00, 0x00, 0x01, 0x00, 0x00, 0x00, 0x00,
+    0x00, 0x00, 0x00, 0x00, 0x00, 0x00, 0x00, 0x00, 0x00, 0x00, 0x00, 0x00, 0x00, 0x00, 0x00, 0xa7,
+    0x00, 0x00, 0x00, 0x00, 0x12, 0x00, 0x00, 0x00, 0x01, 0x01, 0x00, 0x00, 0x00, 0x00, 0x00, 0x00,
+    0x00, 0x00, 0x01, 0x00, 0x00, 0x00, 0x01, 0x00, 0x00, 0x00, 0x0a, 0xa7, 0x00, 0x00, 0x00, 0x00,
+    0x1d, 0x00, 0x00, 0x00, 0x02, 0x02, 0x00, 0x00, 0x00, 0x01, 0x03, 0x00, 0x00, 0x00, 0x00, 0x00,
+    0x00, 0x00, 0x00, 0x00, 0x00, 0x00, 0x00, 0x00, 0x00, 0x00, 0x00, 0x01, 0x65, 0x09, 0x00, 0x00,
+    0x00, 0x04, 0xa7, 0x00, 0x00, 0x00, 0x00, 0x08, 0x00, 0x00, 0x00, 0x01, 0x07, 0x02, 0x74, 0x31,
+    0x00, 0x00, 0x00, 0x00, 0x00,
+];
+
+/// The batch of an Open under the default options.
+fn open_batch<R: Abort>(rt: &R, alloc: Global) -> Batch {
+    let mut entries = Entries::new(alloc);
+    let open = Entry::Input(Input::Open {
+        moment: 0,
+        scheme: Scheme::LeastLoad,
+        hwm: 1,
+        misses: 10,
+    });
+    entries.push(open).expect(rt, "memory is ample");
+    let mut batch = Batch::empty(alloc).expect(rt, "memory is ample");
+    batch.extend(entries.as_slice()).expect(rt, "a batch");
+    batch
+}
+
+#[test]
+fn a_batch_grows_and_is_cleared(rt: HostRuntime) {
+    let mut batch = open_batch(&rt, rt.alloc());
+    assert!(rt; batch.size() == 18 && !batch.is_empty());
+    batch.clear();
+    assert!(rt; batch.size() == 0 && batch.is_empty());
+}
+
+/// The number of entries that a disk stands for, or why there are none.
+fn count<D: Disk>(alloc: Global, disk: &mut D) -> Result<usize, OpenFault> {
+    let (entries, _) = read_journal(alloc, disk)?;
+    Ok(entries.len())
+}
+
+/// The number of entries that octets stand for, or why there are none.
+fn read<R: Abort>(rt: &R, alloc: Global, octets: &[u8]) -> Result<usize, OpenFault> {
+    let mut disk = MemDisk::new(alloc, octets).expect(rt, "memory is ample");
+    count(alloc, &mut disk)
+}
+
+/// The number of entries that are read from a disk whose call of that number fails, or why there are none.
+fn read_failing<R: Abort>(
+    rt: &R,
+    alloc: Global,
+    octets: &[u8],
+    call: u64,
+) -> Result<usize, OpenFault> {
+    let disk = MemDisk::new(alloc, octets).expect(rt, "memory is ample");
+    count(alloc, &mut FuseDisk::new(disk, call))
+}
+
+#[test]
+fn each_read_fails(rt: HostRuntime) {
+    // The size and the head; then three gates, each with its records, and the closed gate.
+    for call in 1..11 {
+        let answer = if call < 10 {
+            Err(OpenFault::DiskFault)
+        } else {
+            Ok(4)
+        };
+        assert_eq!(rt;
+            read_failing(&rt, rt.alloc(), &THREE, call),
+            answer,
+            "{call}"
+        );
+    }
+}
+
+/// The number of entries with which a journal of so many batches opens, each the loss of engine 4.
+fn open_batches<R: Abort>(rt: &R, alloc: Global, count: usize) -> Result<usize, OpenFault> {
+    let mut octets = Vec::from_slice(alloc, &ONE_OPEN[..31]).expect(rt, "memory is ample");
+    for _ in 0..count {
+        octets
+            .extend_from_slice(&[0xa7, 0, 0, 0, 0, 5, 0, 0, 0, 1, 9, 0, 0, 0, 4])
+            .expect(rt, "memory is ample");
+    }
+    octets
+        .extend_from_slice(&[0, 0])
+        .expect(rt, "memory is ample");
+    let disk = MemDisk::new(alloc, octets.as_slice()).expect(rt, "memory is ample");
+    match Journal::open(alloc, disk) {
+        Ok((_, entries, _)) => Ok(entries.len()),
+        Err(refused) => Err(refused.why),
+    }
+}
+
+#[test]
+fn many_batches_open(rt: HostRuntime) {
+    assert_eq!(rt; open_batches(&rt, rt.alloc(), 1_025), Ok(1_025));
+}
+
+/// Whether a journal of which a call failed takes no batch.
+fn takes_none(journal: &mut Journal<FuseDisk>, batch: &Batch) -> bool {
+    journal.append(batch) == Err(AppendFault::Reopen) && journal.failed()
+}
+
+/// Appends an Open to a journal, and says what came of it: 1 where the batch wasn't appended, 2 where it was. With it the
+/// octets of the disk.
+fn appended<R: Abort>(rt: &R, alloc: Global, mut journal: Journal<FuseDisk>) -> (u8, MemDisk) {
+    let batch = open_batch(rt, alloc);
+    let came = match journal.append(&batch) {
+        Ok(()) => 2,
+        Err(fault) => {
+            assert_eq!(rt; fault, AppendFault::DiskFault);
+            assert!(rt; takes_none(&mut journal, &open_batch(rt, alloc)));
+            1
+        }
+    };
+    (came, journal.close().into_disk())
+}
+
+/// Opens the journal of a disk whose call of that number fails, appends an Open, and says what came of it: 0 where the
+/// journal wasn't opened, 1 where the batch wasn't appended, 2 where it was. With it the octets of the disk.
+fn opened<R: Abort>(rt: &R, alloc: Global, call: u64) -> (u8, MemDisk) {
+    let disk = MemDisk::new(alloc, b"").expect(rt, "memory is ample");
+    match Journal::open(alloc, FuseDisk::new(disk, call)) {
+        Err(refused) => {
+            assert_eq!(rt; refused.why, OpenFault::DiskFault);
+            (0, refused.disk.into_disk())
+        }
+        Ok((journal, _, _)) => appended(rt, alloc, journal),
+    }
+}
+
+#[test]
+fn each_call_fails(rt: HostRuntime) {
+    // A sync, the size and four calls that make the head; then the four of the batch.
+    for call in 1..11 {
+        let (came, disk) = opened(&rt, rt.alloc(), call);
+        assert_eq!(rt; came, if call < 7 { 0 } else { 1 });
+        assert_eq!(rt;
+            read(&rt, rt.alloc(), disk.content()),
+            Ok(if call < 10 { 0 } else { 1 }),
+            "{call}"
+        );
+    }
+    let (came, disk) = opened(&rt, rt.alloc(), 11);
+    assert_eq!(rt; came, 2);
+    assert!(rt; disk.content() == ONE_OPEN.as_slice());
+}
+
+/// Places of ONE_OPEN, octets that stand there instead, and what comes of it: a gate that never opened, a scheme that isn't
+/// listed, another version, one record more in the number, and one octet more in the length.
+const DAMAGED: &[(usize, u8, Result<usize, OpenFault>)] = &[
+    (59, 0x37, Ok(1)),
+    (41, 0x0f, Err(OpenFault::Damaged(41))),
+    (7, 0x32, Err(OpenFault::NotAJournal(7))),
+    (40, 2, Err(OpenFault::Damaged(59))),
+    (36, 0x13, Err(OpenFault::Damaged(59))),
+];
+
+/// ONE_OPEN with that octet at a place, and with a hundred octets behind it where that is its last one.
+fn damaged<R: Abort>(rt: &R, alloc: Global, place: usize, octet: u8) -> Vec<u8> {
+    let mut octets = Vec::from_slice(alloc, &ONE_OPEN).expect(rt, "memory is ample");
+    if let Some(it) = octets.get_mut(place) {
+        *it = octet;
+    }
+    if place == 59 {
+        octets
+            .extend_from_slice(&[0xa7; 100])
+            .expect(rt, "memory is ample");
+    }
+    octets
+}
+
+#[test]
+fn damage_is_told(rt: HostRuntime) {
+    let alloc = rt.alloc();
+    for (place, octet, answer) in DAMAGED {
+        let octets = damaged(&rt, alloc, *place, *octet);
+        assert_eq!(rt; read(&rt, alloc, octets.as_slice()), *answer, "at {place}");
+    }
+    for size in [0, 10, 32] {
+        assert_eq!(rt; read(&rt, alloc, &[0xa7; 33][..size]), Ok(0));
+    }
+    assert_eq!(rt;
+        read(&rt, alloc, &[0xa7; 33]),
+        Err(OpenFault::NotAJournal(0))
+    );
+}
+
+/// The place of the last gate or record of the journal of three batches that begins within so many octets.
+fn last_begin(size: usize) -> u64 {
+    let mut place = 31;
+    for begins in [41, 59, 69, 93, 98, 108, 116] {
+        if begins <= size {
+            place = begins;
+        }
+    }
+    place as u64
+}
+
+#[test]
+fn a_journal_is_cut(rt: HostRuntime) {
+    let alloc = rt.alloc();
+    for size in 0..THREE.len() {
+        let answer = if size < 33 {
+            Ok(0)
+        } else {
+            Err(OpenFault::Damaged(last_begin(size)))
+        };
+        assert_eq!(rt; read(&rt, alloc, &THREE[..size]), answer, "{size}");
+    }
+    let mut disk = MemDisk::new(alloc, &THREE).expect(&rt, "memory is ample");
+    let (entries, places) = read_journal(alloc, &mut disk).expect(&rt, "a journal");
+    assert_eq!(rt; entries.len(), 4);
+    assert_eq!(rt; places.as_slice(), [41, 69, 93, 108, 116].as_slice());
+}
+
+/// A journal of a message with that many octets of content, and of the loss of engine 4.
+fn long_journal<R: Abort>(rt: &R, alloc: Global, content: u16) -> Vec<u8> {
+    let mut octets = Vec::from_slice(alloc, &ONE_OPEN[..31]).expect(rt, "memory is ample");
+    let message = [
+        4, 0, 0, 0, 2, 0, 0, 0, 0, 0, 0, 0, 5, 0, 0, 0, 0, 0, 0, 0, 6, 0, 0, 0, 0, 0, 0, 0, 0, 0,
+        0, 0, 0, 0,
+    ];
+    let size = u32::from(content) * 4;
+    octets
+        .extend_from_slice(&[0xa7, 0])
+        .expect(rt, "memory is ample");
+    octets
+        .extend_from_slice(&(size + 44).to_be_bytes())
+        .expect(rt, "memory is ample");
+    octets
+        .extend_from_slice(&[0, 0, 0, 2])
+        .expect(rt, "memory is ample");
+    octets
+        .extend_from_slice(&message)
+        .expect(rt, "memory is ample");
+    octets
+        .extend_from_slice(&size.to_be_bytes())
+        .expect(rt, "memory is ample");
+    let end = octets.len().saturating_add(size as usize);
+    octets.resize(end, 0x20).expect(rt, "memory is ample");
+    octets
+        .extend_from_slice(&[0, 9, 0, 0, 0, 4, 0])
+        .expect(rt, "memory is ample");
+    octets
+}
+
+#[test]
+fn records_go_on_over_pieces(rt: HostRuntime) {
+    let alloc = rt.alloc();
+    for content in [16_384, 65_535] {
+        let octets = long_journal(&rt, alloc, content);
+        assert_eq!(rt; read(&rt, alloc, octets.as_slice()), Ok(2));
+        let end = octets.len().saturating_sub(2);
+        assert_eq!(rt;
+            read(&rt, alloc, &octets[..end]),
+            Err(OpenFault::Damaged(octets.len().saturating_sub(6) as u64))
+        );
+    }
+}

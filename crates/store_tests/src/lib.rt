@@ -1,0 +1,14 @@
+//! Tests of disks, journals and the store. They stand in a crate of their own since a crate that has tests is proved
+//! twice.
+#![tactic(auto)]
+
+#[cfg(test)]
+mod choosing;
+#[cfg(test)]
+mod compacted;
+#[cfg(test)]
+mod disks;
+#[cfg(test)]
+mod journals;
+#[cfg(test)]
+mod stores;

@@ -1,0 +1,4 @@
+pub mod Links
+pub mod Series
+pub mod Starts
+pub mod Words

@@ -1,0 +1,120 @@
+//! Links over TCP.
+
+ghost use Rattle.std.specs.Prelude.{◌≡◌, IfOk, IfSome, None};
+
+use crate::links::{Accepted, Dialer, Listener};
+use edges::standard::{StdSink, StdSource};
+use std::io;
+use std::net::{Net, TcpListener, TcpStream};
+use std::sync::Wait;
+
+/// The two halves of a connection. What is written goes out at once, where the system lets it: one that doesn't
+/// is only slower.
+fn halves(stream: TcpStream) -> io::Result<(StdSource<TcpStream>, StdSink<TcpStream>)>
+    ensures { IfOk result (λ link. (link.0.faults ≡ 0) × (link.1.faults ≡ 0)) }
+{
+    let _ = stream.set_nodelay(true);
+    let other = stream.try_clone()?;
+    Ok((StdSource::new(stream), StdSink::new(other)))
+}
+
+/// A port on which connections are accepted. It never ends.
+#[derive(Drop)]
+pub struct TcpPort {
+    pub listener: TcpListener,
+    pub faults: u64,
+}
+
+impl TcpPort {
+    /// A port that hasn't failed.
+    pub fn new(listener: TcpListener) -> TcpPort
+        ensures { result ≡ record { listener = listener; faults = 0 } }
+    {
+        TcpPort {
+            listener,
+            faults: 0,
+        }
+    }
+
+    fn next_halves(&self) -> io::Result<(StdSource<TcpStream>, StdSink<TcpStream>)>
+        ensures { IfOk result (λ link. (link.0.faults ≡ 0) × (link.1.faults ≡ 0)) }
+    {
+        let (stream, _) = self.listener.accept()?;
+        halves(stream)
+    }
+}
+
+impl Listener for TcpPort {
+    ghost use Rattle.std.specs.Prelude.{None};
+
+    type In = StdSource<TcpStream>;
+
+    type Out = StdSink<TcpStream>;
+
+    ghost links = { λ _. None };
+
+    ghost faults = { λ p. p.faults };
+
+    fn accept<R: Wait>(&mut self, _rt: &R) -> Accepted<StdSource<TcpStream>, StdSink<TcpStream>> {
+        match self.next_halves() {
+            Ok((source, sink)) => Accepted::Pair(source, sink),
+            Err(_) => {
+                self.faults = self.faults.saturating_add(1);
+                Accepted::Failed
+            }
+        }
+    }
+}
+
+/// Dials the ports of a controller: each channel has the port of its number behind the first.
+#[derive(Drop)]
+pub struct TcpDial<R: Net<Stream = TcpStream> + Drop> {
+    pub rt: R,
+    pub host: String,
+    pub first_port: u16,
+    pub faults: u64,
+}
+
+impl<R: Net<Stream = TcpStream> + Drop> TcpDial<R> {
+    /// A dialer that hasn't failed.
+    pub fn new(rt: R, host: String, first_port: u16) -> TcpDial<R>
+        ensures { result ≡ record { rt = rt; host = host; first_port = first_port; faults = 0 } }
+    {
+        TcpDial {
+            rt,
+            host,
+            first_port,
+            faults: 0,
+        }
+    }
+
+    fn connect(&self, channel: u8) -> Option<(StdSource<TcpStream>, StdSink<TcpStream>)>
+        ensures { IfSome result (λ link. (link.0.faults ≡ 0) × (link.1.faults ≡ 0)) }
+    {
+        let port = self.first_port.checked_add(u16::from(channel))?;
+        let stream = TcpStream::connect(&self.rt, (self.host.as_str(), port)).ok()?;
+        halves(stream).ok()
+    }
+}
+
+impl<R: Net<Stream = TcpStream> + Drop> Dialer for TcpDial<R> {
+    ghost use Rattle.std.specs.Prelude.{None};
+
+    type In = StdSource<TcpStream>;
+
+    type Out = StdSink<TcpStream>;
+
+    ghost links = { λ _. None };
+
+    ghost faults = { λ d. d.faults };
+
+    fn dial(&mut self, channel: u8) -> Accepted<StdSource<TcpStream>, StdSink<TcpStream>> {
+        match self.connect(channel) {
+            Some((source, sink)) => Accepted::Pair(source, sink),
+            None => {
+                self.faults = self.faults.saturating_add(1);
+                Accepted::Failed
+            }
+        }
+    }
+}

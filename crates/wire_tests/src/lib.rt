@@ -1,0 +1,24 @@
+//! Tests of octets on their way: frames, streams of peers, signed parts, tapes, records of entries, and what they stand
+//! on. They stand in a crate of their own since a crate that has tests is proved twice.
+#![tactic(auto)]
+
+#[cfg(test)]
+mod fields;
+#[cfg(test)]
+mod frames;
+#[cfg(test)]
+mod outgo;
+#[cfg(test)]
+mod parts;
+#[cfg(test)]
+mod peers;
+#[cfg(test)]
+mod records;
+#[cfg(test)]
+mod sharing;
+#[cfg(test)]
+mod signing;
+#[cfg(test)]
+mod streams;
+#[cfg(test)]
+mod tapes;
