@@ -1,3 +1,4 @@
+mod Addresses
 mod Numbers
 mod Parses
 mod Rules

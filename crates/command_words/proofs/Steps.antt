@@ -30,7 +30,7 @@ options_more name options i o lt old new rule old-is new-is rule-is =
 
 -- REPLAY
 
-options_same : (f g : Text → List Text) → ((name : Text) → has_option replay_names name ≡ true → f name ≡ g name) → replay_options f ≡ replay_options g
+pub options_same : (f g : Text → List Text) → ((name : Text) → has_option replay_names name ≡ true → f name ≡ g name) → replay_options f ≡ replay_options g
 unfolding key_name scheme_name hwm_name misses_name entries_name bytes_name
 options_same f g is =
     let a = is key_name refl in

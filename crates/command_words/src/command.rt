@@ -117,7 +117,7 @@ impl From<clap::Error> for CommandError {
 }
 
 /// The name of the option of the key.
-const KEY: &str = "key";
+pub(crate) const KEY: &str = "key";
 
 /// The name of the option of the scheme.
 const SCHEME: &str = "scheme";
@@ -135,7 +135,7 @@ const ENTRIES: &str = "entries";
 const BYTES: &str = "bytes";
 
 /// The options of `replay`.
-const REPLAY: [&str; 6] = [KEY, SCHEME, HWM, MISSES, ENTRIES, BYTES];
+pub(crate) const REPLAY: [&str; 6] = [KEY, SCHEME, HWM, MISSES, ENTRIES, BYTES];
 
 /// The options of a command that has none.
 const NONE: [&str; 0] = [];
@@ -154,7 +154,10 @@ const GREATEST_TASKS: u32 = 500_000;
 
 /// The options of `replay` with their values.
 #[tactic(auto, unfolding(crate::specs::Reading::key_name, crate::specs::Reading::scheme_name, crate::specs::Reading::hwm_name, crate::specs::Reading::misses_name, crate::specs::Reading::entries_name, crate::specs::Reading::bytes_name))]
-fn replay_options(alloc: Global, matches: &ArgMatches<'_>) -> Result<ReplayOptions, CommandError>
+pub(crate) fn replay_options(
+    alloc: Global,
+    matches: &ArgMatches<'_>,
+) -> Result<ReplayOptions, CommandError>
     ensures ok { IfOk result (λ o. replay_options (values_of matches.now) ≡ Some o) }
     ensures usage { result ≡ Err CommandError.Usage → replay_options (values_of matches.now) ≡ None }
 {

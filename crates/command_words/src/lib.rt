@@ -4,4 +4,5 @@
 pub mod command;
 pub mod ending;
 mod matches;
+pub mod standing;
 mod values;
