@@ -1,7 +1,7 @@
 -- How the program ends: its status, and the line that says why.
 use Rattle.std.specs.Prelude.{ℕ, List, [], ◌++◌, codes, decimal}
 use Rattle.command_words.specs.declared.ending.Ending.{Ending}
-use Rattle.command_words.specs.declared.ending.Ending.TheVariants.{Done, Usage, ReadFault, WriteFault, DiskFault, BadTape, Damaged, OutOfMemory, HistoryFull, Different, NotOk, ListenerFault, SpawnFault, LinkFault}
+use Rattle.command_words.specs.declared.ending.Ending.TheVariants.{Done, Usage, ReadFault, WriteFault, DiskFault, BadTape, Damaged, OutOfMemory, HistoryFull, Different}
 
 abbrev pub status : Ending → ℕ
 status Done = 0
@@ -14,10 +14,6 @@ status (Damaged place) = 7
 status OutOfMemory = 8
 status (HistoryFull entries bytes) = 9
 status (Different place) = 10
-status NotOk = 1
-status ListenerFault = 11
-status SpawnFault = 12
-status LinkFault = 13
 
 -- the line of an end, with its line feed
 unfoldable pub line : Ending → List ℕ
@@ -32,7 +28,3 @@ line OutOfMemory = codes "ipcluster: out of memory\n"
 line (HistoryFull entries bytes) =
     codes "ipcluster: history full at " ++ decimal entries ++ codes " entries and " ++ decimal bytes ++ codes " bytes\n"
 line (Different place) = codes "ipcluster: different at " ++ decimal place ++ codes "\n"
-line NotOk = []
-line ListenerFault = codes "ipcluster: listener fault\n"
-line SpawnFault = codes "ipcluster: no worker could be started\n"
-line LinkFault = codes "ipcluster: link fault\n"

@@ -29,14 +29,6 @@ pub enum Ending {
     HistoryFull { entries: u64, bytes: u64 },
     /// The input isn't the text of the history: this is the first offset at which they differ.
     Different(u64),
-    /// The status of the reply that a client was given isn't `ok`. The reply was printed, and says why.
-    NotOk,
-    /// A port at which links come in failed.
-    ListenerFault,
-    /// A thread couldn't be started.
-    SpawnFault,
-    /// The link to the controller couldn't be made, or failed.
-    LinkFault,
 }
 
 /// The status that says how the program ends.
@@ -54,10 +46,6 @@ pub fn status_of(ending: Ending) -> u8
         Ending::OutOfMemory => 8,
         Ending::HistoryFull { .. } => 9,
         Ending::Different(_) => 10,
-        Ending::NotOk => 1,
-        Ending::ListenerFault => 11,
-        Ending::SpawnFault => 12,
-        Ending::LinkFault => 13,
     }
 }
 
@@ -121,7 +109,7 @@ fn history_full(entries: u64, bytes: u64) -> Line
     Line { text: line }
 }
 
-/// The line that says why the program ends; it is empty where all was done, and where a client's reply says why.
+/// The line that says why the program ends; it is empty where all was done.
 #[tactic(auto, unfolding(crate::specs::Lines::line))]
 pub fn line_of(ending: Ending) -> Line
     ensures { result ≡ line ending }
@@ -137,9 +125,5 @@ pub fn line_of(ending: Ending) -> Line
         Ending::OutOfMemory => plain("ipcluster: out of memory\n"),
         Ending::HistoryFull { entries, bytes } => history_full(entries, bytes),
         Ending::Different(place) => with_place("ipcluster: different at ", place),
-        Ending::NotOk => plain(""),
-        Ending::ListenerFault => plain("ipcluster: listener fault\n"),
-        Ending::SpawnFault => plain("ipcluster: no worker could be started\n"),
-        Ending::LinkFault => plain("ipcluster: link fault\n"),
     }
 }

@@ -5,4 +5,6 @@
 #[cfg(test)]
 mod histories;
 #[cfg(test)]
+mod standing;
+#[cfg(test)]
 mod words;
