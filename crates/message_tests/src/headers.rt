@@ -165,7 +165,10 @@ fn metadata_is<R: Abort>(
     field: &str,
 ) -> bool {
     let (front, times, back) = parts;
-    let text = repeated(rt, alloc, &[(front, 1), (",\"a\"", times), (back, 1)]);
+    let mut text = String::new(alloc);
+    add_times(rt, &mut text, front, 1);
+    add_times(rt, &mut text, ",\"a\"", times);
+    add_times(rt, &mut text, back, 1);
     let mut scratch = Scratch::new(alloc);
     let reading = submit_of(alloc, text.as_bytes(), &mut scratch);
     is_outcome(&reading, kind, field)
