@@ -1,6 +1,8 @@
 pub mod Calls
 pub mod Spans
 pub mod Loops
+pub mod Coming
+pub mod Finding
 pub mod Gates
 pub mod On
 pub mod Batches

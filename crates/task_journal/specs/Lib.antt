@@ -1,5 +1,6 @@
 pub mod Journal
 pub mod Reads
 pub mod Window
+pub mod Cursor
 pub mod Batch
 pub mod Settled

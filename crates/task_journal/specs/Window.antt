@@ -1,10 +1,9 @@
 -- Octets of a disk that were read and not yet taken.
-use Rattle.std.specs.Prelude.{◌≡◌, ℕ, ◌+◌, ◌-◌, ◌<◌, ◌≤◌, List, [], ◌∷◌, length, take, drop, Option, Some, None, Result, Ok, Err}
+use Rattle.std.specs.Prelude.{◌≡◌, ℕ, ◌+◌, ◌-◌, ◌<◌, ◌≤◌, List, length, take, drop, Some, None, Result, Ok, Err}
 use Rattle.task_journal.specs.declared.fault.OpenFault.{OpenFault}
 use Rattle.task_journal.specs.declared.fault.OpenFault.TheVariants.{NotAJournal, Damaged, DiskFault, OutOfMemory}
-use Rattle.task_journal.specs.declared.found.Found.{Found}
 use Rattle.octet_fields.specs.Difference.{difference}
-use Rattle.task_journal.specs.Journal.{with_front, behind, found_from, Fails, head}
+use Rattle.task_journal.specs.Journal.{head}
 
 -- the octets, and the place of the first of them
 pub record Ready : Type 0 where
@@ -21,17 +20,9 @@ pub record Shows (ready : Ready) (end : ℕ) (disk : List ℕ) : Type 0 where
   pub inside : ready.place + length ready.octets ≤ end
   pub whole : end ≤ length disk
 
--- What a step from a gate answered: none at a closed one, else the place of the next gate. What was found before with
--- what is to come makes the same before the step and after it.
-abbrev pub Steps : ℕ → List ℕ → ℕ → Found → Found → Result (Option ℕ) OpenFault → Type 0
-Steps size disk gate old new (Ok None) = with_front old (found_from size 0 (drop gate disk)) ≡ Ok (behind new (record { entries = []; places = gate ∷ [] }))
-Steps size disk gate old new (Ok (Some next)) = with_front old (found_from size 0 (drop gate disk)) ≡ with_front new (found_from size 0 (drop next disk))
-Steps size disk gate old new (Err e) = Fails e (with_front old (found_from size 0 (drop gate disk)))
-
--- The next gate, where there is one, lies behind the gate before it, and that one before the disk's end.
-abbrev pub Rises : ℕ → ℕ → Option ℕ → Type 0
-Rises gate size None = Unit {0}
-Rises gate size (Some next) = (gate < size) × (gate < next)
+-- the next gate lies behind the gate before it, and that one before the disk's end
+abbrev pub Rises : ℕ → ℕ → ℕ → Type 0
+Rises gate size next = (gate < size) × (gate < next)
 
 -- whether a disk has the head of a journal, as a call answered it
 abbrev pub HasHead : List ℕ → Result (Unit {0}) OpenFault → Type 0

@@ -2,10 +2,12 @@
 #![tactic(auto)]
 
 pub mod batch;
+pub mod cursor;
 mod disk_calls;
 pub mod fault;
 pub mod found;
 pub mod gate;
+mod head;
 pub mod journal;
 pub mod opening;
 pub mod reading;

@@ -1,32 +1,36 @@
-use Rattle.std.proofs.Common.{length, sym, subst, ◌∙◌, arith, ℕ, List, Err}
-use Rattle.std.proofs.lemmas.Result.{err_from_is_err_and}
-use Rattle.task_journal.specs.Journal.{journal, found_from}
-use Rattle.task_journal.specs.Window.{HasHead}
-use Rattle.task_journal.proofs.Loops.{fails_along}
-use Rattle.task_journal.proofs.On.{journal_short, journal_headed, head_fails}
+use Rattle.std.proofs.Common.{◌≡◌, ℕ, List, [], ◌∷◌, length, length-append, Option, Ok, subst, ◌∙◌, arith}
+use Rattle.std.specs.Prelude.{IfSome}
+use Rattle.std.proofs.lemmas.List.Elements.{All-push}
+use Rattle.record_codec.specs.Spelling.{HasRecord}
+use Rattle.task_journal.specs.declared.cursor.Placed.{Placed}
+use Rattle.task_journal.specs.Journal.{journal}
+use Rattle.task_journal.specs.Cursor.{Advances, to_come}
+use Rattle.task_journal.proofs.Calls.{reads_joined}
+use Rattle.task_journal.proofs.Loops.{last_push}
+use Rattle.task_journal.proofs.Finding.{found_more}
 use Rattle.task_journal.proofs.reading.read_found.Goals as goal
 
-pub returns-then-size-lt33-clause-value : goal.returns-then-size-lt33-clause-value
-returns-then-size-lt33-clause-value g c = λ told.
-    rw (c.new-entries.ensures, c.in_ok-push.ensures.ok, c.new-places.ensures) (journal_short (g.D.Disk.content c.args.disk.now) (omega (arith, c.in_ok-size.ensures.value told)))
+pub loop-found-preserved : goal.loop-found-preserved
+loop-found-preserved g c =
+    let found = c.loop-found.found in
+    let old = c.loop-found.cursor in
+    let new = c.next.new.self in
+    let placed = c.in-Some.placed in
+    record {
+      on = λ told. rw c.loop-found.invariant.reads.same at (c.in_ok-placed.ensures.on told);
+      found = λ told.
+          let disk = g.D.Disk.content c.args.disk.now in
+          let value = subst (λ (d : List ℕ). Advances d old new (Ok c.in_ok-placed.field-0)) c.loop-found.invariant.reads.same (c.in_ok-placed.ensures.value told) in
+          let next = subst (λ (o : Option Placed). Advances disk old new (Ok o)) c.in-Some.is value in
+          rw (c.in_ok-push.ensures.ok, c.in_ok-push-2.ensures.ok) (found_more found placed (to_come old disk) (to_come new disk) (journal disk) (c.loop-found.invariant.found told) next);
+      reads = reads_joined c.loop-found.invariant.reads c.next.ensures.reads;
+      has =
+          let one = subst (λ (o : Option Placed). IfSome o (λ (p : Placed). HasRecord p.entry)) c.in-Some.is c.in_ok-placed.ensures.has in
+          rw c.in_ok-push.ensures.ok (All-push HasRecord found.entries placed.entry c.loop-found.invariant.has one);
+      count =
+          rw (c.in_ok-push.ensures.ok, c.in_ok-push-2.ensures.ok)
+          (omega (arith, length-append found.places (placed.place ∷ []), length-append found.entries (placed.entry ∷ []), c.loop-found.invariant.count));
+    }
 
-pub returns-in_err-check_head-clause-value : goal.returns-in_err-check_head-clause-value
-returns-in_err-check_head-clause-value g c = λ told.
-    let p = err_from_is_err_and c.from_residual-in_err-check_head.result c.from_residual-in_err-check_head.ensures.1 in
-    let other = subst (λ (d : List ℕ). HasHead d (Err c.in_err-check_head.field-0.0)) c.size_of.ensures.reads.same (c.in_err-check_head.ensures.value told) in
-    rw (p.1, p.2) (head_fails c.in_err-check_head.field-0.0 (g.D.Disk.content c.args.disk.now) (omega (arith, c.in_ok-size.ensures.value told)) other)
-
-pub returns-in_err-found-clause-value : goal.returns-in_err-found-clause-value
-returns-in_err-found-clause-value g c = λ told.
-    let p = err_from_is_err_and c.from_residual-in_err-found.result c.from_residual-in_err-found.ensures.1 in
-    let disk = g.D.Disk.content c.args.disk.now in
-    let same = rw c.size_of.ensures.reads.same at (c.in_ok-check_head.ensures.value told) in
-    let fails = rw (c.check_head.ensures.reads.same, c.size_of.ensures.reads.same, c.in_ok-size.ensures.value told) at (c.in_err-found.ensures.value told) in
-    rw (p.1, p.2) (fails_along c.in_err-found.field-0.0 (found_from (length disk) 31 disk) (journal disk) (sym (journal_headed disk (omega (arith, c.in_ok-size.ensures.value told)) same)) fails)
-
-pub returns-clause-value : goal.returns-clause-value
-returns-clause-value g c = λ told.
-    let disk = g.D.Disk.content c.args.disk.now in
-    let same = rw c.size_of.ensures.reads.same at (c.in_ok-check_head.ensures.value told) in
-    let read = rw (c.check_head.ensures.reads.same, c.size_of.ensures.reads.same, c.in_ok-size.ensures.value told) at (c.in_ok-found.ensures.value told) in
-    journal_headed disk (omega (arith, c.in_ok-size.ensures.value told)) same ∙ read
+pub returns-clause-gate : goal.returns-clause-gate
+returns-clause-gate g c = rw c.in_ok-push-3.ensures.ok (last_push c.loop-found.found.places c.gate-gate.result)

@@ -2,7 +2,7 @@ use Rattle.std.proofs.Common.{◌≡◌, ◌≤◌, ℕ, List, length, refl, sym
 use Rattle.octet_fields.specs.Difference.{difference}
 use Rattle.task_journal.specs.Journal.{head}
 use Rattle.task_journal.proofs.Loops.{difference_take}
-use Rattle.task_journal.proofs.reading.check_head.Goals as goal
+use Rattle.task_journal.proofs.head.check_head.Goals as goal
 
 short : length head ≤ 31
 short = let is : length head ≡ 31 = refl in omega arith

@@ -1,0 +1,41 @@
+//! The head of a journal.
+
+ghost use Rattle.std.specs.Prelude.{◌≡◌, ◌≤◌, length, IsErrOf};
+ghost use Rattle.cluster_types.specs.Causes.{Rose};
+ghost use Rattle.octet_fields.specs.Difference.{difference};
+ghost use Rattle.task_journal.specs.Reads.{OnlyReads};
+ghost use Rattle.task_journal.specs.Window.{HasHead};
+
+use crate::disk_calls::read_into;
+use crate::fault::OpenFault;
+use disk_model::disk::Disk;
+
+/// The place of the first octet that differs.
+fn difference_of(head: &[u8], octets: &[u8]) -> Option<u64>
+    requires { length head.now ≤ length octets.now }
+    ensures { result ≡ difference 0 head.now octets.now }
+{
+    for (i, x) in head.iter().enumerate() {
+        if *x != octets[i] {
+            return Some(i as u64);
+        }
+    }
+    None
+}
+
+/// Whether a disk begins with the head of a journal.
+pub fn check_head<D: Disk>(disk: &mut D) -> Result<(), OpenFault>
+    requires { D.tells → 31 ≤ length (D.content disk.old) }
+    ensures value { D.tells → HasHead (D.content disk.old) result }
+    ensures reads { OnlyReads D.content D.image D.moment D.image_since D.faults disk.old disk.new }
+    ensures cause { IsErrOf result OpenFault.DiskFault → Rose (D.faults disk.old) (D.faults disk.new) }
+{
+    let mut octets = [0; 31];
+    read_into(disk, 0, &mut octets)?;
+    let head =
+        b"IPCJRNL1\x00\x00\x00\x01\x00\x00\x00\x00\x00\x00\x00\x00\x00\x00\x00\x00\x00\x00\x00\x00\x00\x00\x00";
+    match difference_of(head, &octets) {
+        Some(place) => Err(OpenFault::NotAJournal(place)),
+        None => Ok(()),
+    }
+}
