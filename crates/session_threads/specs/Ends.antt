@@ -1,7 +1,6 @@
 -- How greetings and sessions end.
 use Rattle.std.specs.Prelude.{◌≡◌, ◌≤◌, ⊤, true}
 use Rattle.cluster_types.specs.Causes.{Rose}
-use Rattle.cluster_core.specs.declared.size.HistorySize.{HistorySize}
 use Rattle.cluster_core.specs.Size.{is_past}
 use Rattle.controller_desk.specs.declared.fault.ActError.{ActError}
 use Rattle.controller_desk.specs.declared.fault.ActError.TheVariants.{TooManyConnections}
@@ -62,6 +61,16 @@ KeepsEnd end LinkFault = end ≡ LinkFault
 KeepsEnd end (ZmtpFault fault) = end ≡ ZmtpFault fault
 KeepsEnd end Closed = end ≡ Closed
 KeepsEnd end _ = ⊤
+
+-- the end of a session whose connection can't be taken down: why, where its stream had ended
+abbrev pub IsRefusedEnd : SessionEnd → ActError → SessionEnd → Type 0
+IsRefusedEnd Ended error result = IsEndOf error result
+IsRefusedEnd LinkFault error result = IsEndOf error result
+IsRefusedEnd (ZmtpFault fault) error result = IsEndOf error result
+IsRefusedEnd Closed error result = result ≡ Closed
+IsRefusedEnd (HistoryFull entries bytes) error result = result ≡ HistoryFull entries bytes
+IsRefusedEnd Reopen error result = result ≡ Reopen
+IsRefusedEnd OutOfMemory error result = result ≡ OutOfMemory
 
 -- Why the desk ended a session, by what the pass had seen before and what it has seen at the end: a step would have passed
 -- the limits, which was counted; or a call of the disk failed.

@@ -31,16 +31,21 @@ IsEnteredAs conn message (Some (Ok event)) inputs = (moment : ℕ) × (word : �
 pub record IsEntered (conn : ℕ) (old : Content) (message : Message) (inputs : List InputType) (new : Content) : Type 0 where
   pub before : Content
   pub later : Extends old before
-  pub as : IsEnteredAs conn message (heard before.list conn message) inputs
+  pub meant : IsEnteredAs conn message (heard before.list conn message) inputs
   pub extends : Extends before new
 
+-- the message that frames are, where they are signed
+abbrev pub signed : Result Message PartsError → Option Message
+signed (Ok message) = Some message
+signed (Err fault) = None
+
 -- of frames: what isn't signed with the key is passed over
-abbrev pub HearsAs : ℕ → Content → Result Message PartsError → List InputType → Content → Type 0
-HearsAs conn old (Ok message) inputs new = IsEntered conn old message inputs new
-HearsAs conn old (Err fault) inputs new = (inputs ≡ []) × Extends old new
+abbrev pub HearsAs : ℕ → Content → Option Message → List InputType → Content → Type 0
+HearsAs conn old (Some message) inputs new = IsEntered conn old message inputs new
+HearsAs conn old None inputs new = (inputs ≡ []) × Extends old new
 
 abbrev pub Hears : List ℕ → ℕ → Content → List (List ℕ) → List InputType → Content → Type 0
-Hears key conn old frames inputs new = HearsAs conn old (read_parts key frames) inputs new
+Hears key conn old frames inputs new = HearsAs conn old (signed (read_parts key frames)) inputs new
 
 -- of the frames of messages, one after another; the inputs stand with the newest first
 abbrev pub HearAll : List ℕ → ℕ → Content → List (List (List ℕ)) → List InputType → Content → Type 0

@@ -1,5 +1,5 @@
 -- What a writing session takes and writes.
-use Rattle.std.specs.Prelude.{◌≡◌, ◌≤◌, ⊤, ℕ, suc, min, List, [], ◌∷◌, ◌++◌, length, map, take, slice_get, Option, Some, None, false}
+use Rattle.std.specs.Prelude.{◌≡◌, ◌≤◌, ⊤, ℕ, suc, min, List, [], ◌∷◌, length, map, take, slice_get, Option, Some, None, false}
 use Rattle.std.specs.List.{flat_map}
 use Rattle.cluster_types.specs.declared.out.Out.{Out}
 use Rattle.cluster_types.specs.declared.out.Out.TheVariants.{Pass, Made}

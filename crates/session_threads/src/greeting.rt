@@ -10,8 +10,9 @@ ghost use Rattle.session_threads.specs.Ends.{EndsGreeting, EndsPiece};
 ghost use Rattle.session_threads.specs.Greeting.{AddedFront, IsGreeted, IsRefused, IsGreetedInPart, IsHandshake};
 
 use crate::end::SessionEnd;
+use crate::link::write;
 use cluster_types::octets::Octets;
-use edges::sink::{Sink, write_all};
+use edges::sink::Sink;
 use edges::source::{Got, Source};
 use std::alloc::Global;
 use std::sync::Wait;
@@ -29,19 +30,6 @@ pub struct Greeted {
     pub identity: Octets,
     /// The messages that came with the handshake.
     pub early: FramesList,
-}
-
-/// Writes octets, or a front of them.
-pub(crate) fn write<K: Sink>(writer: &mut K, octets: &[u8]) -> Result<(), SessionEnd>
-    ensures ok { OnOk result (Added octets.now (K.written writer.old) (K.written writer.new)) }
-    ensures err { OnErr result ((result ≡ Err SessionEnd.LinkFault) × AddedFront octets.now (K.written writer.old) (K.written writer.new)) }
-    ensures cause { OnErr result (Rose (K.faults writer.old) (K.faults writer.new)) }
-    ensures later { K.faults writer.old ≤ K.faults writer.new }
-{
-    match write_all(writer, octets) {
-        Ok(()) => Ok(()),
-        Err(_) => Err(SessionEnd::LinkFault),
-    }
 }
 
 /// What a handshake gave besides its peer.
@@ -113,13 +101,17 @@ pub fn greet<R: Wait, S: Source, K: Sink>(
             Got::End => return Err(SessionEnd::Ended),
             Got::Failed => return Err(SessionEnd::LinkFault),
         };
-        if let Some(handshake) = take_piece(&mut peer, writer, &piece[..count])? {
-            let Handshake { identity, early } = handshake;
-            return Ok(Greeted {
-                peer,
-                identity,
-                early,
-            });
+        match take_piece(&mut peer, writer, &piece[..count]) {
+            Ok(None) => {}
+            Ok(Some(handshake)) => {
+                let Handshake { identity, early } = handshake;
+                return Ok(Greeted {
+                    peer,
+                    identity,
+                    early,
+                });
+            }
+            Err(end) => return Err(end),
         }
     }
     unreachable!()

@@ -1,16 +1,18 @@
 //! Entering the messages of a stream.
 
-ghost use Rattle.std.specs.Prelude.{◌≡◌, ◌≢◌, ◌∷◌, [], false, All, IfErr, OnOk, OnErr, Err};
+ghost use Rattle.std.specs.Prelude.{◌≡◌, ◌≢◌, ◌∷◌, [], false, All, IfOk, IfErr, OnOk, OnErr, Err};
 ghost use Rattle.cluster_store.specs.Stores.{is_live};
 ghost use Rattle.controller_desk.specs.declared.fault.ActError.{ActError as Refusal};
 ghost use Rattle.history_lock.specs.Names.{known, room_of, lock_id, IsIdle};
 ghost use Rattle.zmtp_peer.specs.Limits.{IsShortMessage};
 ghost use Rattle.session_threads.specs.Ends.{EndsHearing, IsEndOf, HasDeskCause};
 ghost use Rattle.session_threads.specs.Passes.{Rests};
-ghost use Rattle.session_threads.specs.Reading.{Entered, EnteredFront};
+ghost use Rattle.session_threads.specs.Reading.{signed, Entered, EnteredFront};
+ghost use Rattle.jupyter_parts.specs.Signed.{read_parts};
 
 use crate::connection::Connection;
 use crate::end::SessionEnd;
+use cluster_types::shared_message::SharedMessage;
 use controller_desk::acted::Acted;
 use controller_desk::desk::Desk;
 use controller_desk::fault::ActError;
@@ -23,7 +25,7 @@ use hmac_sign::Key;
 use jupyter_parts::fault::PartsError;
 use jupyter_parts::read::read_parts;
 use load_schemes::chooser::Chooser;
-use std::alloc::Global;
+use std::alloc::{AllocError, Global};
 use std::sync::Wait;
 use thread_edges::clock::Clock;
 use thread_edges::gate::{Gate, Point};
@@ -39,6 +41,19 @@ pub fn end_of(error: ActError) -> SessionEnd
         ActError::Reopen => SessionEnd::Reopen,
         ActError::HistoryFull { entries, bytes } => SessionEnd::HistoryFull { entries, bytes },
         ActError::OutOfMemory => SessionEnd::OutOfMemory,
+    }
+}
+
+/// The message that frames are, where they are signed.
+fn signed(alloc: Global, key: &Key, frames: &Frames) -> Result<Option<SharedMessage>, AllocError>
+    ensures { IfOk result (λ m. m ≡ signed (read_parts key.now frames.now)) }
+{
+    match read_parts(alloc, frames, key) {
+        Ok(message) => Ok(Some(message)),
+        Err(PartsError::OutOfMemory) => Err(AllocError),
+        Err(PartsError::NoDelimiter) => Ok(None),
+        Err(PartsError::TooFewParts) => Ok(None),
+        Err(PartsError::BadSignature(_)) => Ok(None),
     }
 }
 
@@ -63,10 +78,9 @@ fn hear<R: Wait, D: Disk + Drop, C: Clock + Drop, W: Words + Drop>(
     ensures cause { IfErr result (λ e. HasDeskCause e (known pass.old) (known pass.new)) }
     ensures closed { result ≡ Err SessionEnd.Closed → (is_live (known pass.new).seen.list connection.number ≡ false) × Rests (known pass.new).seen }
 {
-    let message = match read_parts(alloc, frames, key) {
-        Ok(message) => message,
-        Err(PartsError::OutOfMemory) => return Err(SessionEnd::OutOfMemory),
-        Err(_) => return Ok(()),
+    let message = match signed(alloc, key, frames)? {
+        Some(message) => message,
+        None => return Ok(()),
     };
     let reading = Reading::new(alloc, connection.channel, message)?;
     match desk.act(rt, pass, chooser, connection.number, reading) {

@@ -7,6 +7,7 @@ pub mod connection;
 pub mod end;
 pub mod greeting;
 mod hearing;
+mod link;
 mod outgoing;
 pub mod reading;
 pub mod writing;

@@ -74,12 +74,7 @@ fn dated(out: Out) -> Out
 }
 
 /// Appends the octets of an out.
-fn put_out(
-    alloc: Global,
-    key: &Key,
-    out: Out,
-    into: &mut Vec<u8>,
-) -> Result<(), AllocError>
+fn put_out(alloc: Global, key: &Key, out: Out, into: &mut Vec<u8>) -> Result<(), AllocError>
     ensures { OnOk result (into.new.items ≡ into.old.items ++ octets_of key.now out) }
 {
     let frames = frames_of(alloc, &dated(out), key)?;

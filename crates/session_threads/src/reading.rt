@@ -8,7 +8,8 @@ ghost use Rattle.history_lock.specs.Names.{known, room_of, lock_id, IsIdle};
 ghost use Rattle.zmtp_peer.specs.declared.fault.PeerFault.{PeerFault as Fault};
 ghost use Rattle.zmtp_peer.specs.Limits.{IsShortMessage};
 ghost use Rattle.zmtp_peer.specs.PeerStream.{talked, messages, fault_of};
-ghost use Rattle.session_threads.specs.Ends.{EndsHearing, EndsStream, KeepsEnd, HasDeskCause};
+ghost use Rattle.session_threads.specs.Ends.{EndsHearing, EndsStream, KeepsEnd, IsRefusedEnd, HasDeskCause};
+ghost use Rattle.controller_desk.specs.declared.fault.ActError.{ActError as Refusal};
 ghost use Rattle.session_threads.specs.Passes.{Rests};
 ghost use Rattle.session_threads.specs.Reading.{Entered, EnteredFront, TakesDown, HeardFront, HeardWith, ReadsFront, ReadsWhole};
 
@@ -16,6 +17,7 @@ use crate::connection::Connection;
 use crate::end::SessionEnd;
 use crate::hearing::{end_of, hear_all};
 use controller_desk::desk::Desk;
+use controller_desk::fault::ActError;
 use controller_desk::locked::Locked;
 use disk_model::disk::Disk;
 use edges::source::{Got, Source};
@@ -149,7 +151,7 @@ fn hear_stream<R: Wait, S: Source, D: Disk + Drop, C: Clock + Drop, W: Words + D
     ensures closed { result ≡ SessionEnd.Closed → (is_live (known pass.new).seen.list connection.number ≡ false) × Rests (known pass.new).seen }
     ensures cause { HasDeskCause result (known pass.old) (known pass.new) }
 {
-    let heard = hear_all(
+    match hear_all(
         rt,
         alloc,
         desk,
@@ -159,19 +161,31 @@ fn hear_stream<R: Wait, S: Source, D: Disk + Drop, C: Clock + Drop, W: Words + D
         key,
         gate,
         early.as_slice(),
-    );
-    if let Err(end) = heard {
-        return end;
-    }
-    match peer.fault() {
-        Some(fault) => SessionEnd::ZmtpFault(fault),
-        None => read_on(
-            rt, alloc, reader, peer, desk, pass, chooser, connection, key, gate,
-        ),
+    ) {
+        Err(end) => end,
+        Ok(()) => match peer.fault() {
+            Some(fault) => SessionEnd::ZmtpFault(fault),
+            None => read_on(
+                rt, alloc, reader, peer, desk, pass, chooser, connection, key, gate,
+            ),
+        },
     }
 }
 
-/// Takes a connection down at the end of its session, which is refused where this is.
+/// The end of a session whose connection can't be taken down: why, where its stream had ended.
+fn refused_end(end: SessionEnd, error: ActError) -> SessionEnd
+    requires { error ≢ Refusal.TooManyConnections }
+    ensures { IsRefusedEnd end error result }
+{
+    match end {
+        SessionEnd::Ended => end_of(error),
+        SessionEnd::LinkFault => end_of(error),
+        SessionEnd::ZmtpFault(_) => end_of(error),
+        _ => end,
+    }
+}
+
+/// Takes a connection down.
 fn take_down<R: Wait, D: Disk + Drop, C: Clock + Drop, W: Words + Drop>(
     rt: &R,
     desk: &Desk<D, C, W>,
@@ -181,20 +195,42 @@ fn take_down<R: Wait, D: Disk + Drop, C: Clock + Drop, W: Words + Drop>(
     end: SessionEnd,
 ) -> SessionEnd
     requires idle { IsIdle (lock_id desk.now.lock) pass.old }
-    requires open { end ≢ SessionEnd.Closed }
     ensures idle { IsIdle (lock_id desk.now.lock) pass.new }
     ensures room { room_of pass.new ≡ room_of pass.old }
     ensures down { TakesDown conn (known pass.old) (known pass.new) }
-    ensures end { KeepsEnd end result }
+    ensures keeps { KeepsEnd end result }
     ensures gone { EndsStream result → is_live (known pass.new).seen.list conn ≡ false }
     ensures cause { (result ≡ end) ⊎ HasDeskCause result (known pass.old) (known pass.new) }
     ensures rests { Rests (known pass.new).seen }
 {
-    match (end, desk.close_conn(rt, pass, chooser, conn)) {
-        (SessionEnd::Ended, Err(error)) => end_of(error),
-        (SessionEnd::LinkFault, Err(error)) => end_of(error),
-        (SessionEnd::ZmtpFault(_), Err(error)) => end_of(error),
-        (end, _) => end,
+    match desk.close_conn(rt, pass, chooser, conn) {
+        Ok(_) => end,
+        Err(error) => refused_end(end, error),
+    }
+}
+
+/// Takes a connection down at the end of its session, where it may be live.
+fn finish<R: Wait, D: Disk + Drop, C: Clock + Drop, W: Words + Drop>(
+    rt: &R,
+    desk: &Desk<D, C, W>,
+    pass: &mut Pass<Locked<D, C, W>>,
+    chooser: &Chooser,
+    conn: u32,
+    end: SessionEnd,
+) -> SessionEnd
+    requires idle { IsIdle (lock_id desk.now.lock) pass.old }
+    ensures idle { IsIdle (lock_id desk.now.lock) pass.new }
+    ensures room { room_of pass.new ≡ room_of pass.old }
+    ensures down { TakesDown conn (known pass.old) (known pass.new) }
+    ensures keeps { KeepsEnd end result }
+    ensures gone { EndsStream result → is_live (known pass.new).seen.list conn ≡ false }
+    ensures cause { (result ≡ end) ⊎ HasDeskCause result (known pass.old) (known pass.new) }
+    ensures closed { end ≡ SessionEnd.Closed → known pass.new ≡ known pass.old }
+    ensures rests { (end ≡ SessionEnd.Closed) ⊎ Rests (known pass.new).seen }
+{
+    match end {
+        SessionEnd::Closed => end,
+        _ => take_down(rt, desk, pass, chooser, conn, end),
     }
 }
 
@@ -204,14 +240,7 @@ fn take_down<R: Wait, D: Disk + Drop, C: Clock + Drop, W: Words + Drop>(
 ///
 /// It passes the gate at `Read` before the messages of the handshake and before those of each piece, wakes who waits at
 /// `Flush` after them, and in the end who waits at `Idle` on its connection.
-pub fn read_session<
-    R: Wait,
-    S: Source,
-    D: Disk + Drop,
-    C: Clock + Drop,
-    W: Words + Drop,
-    G: Gate,
->(
+pub fn read_session<R: Wait, S: Source, D: Disk + Drop, C: Clock + Drop, W: Words + Drop, G: Gate>(
     rt: &R,
     alloc: Global,
     reader: &mut S,
@@ -239,10 +268,7 @@ pub fn read_session<
     let end = hear_stream(
         rt, alloc, reader, peer, early, desk, pass, chooser, connection, key, gate,
     );
-    let end = match end {
-        SessionEnd::Closed => end,
-        end => take_down(rt, desk, pass, chooser, connection.number, end),
-    };
+    let end = finish(rt, desk, pass, chooser, connection.number, end);
     gate.wake(Point::Flush, 0);
     gate.wake(Point::Idle, connection.number);
     end

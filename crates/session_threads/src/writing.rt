@@ -8,7 +8,7 @@ ghost use Rattle.session_threads.specs.Passes.{Rests};
 ghost use Rattle.session_threads.specs.Writing.{HasNoMore, WritesFront, WritesWhole};
 
 use crate::end::SessionEnd;
-use crate::greeting::write;
+use crate::link::write;
 use crate::outgoing::{BatchEnd, take_batch};
 use controller_desk::desk::Desk;
 use controller_desk::locked::Locked;
@@ -33,14 +33,7 @@ fn pass_wrote<R: Wait, G: Gate>(rt: &R, gate: &G, conn: u32, outs: usize) {
 /// are written at once, up to some octets.
 ///
 /// It passes the gate at `Wrote` for each out, after it was written, and at `Idle` where there is nothing to write yet.
-pub fn write_session<
-    R: Wait,
-    K: Sink,
-    D: Disk + Drop,
-    C: Clock + Drop,
-    W: Words + Drop,
-    G: Gate,
->(
+pub fn write_session<R: Wait, K: Sink, D: Disk + Drop, C: Clock + Drop, W: Words + Drop, G: Gate>(
     rt: &R,
     alloc: Global,
     writer: &mut K,
@@ -65,8 +58,9 @@ pub fn write_session<
             Ok(batch) => batch,
             Err(_) => return SessionEnd::OutOfMemory,
         };
-        if let Err(end) = write(writer, batch.octets.as_slice()) {
-            return end;
+        match write(writer, batch.octets.as_slice()) {
+            Ok(()) => {}
+            Err(end) => return end,
         }
         pass_wrote(rt, gate, conn, batch.outs);
         match batch.end {
