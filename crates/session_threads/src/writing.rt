@@ -1,0 +1,73 @@
+//! The session that writes the outs of a connection.
+
+ghost use Rattle.std.specs.Prelude.{◌≡◌};
+ghost use Rattle.cluster_types.specs.Causes.{Rose};
+ghost use Rattle.history_lock.specs.Names.{known, room_of, lock_id, IsIdle};
+ghost use Rattle.session_threads.specs.Ends.{EndsWriting};
+ghost use Rattle.session_threads.specs.Passes.{Rests};
+ghost use Rattle.session_threads.specs.Writing.{HasNoMore, WritesFront, WritesWhole};
+
+use crate::end::SessionEnd;
+use crate::link::write;
+use crate::outgoing::{BatchEnd, take_batch};
+use controller_desk::desk::Desk;
+use controller_desk::locked::Locked;
+use disk_model::disk::Disk;
+use edges::sink::Sink;
+use history_lock::lock::Pass;
+use hmac_sign::Key;
+use std::alloc::Global;
+use std::sync::Wait;
+use thread_edges::clock::Clock;
+use thread_edges::gate::{Gate, Point};
+use thread_edges::words::Words;
+
+/// Passes the gate for so many outs that were written.
+fn pass_wrote<R: Wait, G: Gate>(rt: &R, gate: &G, conn: u32, outs: usize) {
+    for _ in 0..outs {
+        gate.pass(rt, Point::Wrote, conn);
+    }
+}
+
+/// Writes the outs of a connection, in their order, until it isn't live and none is left. All outs that may be handed out
+/// are written at once, up to some octets.
+///
+/// It passes the gate at `Wrote` for each out, after it was written, and at `Idle` where there is nothing to write yet.
+pub fn write_session<R: Wait, K: Sink, D: Disk + Drop, C: Clock + Drop, W: Words + Drop, G: Gate>(
+    rt: &R,
+    alloc: Global,
+    writer: &mut K,
+    desk: &Desk<D, C, W>,
+    pass: &mut Pass<Locked<D, C, W>>,
+    conn: u32,
+    key: &Key,
+    gate: &G,
+) -> SessionEnd
+    requires idle { IsIdle (lock_id desk.now.lock) pass.old }
+    ensures idle { IsIdle (lock_id desk.now.lock) pass.new }
+    ensures room { room_of pass.new ≡ room_of pass.old }
+    ensures front { WritesFront key.now conn (known pass.old) (known pass.new) (K.written writer.old) (K.written writer.new) }
+    ensures whole { result ≡ SessionEnd.Closed → WritesWhole key.now conn (known pass.old) (known pass.new) (K.written writer.old) (K.written writer.new) }
+    ensures closed { result ≡ SessionEnd.Closed → HasNoMore conn (known pass.new).seen }
+    ensures ends { EndsWriting result }
+    ensures cause { result ≡ SessionEnd.LinkFault → Rose (K.faults writer.old) (K.faults writer.new) }
+    ensures rests { Rests (known pass.new).seen }
+{
+    for _ in rt.forever() {
+        let batch = match take_batch(rt, alloc, desk, pass, conn, key) {
+            Ok(batch) => batch,
+            Err(_) => return SessionEnd::OutOfMemory,
+        };
+        match write(writer, batch.octets.as_slice()) {
+            Ok(()) => {}
+            Err(end) => return end,
+        }
+        pass_wrote(rt, gate, conn, batch.outs);
+        match batch.end {
+            BatchEnd::Full => {}
+            BatchEnd::NothingYet => gate.pass(rt, Point::Idle, conn),
+            BatchEnd::Closed => return SessionEnd::Closed,
+        }
+    }
+    unreachable!()
+}
