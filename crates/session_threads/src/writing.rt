@@ -16,7 +16,7 @@ use disk_model::disk::Disk;
 use edges::sink::Sink;
 use history_lock::lock::Pass;
 use hmac_sign::Key;
-use std::alloc::Global;
+use std::alloc::{AllocError, Global};
 use std::sync::Wait;
 use thread_edges::clock::Clock;
 use thread_edges::gate::{Gate, Point};
@@ -56,7 +56,7 @@ pub fn write_session<R: Wait, K: Sink, D: Disk + Drop, C: Clock + Drop, W: Words
     for _ in rt.forever() {
         let batch = match take_batch(rt, alloc, desk, pass, conn, key) {
             Ok(batch) => batch,
-            Err(_) => return SessionEnd::OutOfMemory,
+            Err(AllocError) => return SessionEnd::OutOfMemory,
         };
         match write(writer, batch.octets.as_slice()) {
             Ok(()) => {}
