@@ -8,7 +8,7 @@ use Rattle.task_journal.specs.declared.fault.OpenFault.{OpenFault}
 use Rattle.task_journal.specs.declared.found.Found.{Found}
 use Rattle.task_journal.specs.Journal.{StandsFor, holding}
 
-found_is : (a b : Found) → ◌≡◌ {A = Result Found OpenFault} (Ok a) (Ok b) → a ≡ b
+pub found_is : (a b : Found) → ◌≡◌ {A = Result Found OpenFault} (Ok a) (Ok b) → a ≡ b
 found_is a b e = cc
 
 -- a disk stands for one list

@@ -7,6 +7,8 @@ mod choosing;
 #[cfg(test)]
 mod compacted;
 #[cfg(test)]
+mod cursors;
+#[cfg(test)]
 mod disks;
 #[cfg(test)]
 mod journals;
