@@ -13,14 +13,13 @@ ghost use Rattle.database_text.specs.Given.{Gave, HasEnded, OfText};
 ghost use Rattle.database_text.specs.Compared.{IsAhead, turns};
 
 use crate::database::{ending_at, whole_on};
-use cluster_types::entry::Entry;
 use command_words::ending::Ending;
 use disk_model::disk::Disk;
 use edges::source::{Got, Source};
 use history_text::comparison::Comparison;
 use history_text::lines::put_line;
 use std::alloc::{AllocError, Global};
-use task_journal::cursor::Cursor;
+use task_journal::cursor::{Cursor, Placed};
 use task_journal::fault::OpenFault;
 
 /// The most octets that are read at once.
@@ -44,13 +43,15 @@ struct Printed {
 fn print_line(
     comparison: &mut Comparison,
     octets: &mut Vec<u8>,
-    entry: &Entry,
+    placed: Placed,
 ) -> Result<(), AllocError>
-    ensures line { OnOk result (octets.new.items ≡ line entry.now) }
-    ensures printed { OnOk result (comparison.new ≡ record comparison.old { printed = comparison.old.printed ++ line entry.now }) }
+    ensures line { OnOk result (octets.new.items ≡ line placed.entry) }
+    ensures printed { OnOk result (comparison.new ≡ record comparison.old { printed = comparison.old.printed ++ line placed.entry }) }
 {
     octets.clear();
-    put_line(octets, entry)?;
+    let added = put_line(octets, &placed.entry);
+    drop(placed);
+    added?;
     comparison.feed_printed(octets.as_slice())
 }
 
@@ -75,7 +76,7 @@ fn print<D: Disk>(
     let mut octets = Vec::new(alloc);
     let mut missing = wanted;
     while let Some(placed) = cursor.next(alloc, disk)? {
-        print_line(comparison, &mut octets, &placed.entry)?;
+        print_line(comparison, &mut octets, placed)?;
         let count = octets.len();
         if missing <= count {
             return Ok(Printed {

@@ -41,7 +41,9 @@ fn read_through<D: Disk>(alloc: Global, disk: &mut D) -> Result<(), OpenFault>
     ensures cause { IsErrOf result OpenFault.DiskFault → Rose (D.faults disk.old) (D.faults disk.new) }
 {
     let mut cursor = Cursor::begin(alloc, disk)?;
-    while let Some(_placed) = cursor.next(alloc, disk)? {}
+    while let Some(placed) = cursor.next(alloc, disk)? {
+        drop(placed);
+    }
     Ok(())
 }
 

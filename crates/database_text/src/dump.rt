@@ -11,13 +11,12 @@ ghost use Rattle.task_journal.specs.Reads.{OnlyReads};
 ghost use Rattle.database_text.specs.Texts.{IsDamaged, IsRefusal, WroteFront};
 
 use crate::database::{ending_at, whole_on};
-use cluster_types::entry::Entry;
 use command_words::ending::Ending;
 use disk_model::disk::Disk;
 use edges::sink::{Sink, WriteFailed, write_all};
 use history_text::lines::put_line;
 use std::alloc::{AllocError, Global};
-use task_journal::cursor::Cursor;
+use task_journal::cursor::{Cursor, Placed};
 use task_journal::fault::OpenFault;
 
 /// Lines are written once they have so many octets.
@@ -91,18 +90,16 @@ fn put_full<K: Sink>(output: &mut K, pending: &mut Vec<u8>) -> Result<(), WriteF
 }
 
 /// Adds the line of an entry to those that wait, and writes these once they have enough octets.
-fn put_entry<K: Sink>(
-    output: &mut K,
-    pending: &mut Vec<u8>,
-    entry: &Entry,
-) -> Result<(), PrintError>
-    ensures ok { OnOk result ((front : List ℕ) × (pending.old.items ++ line entry.now ≡ front ++ pending.new.items) × Added front (K.written output.old) (K.written output.new)) }
-    ensures err { OnErr result (WroteFront (pending.old.items ++ line entry.now) (K.written output.old) (K.written output.new)) }
+fn put_entry<K: Sink>(output: &mut K, pending: &mut Vec<u8>, placed: Placed) -> Result<(), PrintError>
+    ensures ok { OnOk result ((front : List ℕ) × (pending.old.items ++ line placed.entry ≡ front ++ pending.new.items) × Added front (K.written output.old) (K.written output.new)) }
+    ensures err { OnErr result (WroteFront (pending.old.items ++ line placed.entry) (K.written output.old) (K.written output.new)) }
     ensures fault { (fault : FaultType) → result ≡ Err (PrintError.Unread fault) → fault ≡ OpenFault.OutOfMemory }
     ensures cause { result ≡ Err PrintError.WriteFailed → Rose (K.faults output.old) (K.faults output.new) }
     ensures later { K.faults output.old ≤ K.faults output.new }
 {
-    put_line(pending, entry)?;
+    let added = put_line(pending, &placed.entry);
+    drop(placed);
+    added?;
     put_full(output, pending)?;
     Ok(())
 }
@@ -124,7 +121,7 @@ fn put_lines<D: Disk, K: Sink>(
     let mut lines = Vec::new(alloc);
     let mut cursor = Cursor::begin(alloc, disk)?;
     while let Some(placed) = cursor.next(alloc, disk)? {
-        put_entry(output, &mut lines, &placed.entry)?;
+        put_entry(output, &mut lines, placed)?;
     }
     put(output, lines.as_slice())?;
     Ok(())
