@@ -64,8 +64,8 @@ pub sent_wrote : {whole : List ℕ} {u v : Option (List ℕ)} {rest : List ℕ} 
 sent_wrote {rest = rest} s = record { front = s.front; rest = rest; parts = s.parts; added = s.added }
 
 -- the line of one entry more is still to come
-pub sent_line : {list : List Entry} {u v : Option (List ℕ)} {lines : List ℕ} → Sent (text list) u v lines → (entry : Entry) (more : List ℕ) → more ≡ lines ++ line entry → Sent (text (list ++ entry ∷ [])) u v more
-sent_line {list = list} {lines = lines} s entry more is = record {
+pub sent_line : (list : List Entry) (u v : Option (List ℕ)) (lines : List ℕ) → Sent (text list) u v lines → (entry : Entry) (more : List ℕ) → more ≡ lines ++ line entry → Sent (text (list ++ entry ∷ [])) u v more
+sent_line list u v lines s entry more is = record {
   front = s.front;
   parts = flat_map-append line list (entry ∷ []) ∙ ap (λ (xs : List ℕ). text list ++ xs) (append-nil (line entry)) ∙ ap (λ (xs : List ℕ). xs ++ line entry) s.parts
       ∙ append_assoc s.front lines (line entry) ∙ ap (λ (xs : List ℕ). s.front ++ xs) (sym is);

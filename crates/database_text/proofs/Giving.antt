@@ -94,10 +94,10 @@ halfway_begins tells content at w lines on is none = record {
 -- the next entry came
 pub halfway_next : {tells : Type 0} {content : List ℕ} {old : Standing} {u v : Option (List ℕ)} {lines : List ℕ} → Halfway tells content old u v lines → (new : Standing) (placed : Placed) → (tells → IsOn new content)
     → (tells → Advances content old new (Ok (Some placed))) → Halfway tells content new u v (lines ++ line placed.entry)
-halfway_next {lines = lines} h new placed on next = record {
+halfway_next {u = u} {v = v} {lines = lines} h new placed on next = record {
   list = h.list ++ placed.entry ∷ [];
   gave = gave_more h.gave new placed on next;
-  sent = sent_line h.sent placed.entry (lines ++ line placed.entry) refl;
+  sent = sent_line h.list u v lines h.sent placed.entry (lines ++ line placed.entry) refl;
 }
 
 -- a front of the lines was written
@@ -118,3 +118,7 @@ halfway_broken {u = u} {lines = lines} h w p told whole stands = front_part h.ga
 pub halfway_ends : {tells : Type 0} {content : List ℕ} {at : Standing} {u v : Option (List ℕ)} {lines : List ℕ} → Halfway tells content at u v lines → (tells → HasEnded content at) → (w : Option (List ℕ)) → Added lines v w
     → (list : List Entry) × (tells → StandsFor content list) × Added (text list) u w
 halfway_ends {lines = lines} h ended w p = (h.list, gave_all h.gave ended, sent_all (sent_more h.sent lines [] w (sym (append-nil lines)) p))
+
+-- a fact of the text follows from another
+pub of_text : {tells : Type 0} {content : List ℕ} {P : List ℕ → Type 0} → OfText tells content P → (Q : List ℕ → Type 0) → ((lines : List ℕ) → P lines → Q lines) → OfText tells content Q
+of_text f Q go = ((f.0.0, go (text f.0.0) f.0.1), λ told list stands. go (text list) (f.1 told list stands))

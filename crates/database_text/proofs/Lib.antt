@@ -2,5 +2,5 @@ mod Fronts
 mod Giving
 mod Printing
 mod Places
-mod Thinning
 mod Standing
+mod Thinning

@@ -1,17 +1,18 @@
 -- Where an input differs from the text of entries, by what came of it and the lines that were printed meanwhile.
 use Rattle.std.proofs.Common.{◌≡◌, ℕ, ◌+◌, ◌*◌, ◌^◌, ◌<◌, List, [], ◌∷◌, ◌++◌, length, refl, sym, ap, subst, ◌∙◌, arith, length-append}
 use Rattle.std.specs.Prelude.{Option, Some, None, option_map}
+use Rattle.std.proofs.lemmas.List.{append-nil}
 use Rattle.std.proofs.lemmas.Grind.{flat_map-append}
 use Rattle.cluster_types.specs.declared.entry.Entry.{Entry}
 use Rattle.edges.specs.Streams.{Took}
 use Rattle.history_text.specs.Comparison.{Texts, first_difference, end_difference, counted}
 use Rattle.history_text.specs.Lines.{line, text}
 use Rattle.history_text.proofs.Differences.{first_turned, first_more, end_first}
-use Rattle.task_journal.specs.Cursor.{Standing, to_come}
+use Rattle.task_journal.specs.Cursor.{Standing, IsOn, to_come}
 use Rattle.database_text.specs.Texts.{DiffersAt}
 use Rattle.database_text.specs.Given.{Gave, HasEnded, OfText}
 use Rattle.database_text.specs.Compared.{IsAhead}
-use Rattle.database_text.proofs.Giving.{gave_on, of_part, of_whole}
+use Rattle.database_text.proofs.Giving.{gave_none, gave_on, of_part, of_whole}
 
 -- of an input that told what it had, these octets came first
 pub began : (octets came : List ℕ) (first last : Option (List ℕ)) → first ≡ Some octets → Took came first last → (rest : List ℕ) × (octets ≡ came ++ rest)
@@ -104,3 +105,7 @@ of_end {old = old} a later more new place gave printed input ended e =
 -- a turn is taken where an entry is
 pub turns_fall : (new old ahead before : ℕ) → new < old → ahead < 2 ^ 64 → new * 2 ^ 64 + ahead < old * 2 ^ 64 + before
 turns_fall new old ahead before lt small = omega (arith, lt, small)
+
+-- no line was printed
+pub kept_none : (tells : Type 0) (content : List ℕ) (at : Standing) (printed : List ℕ) → (tells → IsOn at content) → (list : List Entry) × Gave tells content (to_come at content) at list × (printed ≡ printed ++ text list)
+kept_none tells content at printed on = ([], gave_none tells content (to_come at content) at on (λ told. refl), sym (append-nil printed))

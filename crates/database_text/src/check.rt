@@ -12,12 +12,11 @@ ghost use Rattle.database_text.specs.Texts.{IsDamaged, IsRefusal, Told, DiffersA
 ghost use Rattle.database_text.specs.Given.{Gave, HasEnded, OfText};
 ghost use Rattle.database_text.specs.Compared.{IsAhead, turns};
 
-use crate::database::{ending_at, whole_on};
+use crate::database::{add_line, ending_at, whole_on};
 use command_words::ending::Ending;
 use disk_model::disk::Disk;
 use edges::source::{Got, Source};
 use history_text::comparison::Comparison;
-use history_text::lines::put_line;
 use std::alloc::{AllocError, Global};
 use task_journal::cursor::{Cursor, Placed};
 use task_journal::fault::OpenFault;
@@ -39,20 +38,19 @@ struct Printed {
     ahead: usize,
 }
 
-/// Prints the line of an entry, which stands in `octets` then.
+/// Prints the line of an entry, which stands in `octets` then, and says how many these are.
 fn print_line(
     comparison: &mut Comparison,
     octets: &mut Vec<u8>,
     placed: Placed,
-) -> Result<(), AllocError>
-    ensures line { OnOk result (octets.new.items ≡ line placed.entry) }
+) -> Result<usize, AllocError>
+    ensures count { IfOk result (λ n. n ≡ length (line placed.entry)) }
     ensures printed { OnOk result (comparison.new ≡ record comparison.old { printed = comparison.old.printed ++ line placed.entry }) }
 {
     octets.clear();
-    let added = put_line(octets, &placed.entry);
-    drop(placed);
-    added?;
-    comparison.feed_printed(octets.as_slice())
+    add_line(octets, placed)?;
+    comparison.feed_printed(octets.as_slice())?;
+    Ok(octets.len())
 }
 
 /// Prints lines of entries until these have so many octets, or no entries are left.
@@ -76,8 +74,7 @@ fn print<D: Disk>(
     let mut octets = Vec::new(alloc);
     let mut missing = wanted;
     while let Some(placed) = cursor.next(alloc, disk)? {
-        print_line(comparison, &mut octets, placed)?;
-        let count = octets.len();
+        let count = print_line(comparison, &mut octets, placed)?;
         if missing <= count {
             return Ok(Printed {
                 missing: 0,

@@ -1,10 +1,11 @@
 //! The entries of a disk.
 
-ghost use Rattle.std.specs.Prelude.{◌≡◌, ◌⊎◌, ℕ, List, All, OnOk, IfOk, IfErr, IsErrOf};
+ghost use Rattle.std.specs.Prelude.{◌≡◌, ◌⊎◌, ◌++◌, ℕ, List, All, OnOk, IfOk, IfErr, IsErrOf};
 ghost use Rattle.cluster_types.specs.declared.entry.Entry.{Entry as EntryType};
 ghost use Rattle.cluster_types.specs.Causes.{Rose};
 ghost use Rattle.cluster_store.specs.Openings.{IsFit};
 ghost use Rattle.record_codec.specs.Spelling.{HasRecord};
+ghost use Rattle.history_text.specs.Lines.{line};
 ghost use Rattle.task_journal.specs.Journal.{StandsFor, Fails, journal};
 ghost use Rattle.task_journal.specs.Reads.{OnlyReads};
 ghost use Rattle.database_text.specs.Texts.{IsDamaged, IsRefusal};
@@ -14,9 +15,10 @@ use cluster_store::opening::read_list;
 use cluster_types::entry::Entries;
 use command_words::ending::Ending;
 use disk_model::disk::Disk;
+use history_text::lines::put_line;
 use load_schemes::chooser::Chooser;
-use std::alloc::Global;
-use task_journal::cursor::Cursor;
+use std::alloc::{AllocError, Global};
+use task_journal::cursor::{Cursor, Placed};
 use task_journal::fault::OpenFault;
 
 /// How a command ends at a fault of reading.
@@ -31,6 +33,15 @@ pub fn ending_at(fault: OpenFault) -> Ending
         OpenFault::DiskFault => Ending::DiskFault,
         OpenFault::OutOfMemory => Ending::OutOfMemory,
     }
+}
+
+/// Adds the line of an entry.
+pub fn add_line(lines: &mut Vec<u8>, placed: Placed) -> Result<(), AllocError>
+    ensures { OnOk result (lines.new.items ≡ lines.old.items ++ line placed.entry) }
+{
+    let added = put_line(lines, &placed.entry);
+    drop(placed);
+    added
 }
 
 /// Reads the journal of a disk to its end, and keeps nothing of it.

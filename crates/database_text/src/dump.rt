@@ -10,11 +10,10 @@ ghost use Rattle.task_journal.specs.Journal.{StandsFor, Fails, journal};
 ghost use Rattle.task_journal.specs.Reads.{OnlyReads};
 ghost use Rattle.database_text.specs.Texts.{IsDamaged, IsRefusal, WroteFront};
 
-use crate::database::{ending_at, whole_on};
+use crate::database::{add_line, ending_at, whole_on};
 use command_words::ending::Ending;
 use disk_model::disk::Disk;
 use edges::sink::{Sink, WriteFailed, write_all};
-use history_text::lines::put_line;
 use std::alloc::{AllocError, Global};
 use task_journal::cursor::{Cursor, Placed};
 use task_journal::fault::OpenFault;
@@ -90,16 +89,18 @@ fn put_full<K: Sink>(output: &mut K, pending: &mut Vec<u8>) -> Result<(), WriteF
 }
 
 /// Adds the line of an entry to those that wait, and writes these once they have enough octets.
-fn put_entry<K: Sink>(output: &mut K, pending: &mut Vec<u8>, placed: Placed) -> Result<(), PrintError>
+fn put_entry<K: Sink>(
+    output: &mut K,
+    pending: &mut Vec<u8>,
+    placed: Placed,
+) -> Result<(), PrintError>
     ensures ok { OnOk result ((front : List ℕ) × (pending.old.items ++ line placed.entry ≡ front ++ pending.new.items) × Added front (K.written output.old) (K.written output.new)) }
     ensures err { OnErr result (WroteFront (pending.old.items ++ line placed.entry) (K.written output.old) (K.written output.new)) }
     ensures fault { (fault : FaultType) → result ≡ Err (PrintError.Unread fault) → fault ≡ OpenFault.OutOfMemory }
     ensures cause { result ≡ Err PrintError.WriteFailed → Rose (K.faults output.old) (K.faults output.new) }
     ensures later { K.faults output.old ≤ K.faults output.new }
 {
-    let added = put_line(pending, &placed.entry);
-    drop(placed);
-    added?;
+    add_line(pending, placed)?;
     put_full(output, pending)?;
     Ok(())
 }
