@@ -1,5 +1,5 @@
 -- Entries that a disk gave, and what is still to come of its journal.
-use Rattle.std.proofs.Common.{◌≡◌, ℕ, List, [], ◌∷◌, ◌++◌, Result, Ok, Err, Some, refl, sym, ap, subst, ◌∙◌}
+use Rattle.std.proofs.Common.{◌≡◌, ℕ, List, [], ◌∷◌, ◌++◌, Result, Ok, Err, Some, None, refl, sym, ap, subst, ◌∙◌}
 use Rattle.std.specs.Prelude.{Option}
 use Rattle.std.proofs.lemmas.List.{append-nil}
 use Rattle.std.proofs.lemmas.Grind.{flat_map-append}
@@ -120,5 +120,18 @@ pub halfway_ends : {tells : Type 0} {content : List ℕ} {at : Standing} {u v : 
 halfway_ends {lines = lines} h ended w p = (h.list, gave_all h.gave ended, sent_all (sent_more h.sent lines [] w (sym (append-nil lines)) p))
 
 -- a fact of the text follows from another
-pub of_text : {tells : Type 0} {content : List ℕ} {P : List ℕ → Type 0} → OfText tells content P → (Q : List ℕ → Type 0) → ((lines : List ℕ) → P lines → Q lines) → OfText tells content Q
-of_text f Q go = ((f.0.0, go (text f.0.0) f.0.1), λ told list stands. go (text list) (f.1 told list stands))
+pub of_text : (tells : Type 0) (content : List ℕ) (P Q : List ℕ → Type 0) → OfText tells content P → ((lines : List ℕ) → P lines → Q lines) → OfText tells content Q
+of_text tells content P Q f go = ((f.0.0, go (text f.0.0) f.0.1), λ told list stands. go (text list) (f.1 told list stands))
+
+-- nothing more came
+pub halfway_ended : {tells : Type 0} {content : List ℕ} {old : Standing} {u v : Option (List ℕ)} {lines : List ℕ} → Halfway tells content old u v lines → (new : Standing) → (tells → IsOn new content) → (tells → Advances content old new (Ok None))
+    → Halfway tells content new u v lines
+halfway_ended h new on none = record {
+  list = h.list;
+  gave = record {
+    on = on;
+    places = h.gave.places;
+    come = λ told. h.gave.come told ∙ ap (λ (r : Result Found OpenFault). with_front (holding h.list h.gave.places) r) ((none told).0 ∙ sym (none told).1);
+  };
+  sent = h.sent;
+}

@@ -4,7 +4,7 @@ use Rattle.std.specs.Prelude.{Option, Some, None, option_map}
 use Rattle.std.proofs.lemmas.List.{append-nil}
 use Rattle.std.proofs.lemmas.Grind.{flat_map-append}
 use Rattle.cluster_types.specs.declared.entry.Entry.{Entry}
-use Rattle.edges.specs.Streams.{Took}
+use Rattle.edges.specs.Streams.{Took, IsAtEnd}
 use Rattle.history_text.specs.Comparison.{Texts, first_difference, end_difference, counted}
 use Rattle.history_text.specs.Lines.{line, text}
 use Rattle.history_text.proofs.Differences.{first_turned, first_more, end_first}
@@ -20,6 +20,18 @@ began octets came first None told took = absurd (let e : Some octets ≡ None = 
 began octets came first (Some rest) told took =
     let both : Some octets ≡ Some (came ++ rest) = sym told ∙ took in
     (rest, cc)
+
+-- and nothing behind them, where it ended
+pub all_came : (octets came : List ℕ) (first last : Option (List ℕ)) → first ≡ Some octets → Took came first last → IsAtEnd last → octets ≡ came
+all_came octets came first None told took end = absurd (let e : Some octets ≡ None = sym told ∙ took in cc)
+all_came octets came first (Some rest) told took end =
+    let both : Some octets ≡ Some (came ++ rest) = sym told ∙ took in
+    let is : octets ≡ came ++ rest = cc in
+    is ∙ ap (λ (xs : List ℕ). came ++ xs) (end rest refl) ∙ append-nil came
+
+pub took_none : (xs : List ℕ) (left : Option (List ℕ)) → xs ≡ [] → Took xs left left
+took_none xs None e = refl
+took_none xs (Some octets) e = rw e refl
 
 -- ---- more of the texts doesn't change where they differ
 
