@@ -206,9 +206,9 @@ fn damage_is_told(rt: HostRuntime) {
 
 #[test]
 fn each_call_of_the_disk_fails(rt: HostRuntime) {
-    // The size and the head; then three gates, each with its records, and the closed gate.
+    // In each of two passes the size and the head; then three gates, each with its records, and the closed gate.
     let text = EACH_TEXT.as_bytes();
-    for call in 1..10 {
+    for call in 1..19 {
         assert_eq!(rt;
             printed(&rt, rt.alloc(), &EACH_KIND, call, &[], text),
             (Ending::DiskFault, true, 0)
@@ -219,7 +219,7 @@ fn each_call_of_the_disk_fails(rt: HostRuntime) {
         );
     }
     assert_eq!(rt;
-        printed(&rt, rt.alloc(), &EACH_KIND, 10, &[], text),
+        printed(&rt, rt.alloc(), &EACH_KIND, 19, &[], text),
         (Ending::Done, true, text.len())
     );
 }
@@ -235,16 +235,23 @@ fn loss_batch<R: Abort>(rt: &R, alloc: Global, count: usize) -> Batch {
     batch
 }
 
-/// The octets of a journal of the loss of engine 4294967295, so many times.
-fn losses<R: Abort>(rt: &R, alloc: Global, count: usize) -> Vec<u8> {
+/// The octets of a journal of so many batches of the loss of engine 4294967295, so many times each.
+fn batches<R: Abort>(rt: &R, alloc: Global, batches: usize, count: usize) -> Vec<u8> {
     let batch = loss_batch(rt, alloc, count);
     let disk = MemDisk::new(alloc, b"").expect(rt, "memory is ample");
     let Ok((mut journal, _, _)) = Journal::open(alloc, disk) else {
         panic!(rt; "no journal opens");
     };
-    journal.append(&batch).expect(rt, "an append");
+    for _ in 0..batches {
+        journal.append(&batch).expect(rt, "an append");
+    }
     let disk = journal.close();
     Vec::from_slice(alloc, disk.content()).expect(rt, "memory is ample")
+}
+
+/// The octets of a journal of the loss of engine 4294967295, so many times.
+fn losses<R: Abort>(rt: &R, alloc: Global, count: usize) -> Vec<u8> {
+    batches(rt, alloc, 1, count)
 }
 
 /// So many lines of the loss of engine 4294967295, of 16 octets each.
@@ -255,6 +262,66 @@ fn loss_lines<R: Abort>(rt: &R, alloc: Global, count: usize) -> Vec<u8> {
             .expect(rt, "memory is ample");
     }
     text
+}
+
+/// The calls of a disk of one batch of 5,000 losses, and how many octets were written before the one that fails. In each
+/// pass the size, the head, the gate, the records and the closed gate are read.
+const CALLS: &[(u64, usize)] = &[(1, 0), (5, 0), (6, 0), (9, 0), (10, 65_536)];
+
+#[test]
+fn a_call_of_the_disk_fails_behind_lines(rt: HostRuntime) {
+    let octets = losses(&rt, rt.alloc(), 5_000);
+    let text = loss_lines(&rt, rt.alloc(), 5_000);
+    for (call, count) in CALLS {
+        assert_eq!(rt;
+            printed(&rt, rt.alloc(), &octets, *call, &[], &text),
+            (Ending::DiskFault, true, *count)
+        );
+        assert_eq!(rt;
+            checked(&rt, rt.alloc(), &octets, *call, &[], &text),
+            Ending::DiskFault
+        );
+    }
+    // The input that differs at once is read no further, and neither is the disk.
+    assert_eq!(rt;
+        checked(&rt, rt.alloc(), &octets, 10, &[], b"x"),
+        Ending::Different(0)
+    );
+}
+
+#[test]
+fn batches_are_printed(rt: HostRuntime) {
+    // Batches without an entry too.
+    for (count, entries) in [(0, 0), (1, 100), (70, 7_000)] {
+        let octets = batches(&rt, rt.alloc(), 100, count);
+        let text = loss_lines(&rt, rt.alloc(), entries);
+        assert_eq!(rt;
+            printed(&rt, rt.alloc(), &octets, 0, &[], &text),
+            (Ending::Done, true, text.len())
+        );
+        assert_eq!(rt; checked(&rt, rt.alloc(), &octets, 0, &[], &text), Ending::Done);
+    }
+}
+
+/// How printing ends, and how many octets are written, where the last batch of a hundred is damaged.
+fn printed_to_damage<R: Abort>(rt: &R, alloc: Global) -> (Ending, bool, usize) {
+    let mut octets = batches(rt, alloc, 100, 70);
+    // The last record and the closed gate have six octets.
+    let place = octets.len().saturating_sub(6);
+    if let Some(it) = octets.get_mut(place) {
+        *it = 0x0f;
+    }
+    let text = loss_lines(rt, alloc, 7_000);
+    printed(rt, alloc, &octets, 0, &[], &text)
+}
+
+#[test]
+fn nothing_is_printed_before_damage(rt: HostRuntime) {
+    // A head, a hundred batches of ten octets and 350, and the closed gate behind them.
+    assert_eq!(rt;
+        printed_to_damage(&rt, rt.alloc()),
+        (Ending::Damaged(31 + 36_000 - 5), true, 0)
+    );
 }
 
 #[test]

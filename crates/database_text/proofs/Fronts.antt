@@ -1,7 +1,7 @@
 -- Fronts of what is to be written.
-use Rattle.std.proofs.Common.{◌≡◌, ℕ, suc, ◌+◌, ◌<◌, Result, Ok, Err, List, [], ◌∷◌, ◌++◌, length, get_or, take, drop, Option, Some, None, refl, sym, ap, ◌∙◌, append_assoc, arith}
+use Rattle.std.proofs.Common.{◌≡◌, ℕ, Result, Ok, Err, List, [], ◌∷◌, ◌++◌, take, drop, Option, Some, None, refl, sym, ap, subst, ◌∙◌, append_assoc}
 use Rattle.std.proofs.lemmas.List.{append-nil, take-append-drop}
-use Rattle.std.proofs.Math.Seq.{drop-cons}
+use Rattle.std.proofs.lemmas.Grind.{flat_map-append}
 use Rattle.cluster_types.specs.declared.entry.Entry.{Entry}
 use Rattle.history_text.specs.Lines.{line, text}
 use Rattle.std.specs.Result.{OnErr}
@@ -51,13 +51,30 @@ sent_front {u = u} {v = v} s piece more w is p =
       added = added_both s.front p.front u v w s.added p.added;
     }
 
--- the lines that wait with the line of the next entry behind them, and those of the entries behind it
-pub line_off : (list : List Entry) (i : ℕ) (entry : Entry) (lines more : List ℕ) → i < length list → entry ≡ get_or list i entry → more ≡ lines ++ line entry
-    → lines ++ text (drop i list) ≡ more ++ text (drop (i + 1) list)
-line_off list i entry lines more lt at is =
-    let step : suc i ≡ i + 1 = omega arith in
-    let next : drop i list ≡ entry ∷ drop (i + 1) list = drop-cons list i entry lt ∙ ap (λ (e : Entry). e ∷ drop (suc i) list) (sym at) ∙ ap (λ (n : ℕ). entry ∷ drop n list) step in
-    rw (next, is) (sym (append_assoc lines (line entry) (text (drop (i + 1) list))))
+-- nothing was written yet
+pub sent_none : (w : Option (List ℕ)) → Sent [] w w []
+sent_none None = record { front = []; parts = refl; added = refl }
+sent_none (Some xs) = record { front = []; parts = refl; added = ap Some (sym (append-nil xs)) }
+
+-- all was written
+pub sent_all : {whole : List ℕ} {u v : Option (List ℕ)} → Sent whole u v [] → Added whole u v
+sent_all {u = u} {v = v} s = subst (λ (xs : List ℕ). Added xs u v) (sym (s.parts ∙ append-nil s.front)) s.added
+
+pub sent_wrote : {whole : List ℕ} {u v : Option (List ℕ)} {rest : List ℕ} → Sent whole u v rest → WroteFront whole u v
+sent_wrote {rest = rest} s = record { front = s.front; rest = rest; parts = s.parts; added = s.added }
+
+-- the line of one entry more is still to come
+pub sent_line : (list : List Entry) (u v : Option (List ℕ)) (lines : List ℕ) → Sent (text list) u v lines → (entry : Entry) (more : List ℕ) → more ≡ lines ++ line entry → Sent (text (list ++ entry ∷ [])) u v more
+sent_line list u v lines s entry more is = record {
+  front = s.front;
+  parts = flat_map-append line list (entry ∷ []) ∙ ap (λ (xs : List ℕ). text list ++ xs) (append-nil (line entry)) ∙ ap (λ (xs : List ℕ). xs ++ line entry) s.parts
+      ∙ append_assoc s.front lines (line entry) ∙ ap (λ (xs : List ℕ). s.front ++ xs) (sym is);
+  added = s.added;
+}
+
+-- a front of a part is one of the whole
+pub front_on : {part : List ℕ} {u v : Option (List ℕ)} → WroteFront part u v → (more : List ℕ) → WroteFront (part ++ more) u v
+front_on p more = record { front = p.front; rest = p.rest ++ more; parts = ap (λ (xs : List ℕ). xs ++ more) p.parts ∙ append_assoc p.front p.rest more; added = p.added }
 
 pub at_err : {T E Q : Type 0} (r : Result T E) → Q → OnErr r Q
 at_err (Ok x) q = tt

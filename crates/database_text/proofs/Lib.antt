@@ -1,4 +1,6 @@
 mod Fronts
+mod Giving
+mod Printing
 mod Places
-mod Thinning
 mod Standing
+mod Thinning

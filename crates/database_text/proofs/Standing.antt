@@ -1,19 +1,29 @@
 -- What a disk stands for, and what a cluster goes on from.
-use Rattle.std.proofs.Common.{◌≡◌, List, ℕ, [], ◌∷◌, ◌++◌, Result, Ok, reverse, sym, ap, subst, ◌∙◌}
+use Rattle.std.proofs.Common.{◌≡◌, List, ℕ, [], ◌∷◌, ◌++◌, Result, Ok, Err, inl, inr, reverse, sym, ap, subst, ◌∙◌}
 use Rattle.std.proofs.lemmas.List.{append-nil}
 use Rattle.cluster_types.specs.declared.entry.Entry.{Entry}
 use Rattle.cluster_defs.specs.Histories.{History, Legal}
 use Rattle.cluster_store.specs.Openings.{IsFit}
 use Rattle.task_journal.specs.declared.fault.OpenFault.{OpenFault}
 use Rattle.task_journal.specs.declared.found.Found.{Found}
+use Rattle.task_journal.specs.declared.fault.OpenFault.TheVariants.{NotAJournal, Damaged}
 use Rattle.task_journal.specs.Journal.{StandsFor, holding}
+use Rattle.database_text.specs.Texts.{IsDamaged}
 
-found_is : (a b : Found) → ◌≡◌ {A = Result Found OpenFault} (Ok a) (Ok b) → a ≡ b
+pub found_is : (a b : Found) → ◌≡◌ {A = Result Found OpenFault} (Ok a) (Ok b) → a ≡ b
 found_is a b e = cc
 
 -- a disk stands for one list
 pub one_list : (octets : List ℕ) (a b : List Entry) → StandsFor octets a → StandsFor octets b → a ≡ b
 one_list octets a b p q = ap (λ (f : Found). f.entries) (found_is (holding a p.0) (holding b q.0) (sym p.1 ∙ q.1))
+
+cc_off : (found : Found) (fault : OpenFault) → ◌≡◌ {A = Result Found OpenFault} (Ok found) (Err fault) → ⊥
+cc_off found fault e = cc
+
+-- and then it isn't refused
+pub whole_undamaged : (octets : List ℕ) (list : List Entry) (place : ℕ) → StandsFor octets list → IsDamaged octets place → ⊥
+whole_undamaged octets list place stands (inl e) = cc_off (holding list stands.0) (NotAJournal place) (sym stands.1 ∙ e)
+whole_undamaged octets list place stands (inr e) = cc_off (holding list stands.0) (Damaged place) (sym stands.1 ∙ e)
 
 -- a list that a cluster goes on from is that of a legal history
 pub fit_legal : (list : List Entry) → IsFit list → Legal (reverse list)

@@ -1,3 +1,4 @@
 pub mod Texts
+pub mod Given
 pub mod Compared
 pub mod Compacted

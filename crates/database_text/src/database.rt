@@ -1,10 +1,12 @@
 //! The entries of a disk.
 
-ghost use Rattle.std.specs.Prelude.{◌≡◌, ◌⊎◌, ℕ, All, IfOk, IfErr, IsErrOf};
+ghost use Rattle.std.specs.Prelude.{◌≡◌, ◌⊎◌, ◌++◌, ℕ, List, All, OnOk, IfOk, IfErr, IsErrOf};
+ghost use Rattle.cluster_types.specs.declared.entry.Entry.{Entry as EntryType};
 ghost use Rattle.cluster_types.specs.Causes.{Rose};
 ghost use Rattle.cluster_store.specs.Openings.{IsFit};
 ghost use Rattle.record_codec.specs.Spelling.{HasRecord};
-ghost use Rattle.task_journal.specs.Journal.{StandsFor};
+ghost use Rattle.history_text.specs.Lines.{line};
+ghost use Rattle.task_journal.specs.Journal.{StandsFor, Fails, journal};
 ghost use Rattle.task_journal.specs.Reads.{OnlyReads};
 ghost use Rattle.database_text.specs.Texts.{IsDamaged, IsRefusal};
 ghost use Rattle.database_text.specs.Compacted.{IsUnfitAt};
@@ -13,13 +15,14 @@ use cluster_store::opening::read_list;
 use cluster_types::entry::Entries;
 use command_words::ending::Ending;
 use disk_model::disk::Disk;
+use history_text::lines::put_line;
 use load_schemes::chooser::Chooser;
-use std::alloc::Global;
+use std::alloc::{AllocError, Global};
+use task_journal::cursor::{Cursor, Placed};
 use task_journal::fault::OpenFault;
-use task_journal::reading::read_journal;
 
 /// How a command ends at a fault of reading.
-fn ending_at(fault: OpenFault) -> Ending
+pub fn ending_at(fault: OpenFault) -> Ending
     ensures refusal { IsRefusal result }
     ensures damaged { (place : ℕ) → result ≡ Ending.Damaged place → (fault ≡ OpenFault.NotAJournal place) ⊎ (fault ≡ OpenFault.Damaged place) }
     ensures disk_fault { result ≡ Ending.DiskFault → fault ≡ OpenFault.DiskFault }
@@ -32,16 +35,39 @@ fn ending_at(fault: OpenFault) -> Ending
     }
 }
 
-/// The entries that a disk stands for, in order, or how a command ends that can't have them.
-pub fn entries_on<D: Disk>(alloc: Global, disk: &mut D) -> Result<Entries, Ending>
-    ensures list { D.tells → IfOk result (λ list. StandsFor (D.content disk.old) list) }
+/// Adds the line of an entry.
+pub fn add_line(lines: &mut Vec<u8>, placed: Placed) -> Result<(), AllocError>
+    ensures { OnOk result (lines.new.items ≡ lines.old.items ++ line placed.entry) }
+{
+    let added = put_line(lines, &placed.entry);
+    drop(placed);
+    added
+}
+
+/// Reads the journal of a disk to its end, and keeps nothing of it.
+fn read_through<D: Disk>(alloc: Global, disk: &mut D) -> Result<(), OpenFault>
+    ensures whole { D.tells → OnOk result ((list : List EntryType) × StandsFor (D.content disk.old) list) }
+    ensures fault { D.tells → IfErr result (λ fault. Fails fault (journal (D.content disk.old))) }
+    ensures reads { OnlyReads D.content D.image D.moment D.image_since D.faults disk.old disk.new }
+    ensures cause { IsErrOf result OpenFault.DiskFault → Rose (D.faults disk.old) (D.faults disk.new) }
+{
+    let mut cursor = Cursor::begin(alloc, disk)?;
+    while let Some(placed) = cursor.next(alloc, disk)? {
+        drop(placed);
+    }
+    Ok(())
+}
+
+/// Whether a disk stands for entries, or how a command ends that can't have them.
+pub fn whole_on<D: Disk>(alloc: Global, disk: &mut D) -> Result<(), Ending>
+    ensures whole { D.tells → OnOk result ((list : List EntryType) × StandsFor (D.content disk.old) list) }
     ensures refusal { IfErr result IsRefusal }
     ensures damaged { D.tells → IfErr result (λ ending. (place : ℕ) → ending ≡ Ending.Damaged place → IsDamaged (D.content disk.old) place) }
     ensures reads { OnlyReads D.content D.image D.moment D.image_since D.faults disk.old disk.new }
     ensures cause { IsErrOf result Ending.DiskFault → Rose (D.faults disk.old) (D.faults disk.new) }
 {
-    match read_journal(alloc, disk) {
-        Ok((entries, _)) => Ok(entries),
+    match read_through(alloc, disk) {
+        Ok(()) => Ok(()),
         Err(fault) => Err(ending_at(fault)),
     }
 }

@@ -6,7 +6,7 @@ use Rattle.command_words.specs.declared.command.Command.TheVariants.{Replay, Dum
 use Rattle.command_words.specs.declared.ending.Ending.{Ending}
 use Rattle.command_words.specs.declared.ending.Ending.TheVariants.{Done, Usage, ReadFault, WriteFault, DiskFault, Damaged, OutOfMemory, Different}
 use Rattle.command_words.specs.Lines.{line}
-use Rattle.database_text.specs.Texts.{IsDamaged, WroteFront, Told, DiffersAt}
+use Rattle.database_text.specs.Texts.{IsDamaged, WroteFront, Told, DiffersFrom}
 use Rattle.database_text.specs.Compacted.{compact_octets, IsUnfitAt, IsCompacted}
 use Rattle.edges.specs.Streams.{Added, IsAtEnd}
 use Rattle.history_text.specs.Lines.{text}
@@ -28,22 +28,26 @@ Unread end = (end ≡ Usage) ⊎ (end ≡ OutOfMemory)
 abbrev pub Of : (tells : Type 0) → List ℕ → (List Entry → Type 0) → Type 0
 Of tells content P = (list : List Entry) × (tells → StandsFor content list) × P list
 
+-- a front of the text of the entries was written, and nothing where the disk is refused
+abbrev pub Printed : (tells : Type 0) → List ℕ → (before now : Option (List ℕ)) → Type 0
+Printed tells content before now = tells → ((list : List Entry) → StandsFor content list → WroteFront (text list) before now) × ((place : ℕ) → IsDamaged content place → now ≡ before)
+
 -- how a dump ends: with the text of the entries, or a front of it
 abbrev pub DumpEnds : (tells : Type 0) → List ℕ → (before now : Option (List ℕ)) → Ending → Type 0
 DumpEnds tells content before now Done = Of tells content (λ list. Added (text list) before now)
-DumpEnds tells content before now WriteFault = tells → (list : List Entry) → StandsFor content list → WroteFront (text list) before now
-DumpEnds tells content before now OutOfMemory = tells → (list : List Entry) → StandsFor content list → WroteFront (text list) before now
-DumpEnds tells content before now DiskFault = now ≡ before
-DumpEnds tells content before now (Damaged place) = (now ≡ before) × (tells → IsDamaged content place)
+DumpEnds tells content before now WriteFault = Printed tells content before now
+DumpEnds tells content before now OutOfMemory = Printed tells content before now
+DumpEnds tells content before now DiskFault = Printed tells content before now
+DumpEnds tells content before now (Damaged place) = tells → (now ≡ before) × IsDamaged content place
 DumpEnds tells content before now _ = ⊥
 
 -- how a check ends: the input is the text of the entries, or differs from it at a place
 abbrev pub CheckEnds : (tells : Type 0) → List ℕ → (left rest : Option (List ℕ)) → Ending → Type 0
 CheckEnds tells content left rest Done = Of tells content (λ list. Told left (λ octets. octets ≡ text list)) × IsAtEnd rest
-CheckEnds tells content left rest (Different place) = Of tells content (λ list. Told left (λ octets. DiffersAt octets (text list) place))
-CheckEnds tells content left rest (Damaged place) = (rest ≡ left) × (tells → IsDamaged content place)
+CheckEnds tells content left rest (Different place) = DiffersFrom tells content left place
+CheckEnds tells content left rest (Damaged place) = tells → (rest ≡ left) × IsDamaged content place
 CheckEnds tells content left rest ReadFault = Unit {0}
-CheckEnds tells content left rest DiskFault = rest ≡ left
+CheckEnds tells content left rest DiskFault = tells → (place : ℕ) → IsDamaged content place → rest ≡ left
 CheckEnds tells content left rest OutOfMemory = Unit {0}
 CheckEnds tells content left rest _ = ⊥
 

@@ -1,6 +1,6 @@
+use Rattle.std.proofs.lemmas.Result.{on_err_weaker}
 use Rattle.database_text.proofs.Fronts.{front_take}
 use Rattle.database_text.proofs.dump.put.Goals as goal
 
-pub returns-in-Err-clause-err : goal.returns-in-Err-clause-err
-returns-in-Err-clause-err g c =
-    front_take _ c.in-Err.ensures.err.0 _ _ c.in-Err.ensures.err.2
+pub returns-clause-err : goal.returns-clause-err
+returns-clause-err g c = on_err_weaker _ (λ front. front_take _ front.0 _ _ front.2) c.write_all.ensures.err
