@@ -1,4 +1,4 @@
-use Rattle.std.proofs.Common.{subst, arith, ℕ, List, Err}
+use Rattle.std.proofs.Common.{length, sym, subst, ◌∙◌, arith, ℕ, List, Err}
 use Rattle.std.proofs.lemmas.Result.{err_from_is_err_and}
 use Rattle.task_journal.specs.Window.{HasHead}
 use Rattle.task_journal.proofs.On.{head_fails}
