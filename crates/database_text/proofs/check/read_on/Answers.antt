@@ -1,4 +1,4 @@
-use Rattle.std.proofs.Common.{◌≡◌, ◌++◌, ℕ, List, [], Some, Option, length, take, arith, sym, ap, subst, ◌∙◌}
+use Rattle.std.proofs.Common.{◌≡◌, ◌++◌, ℕ, List, [], length, take, arith, sym, ap, subst, ◌∙◌}
 use Rattle.edges.specs.Streams.{Took}
 use Rattle.edges.proofs.Pieces.{took_more}
 use Rattle.history_text.specs.Comparison.{Texts}

@@ -1,4 +1,4 @@
-use Rattle.std.proofs.Common.{◌≡◌, ◌+◌, ◌<◌, ◌++◌, ℕ, List, length, arith, sym, ap, ◌∙◌, length-append}
+use Rattle.std.proofs.Common.{◌≡◌, ◌+◌, ◌<◌, ◌++◌, length, arith, sym, ap, ◌∙◌, length-append}
 use Rattle.history_text.specs.Comparison.{Texts}
 use Rattle.history_text.specs.Lines.{text}
 use Rattle.database_text.proofs.Places.{ahead_more, of_within, of_behind}
