@@ -17,13 +17,13 @@ found_is a b e = cc
 pub one_list : (octets : List ℕ) (a b : List Entry) → StandsFor octets a → StandsFor octets b → a ≡ b
 one_list octets a b p q = ap (λ (f : Found). f.entries) (found_is (holding a p.0) (holding b q.0) (sym p.1 ∙ q.1))
 
-cc_off : (found : Found) (fault : OpenFault) → ◌≡◌ {A = Result Found OpenFault} (Ok found) (Err fault) → ⊥
-cc_off found fault e = cc
+ok_is_no_fault : (found : Found) (fault : OpenFault) → ◌≡◌ {A = Result Found OpenFault} (Ok found) (Err fault) → ⊥
+ok_is_no_fault found fault e = cc
 
--- and then it isn't refused
+-- a disk that stands for a list isn't refused
 pub whole_undamaged : (octets : List ℕ) (list : List Entry) (place : ℕ) → StandsFor octets list → IsDamaged octets place → ⊥
-whole_undamaged octets list place stands (inl e) = cc_off (holding list stands.0) (NotAJournal place) (sym stands.1 ∙ e)
-whole_undamaged octets list place stands (inr e) = cc_off (holding list stands.0) (Damaged place) (sym stands.1 ∙ e)
+whole_undamaged octets list place stands (inl e) = ok_is_no_fault (holding list stands.0) (NotAJournal place) (sym stands.1 ∙ e)
+whole_undamaged octets list place stands (inr e) = ok_is_no_fault (holding list stands.0) (Damaged place) (sym stands.1 ∙ e)
 
 -- a list that a cluster goes on from is that of a legal history
 pub fit_legal : (list : List Entry) → IsFit list → Legal (reverse list)

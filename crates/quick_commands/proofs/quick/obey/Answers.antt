@@ -1,6 +1,7 @@
-use Rattle.std.proofs.Common.{sym, subst}
+use Rattle.std.proofs.Common.{refl, sym, subst}
 use Rattle.command_words.specs.declared.command.Command.{Command}
 use Rattle.quick_commands.specs.Commands.{Ends}
+use Rattle.quick_commands.proofs.Looks.{dump_ends, check_ends}
 use Rattle.quick_commands.proofs.quick.obey.Goals as goal
 
 pub returns-in-Replay-clause-ended : goal.returns-in-Replay-clause-ended
@@ -8,3 +9,17 @@ returns-in-Replay-clause-ended g c =
     subst
     (λ (k : Command). Ends g.D.Disk.tells (g.D.Disk.content c.args.disk) (g.S.Source.left c.args.input.now) (g.S.Source.left c.replay.new.input) (g.K.Sink.written c.args.output.now) (g.K.Sink.written c.replay.new.output) (g.D.Disk.image c.args.disk) (g.D.Disk.image c.replay.result.1) k c.replay.result.0)
     (sym c.in-Replay.is) c.replay.ensures.ended
+
+pub returns-in-Dump-clause-ended : goal.returns-in-Dump-clause-ended
+returns-in-Dump-clause-ended g c =
+    subst
+    (λ (k : Command). Ends g.D.Disk.tells (g.D.Disk.content c.args.disk) (g.S.Source.left c.args.input.now) (g.S.Source.left c.args.input.now) (g.K.Sink.written c.args.output.now) (g.K.Sink.written c.dump.new.output) (g.D.Disk.image c.args.disk) (g.D.Disk.image c.dump.new.disk) k c.dump.result)
+    (sym c.in-Dump.is)
+    (dump_ends g.D.Disk.tells (g.D.Disk.content c.args.disk) (g.K.Sink.written c.args.output.now) (g.K.Sink.written c.dump.new.output) c.dump.result c.dump.ensures.endings c.dump.ensures.done c.dump.ensures.front c.dump.ensures.damaged c.dump.ensures.refused c.dump.ensures.unwritten)
+
+pub returns-in-Check-clause-ended : goal.returns-in-Check-clause-ended
+returns-in-Check-clause-ended g c =
+    subst
+    (λ (k : Command). Ends g.D.Disk.tells (g.D.Disk.content c.args.disk) (g.S.Source.left c.args.input.now) (g.S.Source.left c.check.new.input) (g.K.Sink.written c.args.output.now) (g.K.Sink.written c.args.output.now) (g.D.Disk.image c.args.disk) (g.D.Disk.image c.check.new.disk) k c.check.result)
+    (sym c.in-Check.is)
+    (refl, check_ends g.D.Disk.tells (g.D.Disk.content c.args.disk) (g.S.Source.left c.args.input.now) (g.S.Source.left c.check.new.input) c.check.result c.check.ensures.endings c.check.ensures.done c.check.ensures.end c.check.ensures.different c.check.ensures.damaged c.check.ensures.refused c.check.ensures.unread)
