@@ -299,7 +299,10 @@ fn batches_are_printed(rt: HostRuntime) {
             printed(&rt, rt.alloc(), &octets, 0, &[], &text),
             (Ending::Done, true, text.len())
         );
-        assert_eq!(rt; checked(&rt, rt.alloc(), &octets, 0, &[], &text), Ending::Done);
+        assert_eq!(rt;
+            checked(&rt, rt.alloc(), &octets, 0, &[], &text),
+            Ending::Done
+        );
     }
 }
 
