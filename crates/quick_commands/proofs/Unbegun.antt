@@ -18,7 +18,7 @@ some_all (Some x) P all = all x
 
 pub memory_ends : (tells : Type 0) (content : List ℕ) (left w : Option (List ℕ)) (old : List ℕ → Type 0) (k : Command) → Ends tells content left left w w old old k OutOfMemory
 memory_ends tells content left w old (Replay database options) = unopened_ends tells content options left left w old
-memory_ends tells content left w old (Dump database) = λ told list stands. front_none (text list) w
+memory_ends tells content left w old (Dump database) = λ told. ((λ list stands. front_none (text list) w), λ place is. refl)
 memory_ends tells content left w old (Check database) = (refl, tt)
 memory_ends tells content left w old (Compact database) = λ told list stands. front_none (compact_octets list) w
 memory_ends tells content left w old (Work seed tasks) = refl
