@@ -2,6 +2,8 @@
 use Rattle.std.specs.Prelude.{ℕ, List, [], ◌++◌, codes, decimal}
 use Rattle.command_words.specs.declared.ending.Ending.{Ending}
 use Rattle.command_words.specs.declared.ending.Ending.TheVariants.{Done, Usage, ReadFault, WriteFault, DiskFault, BadTape, Damaged, OutOfMemory, HistoryFull, Different}
+use Rattle.command_words.specs.declared.ending.StandingEnding.{StandingEnding}
+use Rattle.command_words.specs.declared.ending.StandingEnding.TheVariants.{Plain, NotOk, ListenerFault, NoWorker, LinkFault}
 
 abbrev pub status : Ending → ℕ
 status Done = 0
@@ -28,3 +30,18 @@ line OutOfMemory = codes "ipcluster: out of memory\n"
 line (HistoryFull entries bytes) =
     codes "ipcluster: history full at " ++ decimal entries ++ codes " entries and " ++ decimal bytes ++ codes " bytes\n"
 line (Different place) = codes "ipcluster: different at " ++ decimal place ++ codes "\n"
+
+-- the same of the commands that are about a cluster at its ports
+abbrev pub standing_status : StandingEnding → ℕ
+standing_status (Plain end) = status end
+standing_status NotOk = 1
+standing_status ListenerFault = 11
+standing_status NoWorker = 12
+standing_status LinkFault = 13
+
+unfoldable pub standing_line : StandingEnding → List ℕ
+standing_line (Plain end) = line end
+standing_line NotOk = []
+standing_line ListenerFault = codes "ipcluster: listener fault\n"
+standing_line NoWorker = codes "ipcluster: no worker could be started\n"
+standing_line LinkFault = codes "ipcluster: link fault\n"

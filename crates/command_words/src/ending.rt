@@ -1,7 +1,7 @@
 //! How the program ends.
 
 ghost use Rattle.std.specs.Prelude.{◌≡◌, ◌≤◌, ◌++◌, length, decimal, codes};
-ghost use Rattle.command_words.specs.Lines.{status, line};
+ghost use Rattle.command_words.specs.Lines.{status, line, standing_status, standing_line};
 
 use arrayvec::ArrayString;
 use itoa::Buffer;
@@ -29,6 +29,21 @@ pub enum Ending {
     HistoryFull { entries: u64, bytes: u64 },
     /// The input isn't the text of the history: this is the first offset at which they differ.
     Different(u64),
+}
+
+/// How a command ends that is about a cluster at its ports.
+#[derive(Clone, Copy, Debug, PartialEq, Eq)]
+pub enum StandingEnding {
+    /// As other commands end too.
+    Plain(Ending),
+    /// The answer that a client printed says that what it asked for was refused or has failed.
+    NotOk,
+    /// A port failed.
+    ListenerFault,
+    /// A thread couldn't be started.
+    NoWorker,
+    /// The link to the controller wasn't made, failed, had a fault in its stream, or ended before the answer.
+    LinkFault,
 }
 
 /// The status that says how the program ends.
@@ -125,5 +140,33 @@ pub fn line_of(ending: Ending) -> Line
         Ending::OutOfMemory => plain("ipcluster: out of memory\n"),
         Ending::HistoryFull { entries, bytes } => history_full(entries, bytes),
         Ending::Different(place) => with_place("ipcluster: different at ", place),
+    }
+}
+
+/// The status that says how a command ends that is about a cluster at its ports.
+pub fn standing_status_of(ending: StandingEnding) -> u8
+    ensures { result ≡ standing_status ending }
+{
+    match ending {
+        StandingEnding::Plain(ending) => status_of(ending),
+        StandingEnding::NotOk => 1,
+        StandingEnding::ListenerFault => 11,
+        StandingEnding::NoWorker => 12,
+        StandingEnding::LinkFault => 13,
+    }
+}
+
+/// The line that says why such a command ends; it is empty where all was done, and where the answer that was printed says
+/// the rest.
+#[tactic(auto, unfolding(crate::specs::Lines::standing_line))]
+pub fn standing_line_of(ending: StandingEnding) -> Line
+    ensures { result ≡ standing_line ending }
+{
+    match ending {
+        StandingEnding::Plain(ending) => line_of(ending),
+        StandingEnding::NotOk => plain(""),
+        StandingEnding::ListenerFault => plain("ipcluster: listener fault\n"),
+        StandingEnding::NoWorker => plain("ipcluster: no worker could be started\n"),
+        StandingEnding::LinkFault => plain("ipcluster: link fault\n"),
     }
 }

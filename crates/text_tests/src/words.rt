@@ -4,7 +4,9 @@ use cluster_types::config::Scheme;
 use cluster_types::message::WordList;
 use cluster_types::text::Text;
 use command_words::command::{Command, CommandError, command_of};
-use command_words::ending::{Ending, line_of, status_of};
+use command_words::ending::{
+    Ending, StandingEnding, line_of, standing_line_of, standing_status_of, status_of,
+};
 use std::alloc::Global;
 use std::process::Abort;
 
@@ -342,5 +344,34 @@ fn statuses_and_lines(rt: HostRuntime) {
     for (ending, status, line) in ENDS {
         let is_status = status_of(*ending) == *status;
         assert!(rt; is_status && line_of(*ending).as_slice() == line.as_bytes());
+    }
+}
+
+const STANDING_ENDS: &[(StandingEnding, u8, &str)] = &[
+    (StandingEnding::Plain(Ending::Done), 0, ""),
+    (StandingEnding::NotOk, 1, ""),
+    (
+        StandingEnding::Plain(Ending::Damaged(7)),
+        7,
+        "ipcluster: damaged database at 7\n",
+    ),
+    (
+        StandingEnding::ListenerFault,
+        11,
+        "ipcluster: listener fault\n",
+    ),
+    (
+        StandingEnding::NoWorker,
+        12,
+        "ipcluster: no worker could be started\n",
+    ),
+    (StandingEnding::LinkFault, 13, "ipcluster: link fault\n"),
+];
+
+#[test]
+fn statuses_and_lines_of_standing_commands(rt: HostRuntime) {
+    for (ending, status, line) in STANDING_ENDS {
+        let is_status = standing_status_of(*ending) == *status;
+        assert!(rt; is_status && standing_line_of(*ending).as_slice() == line.as_bytes());
     }
 }
