@@ -5,5 +5,6 @@
 pub mod errors;
 mod generated;
 pub mod laws;
+pub mod opening;
 pub mod quick;
 mod replay;

@@ -8,13 +8,13 @@ ghost use Rattle.tape.specs.Spelling.{Fits, all_spelled};
 ghost use Rattle.tape.specs.Tape.{blank, tape_after, records};
 ghost use Rattle.tape_drive.specs.Drive.{served, outs, outputs, stand_at, drive_output, drive_stop, drive_stand};
 ghost use Rattle.tape_drive.specs.Served.{Comes, HoldsSome, IsTouched};
-ghost use Rattle.quick_commands.specs.Replays.{IsServed, ReplayEnds, MayLeave, config_of};
+ghost use Rattle.quick_commands.specs.Replays.{IsServed, ReplayEnds, MayLeave};
 ghost use Rattle.database_text.specs.Texts.{WroteFront, Told};
-ghost use Rattle.quick_commands.specs.Written.{Ended, IsWhole, IsOfTape, ending_at, ending_of_refusal};
+ghost use Rattle.quick_commands.specs.Written.{Ended, IsWhole, IsOfTape, ending_at};
 ghost use Rattle.quick_commands.specs.Serving.{is_disk_failure, ending_of};
 
+use crate::opening::{config_of, ending_of_refusal};
 use cluster_core::size::HistorySize;
-use cluster_types::config::Config;
 use command_words::command::ReplayOptions;
 use command_words::ending::Ending;
 use disk_model::disk::Disk;
@@ -27,7 +27,6 @@ use tape::reader::TapeReader;
 use tape::record::TapeRecord;
 use tape_drive::drive::{Drive, Stop};
 use tape_drive::fault::DriveError;
-use task_journal::fault::OpenFault;
 use task_journal::opening::Refused;
 
 /// The most octets that are read at once.
@@ -205,32 +204,6 @@ fn serve_tape<S: Source, K: Sink, D: Disk>(
         }
     }
     Ending::OutOfMemory
-}
-
-/// How a database is opened for a tape.
-fn config_of(options: &ReplayOptions) -> Config
-    ensures config { result ≡ config_of options.now }
-    ensures short { result.bytes < 2 ^ 32 }
-{
-    Config {
-        scheme: options.scheme,
-        hwm: options.hwm,
-        misses: options.misses,
-        entries: u64::from(options.entries),
-        bytes: u64::from(options.bytes),
-    }
-}
-
-/// How the program ends where a database isn't opened.
-pub fn ending_of_refusal(why: OpenFault) -> Ending
-    ensures { result ≡ ending_of_refusal why }
-{
-    match why {
-        OpenFault::NotAJournal(place) => Ending::Damaged(place),
-        OpenFault::Damaged(place) => Ending::Damaged(place),
-        OpenFault::DiskFault => Ending::DiskFault,
-        OpenFault::OutOfMemory => Ending::OutOfMemory,
-    }
 }
 
 /// Serves a tape with these options, over the database of a disk, which it hands back.
