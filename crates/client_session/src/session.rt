@@ -1,0 +1,169 @@
+//! Asking over a link.
+
+ghost use Rattle.std.specs.Prelude.{◌≡◌, ◌≢◌, ◌⊎◌, ◌≤◌, Some, None, IfOk, OnOk, OnErr, Ok, Err, length};
+ghost use Rattle.cluster_types.specs.Causes.{Rose};
+ghost use Rattle.cluster_types.specs.declared.message.Message.{Message};
+ghost use Rattle.client_session.specs.Asking.{id_in, request_octets, opened, due_for, answer_by, IsAnswered, IsUnanswered, AskedFront};
+ghost use Rattle.edges.specs.Streams.{Added, IsAtEnd};
+ghost use Rattle.engine_session.specs.Session.{AddedFront};
+ghost use Rattle.jupyter_parts.specs.Signed.{delimiter};
+ghost use Rattle.zmtp_peer.specs.declared.fault.PeerFault.{PeerFault as Fault};
+ghost use Rattle.zmtp_peer.specs.PeerStream.{talked, fault_of};
+
+use crate::answer::{answer_in, id_in};
+use cluster_types::octets::Octets;
+use cluster_types::shared_message::SharedMessage;
+use cluster_types::text::Text;
+use edges::sink::Sink;
+use edges::source::{Got, Source};
+use engine_session::end::SessionEnd;
+use engine_session::writing::write;
+use hmac_sign::Key;
+use json::Scratch;
+use jupyter_parts::write::write_parts;
+use std::alloc::{AllocError, Global};
+use std::sync::Wait;
+use zmtp_peer::peer::Peer;
+use zmtp_peer::writing::message_octets;
+
+/// The octets of a request, signed under the key.
+fn request_octets(
+    alloc: Global,
+    key: &Key,
+    request: &SharedMessage,
+) -> Result<Vec<u8>, AllocError>
+    requires short { length request.now.target ≤ 255 }
+    requires plain { request.now.target ≢ delimiter }
+    ensures { IfOk result (λ octets. octets.items ≡ request_octets key.now request.now) }
+{
+    let frames = write_parts(alloc, request, key)?;
+    message_octets(alloc, &frames)
+}
+
+/// Writes the request where the handshake is done, which gave an identity.
+fn open_where<K: Sink>(
+    alloc: Global,
+    request: &SharedMessage,
+    key: &Key,
+    writer: &mut K,
+    ready: &Option<Octets>,
+) -> Result<(), SessionEnd>
+    requires short { length request.now.target ≤ 255 }
+    requires plain { request.now.target ≢ delimiter }
+    ensures ok { OnOk result (Added (opened key.now request.now ready.now) (K.written writer.old) (K.written writer.new)) }
+    ensures err { OnErr result (AddedFront (opened key.now request.now ready.now) (K.written writer.old) (K.written writer.new)) }
+    ensures ends { OnErr result ((result ≡ Err SessionEnd.LinkFault) ⊎ (result ≡ Err SessionEnd.OutOfMemory)) }
+    ensures cause { result ≡ Err SessionEnd.LinkFault → Rose (K.faults writer.old) (K.faults writer.new) }
+    ensures later { K.faults writer.old ≤ K.faults writer.new }
+{
+    if ready.is_none() {
+        return Ok(());
+    }
+    let octets = request_octets(alloc, key, request)?;
+    write(writer, octets.as_slice())
+}
+
+/// Writes what is due for a piece of the stream.
+fn write_due<K: Sink>(
+    alloc: Global,
+    request: &SharedMessage,
+    key: &Key,
+    writer: &mut K,
+    send: &[u8],
+    ready: &Option<Octets>,
+) -> Result<(), SessionEnd>
+    requires short { length request.now.target ≤ 255 }
+    requires plain { request.now.target ≢ delimiter }
+    ensures ok { OnOk result (Added (send.now ++ opened key.now request.now ready.now) (K.written writer.old) (K.written writer.new)) }
+    ensures err { OnErr result (AddedFront (send.now ++ opened key.now request.now ready.now) (K.written writer.old) (K.written writer.new)) }
+    ensures ends { OnErr result ((result ≡ Err SessionEnd.LinkFault) ⊎ (result ≡ Err SessionEnd.OutOfMemory)) }
+    ensures cause { result ≡ Err SessionEnd.LinkFault → Rose (K.faults writer.old) (K.faults writer.new) }
+    ensures later { K.faults writer.old ≤ K.faults writer.new }
+{
+    write(writer, send)?;
+    open_where(alloc, request, key, writer, ready)
+}
+
+/// Takes a piece of the stream, writes what is due for it, and gives the first answer in it. Where the stream has a fault
+/// with no answer before it, this is the end.
+fn take_piece<K: Sink>(
+    alloc: Global,
+    peer: &mut Peer,
+    request: &SharedMessage,
+    id: &Option<Text>,
+    key: &Key,
+    scratch: &mut Scratch,
+    writer: &mut K,
+    piece: &[u8],
+) -> Result<Option<SharedMessage>, SessionEnd>
+    requires short { length request.now.target ≤ 255 }
+    requires plain { request.now.target ≢ delimiter }
+    ensures talk { OnOk result (peer.new.talk ≡ talked peer.old.talk piece.now) }
+    ensures written { OnOk result (Added (due_for key.now request.now peer.old.talk piece.now) (K.written writer.old) (K.written writer.new)) }
+    ensures answer { IfOk result (λ answer. answer ≡ answer_by key.now id.now peer.old.talk piece.now) }
+    ensures faultless { result ≡ Ok None → fault_of (talked peer.old.talk piece.now).phase ≡ None }
+    ensures fault { (f : Fault) → result ≡ Err (SessionEnd.ZmtpFault f) → (fault_of (talked peer.old.talk piece.now).phase ≡ Some f) × (answer_by key.now id.now peer.old.talk piece.now ≡ None) × Added (due_for key.now request.now peer.old.talk piece.now) (K.written writer.old) (K.written writer.new) }
+    ensures err { OnErr result (AddedFront (due_for key.now request.now peer.old.talk piece.now) (K.written writer.old) (K.written writer.new)) }
+    ensures ends { result ≢ Err SessionEnd.Ended }
+    ensures cause { result ≡ Err SessionEnd.LinkFault → Rose (K.faults writer.old) (K.faults writer.new) }
+    ensures later { K.faults writer.old ≤ K.faults writer.new }
+{
+    let fed = peer.feed(piece)?;
+    write_due(alloc, request, key, writer, fed.send.as_slice(), &fed.ready)?;
+    let answer = answer_in(alloc, key, id, fed.messages.as_slice(), scratch)?;
+    match (answer, fed.fault) {
+        (Some(message), _) => Ok(Some(message)),
+        (None, None) => Ok(None),
+        (None, Some(fault)) => Err(SessionEnd::ZmtpFault(fault)),
+    }
+}
+
+/// Sends a request over a fresh link, and gives the first signed message whose parent header names it: sends the greeting and
+/// READY, then the signed request once the controller is ready, and passes over each message that is no answer. A target of
+/// the request is its one identity frame.
+///
+/// It answers `Ended` where the stream was read to its end without an answer; `ZmtpFault` at the first fault of the stream,
+/// with no answer before it; `LinkFault` where a read or a write failed; or `OutOfMemory`.
+pub fn ask_over<R: Wait, S: Source, K: Sink>(
+    rt: &R,
+    alloc: Global,
+    request: &SharedMessage,
+    key: &Key,
+    reader: &mut S,
+    writer: &mut K,
+) -> Result<SharedMessage, SessionEnd>
+    requires short { length request.now.target ≤ 255 }
+    requires plain { request.now.target ≢ delimiter }
+    ensures answered { IfOk result (λ answer. IsAnswered key.now request.now (S.left reader.old) (S.left reader.new) (K.written writer.old) (K.written writer.new) answer) }
+    ensures ended { result ≡ Err SessionEnd.Ended → IsUnanswered key.now request.now (S.left reader.old) (S.left reader.new) (K.written writer.old) (K.written writer.new) None × IsAtEnd (S.left reader.new) }
+    ensures fault { (f : Fault) → result ≡ Err (SessionEnd.ZmtpFault f) → IsUnanswered key.now request.now (S.left reader.old) (S.left reader.new) (K.written writer.old) (K.written writer.new) (Some f) }
+    ensures front { AskedFront key.now request.now (S.left reader.old) (S.left reader.new) (K.written writer.old) (K.written writer.new) }
+    ensures cause { result ≡ Err SessionEnd.LinkFault → Rose (S.faults reader.old) (S.faults reader.new) ⊎ Rose (K.faults writer.old) (K.faults writer.new) }
+{
+    let mut scratch = Scratch::new(alloc);
+    let id = id_in(alloc, request.header(), &mut scratch)?;
+    let mut peer = Peer::new(alloc);
+    write(writer, &peer.greeting())?;
+    let mut piece = [0u8; 4096];
+    for _ in rt.forever() {
+        let count = match reader.read(&mut piece) {
+            Got::Bytes(count) => count,
+            Got::End => return Err(SessionEnd::Ended),
+            Got::Failed => return Err(SessionEnd::LinkFault),
+        };
+        let taken = take_piece(
+            alloc,
+            &mut peer,
+            request,
+            &id,
+            key,
+            &mut scratch,
+            writer,
+            &piece[..count],
+        )?;
+        if let Some(answer) = taken {
+            return Ok(answer);
+        }
+    }
+    unreachable!()
+}
