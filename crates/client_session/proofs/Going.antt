@@ -91,30 +91,31 @@ added_piece key request octets piece t old new next is added more =
     (subst (λ (u : Talk). Added (due_for key request u piece) new next) is more))
 
 -- the answer with one piece more
-answer_piece : (key : List ℕ) (request : Message) (octets piece : List ℕ) (t : Talk) (answer : Option Message) → t ≡ talked begins octets →
-    answer_to key request octets ≡ None → answer_by key (id_in request.header) t piece ≡ answer → answer_to key request (octets ++ piece) ≡ answer
-answer_piece key request octets piece t answer is none later =
-    answer_more key request octets piece none ∙ subst (λ (u : Talk). answer_by key (id_in request.header) u piece ≡ answer) is later
+answer_piece : (key : List ℕ) (request : Message) (id : Option (List ℕ)) (octets piece : List ℕ) (t : Talk) (answer : Option Message) → id ≡ id_in request.header → t ≡ talked begins octets →
+    answer_to key request octets ≡ None → answer_by key id t piece ≡ answer → answer_to key request (octets ++ piece) ≡ answer
+answer_piece key request id octets piece t answer id_is is none later =
+    answer_more key request octets piece none
+    ∙ subst (λ (u : Talk). answer_by key (id_in request.header) u piece ≡ answer) is (subst (λ (i : Option (List ℕ)). answer_by key i t piece ≡ answer) id_is later)
 
-pub goes_on : (key : List ℕ) (request : Message) (left rest later old new next : Option (List ℕ)) (t : Talk) (piece : List ℕ) →
-    Going key request left rest old new t → Took piece rest later → Added (due_for key request t piece) new next → answer_by key (id_in request.header) t piece ≡ None →
+pub goes_on : (key : List ℕ) (request : Message) (id left rest later old new next : Option (List ℕ)) (t : Talk) (piece : List ℕ) → id ≡ id_in request.header →
+    Going key request left rest old new t → Took piece rest later → Added (due_for key request t piece) new next → answer_by key id t piece ≡ None →
     Going key request left later old next (talked t piece)
-goes_on key request left rest later old new next t piece g took added none = record {
+goes_on key request id left rest later old new next t piece id_is g took added none = record {
   octets = g.octets ++ piece;
   took = took_more g.octets piece left rest later g.took took;
   talk_is = ap (λ (u : Talk). talked u piece) g.talk_is ∙ sym (talked_append begins g.octets piece);
   added = added_piece key request g.octets piece t old new next g.talk_is g.added added;
-  no_answer = answer_piece key request g.octets piece t None g.talk_is g.no_answer none;
+  no_answer = answer_piece key request id g.octets piece t None id_is g.talk_is g.no_answer none;
 }
 
-pub answers_here : (key : List ℕ) (request : Message) (left rest later old new next : Option (List ℕ)) (t : Talk) (piece : List ℕ) (answer : Message) →
-    Going key request left rest old new t → Took piece rest later → Added (due_for key request t piece) new next → answer_by key (id_in request.header) t piece ≡ Some answer →
+pub answers_here : (key : List ℕ) (request : Message) (id left rest later old new next : Option (List ℕ)) (t : Talk) (piece : List ℕ) (answer : Message) → id ≡ id_in request.header →
+    Going key request left rest old new t → Took piece rest later → Added (due_for key request t piece) new next → answer_by key id t piece ≡ Some answer →
     IsAnswered key request left later old next answer
-answers_here key request left rest later old new next t piece answer g took added is = record {
+answers_here key request id left rest later old new next t piece answer id_is g took added is = record {
   octets = g.octets ++ piece;
   took = took_more g.octets piece left rest later g.took took;
   added = added_piece key request g.octets piece t old new next g.talk_is g.added added;
-  answer_is = answer_piece key request g.octets piece t (Some answer) g.talk_is g.no_answer is;
+  answer_is = answer_piece key request id g.octets piece t (Some answer) id_is g.talk_is g.no_answer is;
 }
 
 pub unanswered : (key : List ℕ) (request : Message) (left rest old new : Option (List ℕ)) (t : Talk) (fault : Option PeerFault) →
@@ -148,13 +149,6 @@ front_here key request left rest old new t g = record {
   octets = g.octets;
   took = g.took;
   added = front_whole (due key request g.octets) old new g.added;
-}
-
-pub front_answered : (key : List ℕ) (request : Message) (left rest old new : Option (List ℕ)) (answer : Message) → IsAnswered key request left rest old new answer → AskedFront key request left rest old new
-front_answered key request left rest old new answer a = record {
-  octets = a.octets;
-  took = a.took;
-  added = front_whole (due key request a.octets) old new a.added;
 }
 
 pub front_in_piece : (key : List ℕ) (request : Message) (left rest later old new next : Option (List ℕ)) (t : Talk) (piece : List ℕ) →

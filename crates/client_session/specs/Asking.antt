@@ -1,7 +1,10 @@
 -- A request over a link, and its answer.
 use Rattle.std.specs.Prelude.{◌≡◌, ℕ, Bool, true, false, List, [], ◌∷◌, ◌++◌, Option, Some, None, Result, Ok, Err, bytes_eq, if◌then◌else◌, option_map}
+use Rattle.std.specs.Option.{unwrap_or}
 use Rattle.std.specs.Result.{result_ok}
 use Rattle.client_core.specs.Taking.{task_in}
+use Rattle.client_session.specs.declared.answer.Taken.{Taken}
+use Rattle.client_session.specs.declared.answer.Taken.TheVariants.{Answer, Fault, Nothing}
 use Rattle.cluster_types.specs.declared.message.Message.{Message}
 use Rattle.edges.specs.Streams.{Took, Added}
 use Rattle.engine_session.specs.Session.{AddedFront}
@@ -49,13 +52,9 @@ answer_to key request octets = answer_in key (id_in request.header) (peer_stream
 
 -- THE STATUS OF AN ANSWER
 
-abbrev pub is_true : Option Bool → Bool
-is_true None = false
-is_true (Some b) = b
-
 -- whether a content is a JSON object whose `status` is the text `ok`
 abbrev pub is_ok : List ℕ → Bool
-is_ok content = is_true (result_ok (read_status content))
+is_ok content = unwrap_or (result_ok (read_status content)) false
 
 -- WHAT IS WRITTEN
 
@@ -105,3 +104,9 @@ due_for key request t piece = sent t piece ++ opened key request (identity t pie
 -- the first answer to the request of an id in a piece
 abbrev pub answer_by : List ℕ → Option (List ℕ) → Talk → List ℕ → Option Message
 answer_by key id t piece = answer_in key id (messages t piece)
+
+-- what ends a session: an answer, else a fault
+abbrev pub taken_by : Option Message → Option PeerFault → Taken
+taken_by (Some answer) fault = Answer answer
+taken_by None (Some fault) = Fault fault
+taken_by None None = Nothing

@@ -1,7 +1,7 @@
 //! The answer among the messages of a stream.
 
 ghost use Rattle.std.specs.Prelude.{◌≡◌, IfOk};
-ghost use Rattle.client_session.specs.Asking.{id_in, are_same, answer_of, answer_in};
+ghost use Rattle.client_session.specs.Asking.{id_in, are_same, answer_of, answer_in, taken_by};
 
 use client_core::answers::task_in;
 use cluster_types::shared_message::SharedMessage;
@@ -14,17 +14,36 @@ use jupyter_parts::fault::PartsError;
 use jupyter_parts::read::read_parts;
 use message_defs::fault::ReadError;
 use std::alloc::{AllocError, Global};
+use zmtp_peer::fault::PeerFault;
+
+/// What a piece of a stream gives of what ends a session.
+#[derive(Debug, Drop)]
+pub enum Taken {
+    Answer(SharedMessage),
+    Fault(PeerFault),
+    Nothing,
+}
+
+/// The answer, else the fault.
+pub fn taken_by(answer: Option<SharedMessage>, fault: Option<PeerFault>) -> Taken
+    ensures { result ≡ taken_by answer fault }
+{
+    match answer {
+        Some(message) => Taken::Answer(message),
+        None => match fault {
+            Some(fault) => Taken::Fault(fault),
+            None => Taken::Nothing,
+        },
+    }
+}
 
 /// The id that the header of a request gives, where it reads.
 #[tactic(auto, unfolding(crate::specs::Asking::id_in))]
-pub fn id_in(
-    alloc: Global,
-    header: &[u8],
-    scratch: &mut Scratch,
-) -> Result<Option<Text>, AllocError>
+pub fn id_in(alloc: Global, header: &[u8]) -> Result<Option<Text>, AllocError>
     ensures { IfOk result (λ id. id ≡ id_in header.now) }
 {
-    match read_header(alloc, header, scratch) {
+    let mut scratch = Scratch::new(alloc);
+    match read_header(alloc, header, &mut scratch) {
         Ok(header) => Ok(Some(header.msg_id)),
         Err(ReadError::OutOfMemory) => Err(AllocError),
         Err(_) => Ok(None),
@@ -35,9 +54,12 @@ pub fn id_in(
 fn are_same(one: &Option<Text>, other: &Option<Text>) -> bool
     ensures { result ≡ are_same one.now other.now }
 {
-    match (one, other) {
-        (Some(one), Some(other)) => one.is(other),
-        _ => false,
+    match one {
+        Some(one) => match other {
+            Some(other) => one.is(other),
+            None => false,
+        },
+        None => false,
     }
 }
 
@@ -70,13 +92,15 @@ pub fn answer_in(
     key: &Key,
     id: &Option<Text>,
     messages: &[Frames],
-    scratch: &mut Scratch,
 ) -> Result<Option<SharedMessage>, AllocError>
     ensures { IfOk result (λ answer. answer ≡ answer_in key.now id.now messages.now) }
 {
+    let mut scratch = Scratch::new(alloc);
     for frames in messages {
-        if let Some(message) = answer_of(alloc, key, id, frames, scratch)? {
-            return Ok(Some(message));
+        let answer = answer_of(alloc, key, id, frames, &mut scratch)?;
+        match answer {
+            Some(message) => return Ok(Some(message)),
+            None => {}
         }
     }
     Ok(None)

@@ -1,16 +1,15 @@
 //! Asking over a link.
 
-ghost use Rattle.std.specs.Prelude.{◌≡◌, ◌≢◌, ◌⊎◌, ◌≤◌, Some, None, IfOk, OnOk, OnErr, Ok, Err, length};
+ghost use Rattle.std.specs.Prelude.{◌≡◌, ◌≢◌, ◌⊎◌, ◌≤◌, ◌++◌, Some, None, IfOk, OnOk, OnErr, Err, length};
 ghost use Rattle.cluster_types.specs.Causes.{Rose};
-ghost use Rattle.cluster_types.specs.declared.message.Message.{Message};
-ghost use Rattle.client_session.specs.Asking.{id_in, request_octets, opened, due_for, answer_by, IsAnswered, IsUnanswered, AskedFront};
+ghost use Rattle.client_session.specs.Asking.{request_octets, opened, due_for, answer_by, taken_by, IsAnswered, IsUnanswered, AskedFront};
 ghost use Rattle.edges.specs.Streams.{Added, IsAtEnd};
 ghost use Rattle.engine_session.specs.Session.{AddedFront};
 ghost use Rattle.jupyter_parts.specs.Signed.{delimiter};
 ghost use Rattle.zmtp_peer.specs.declared.fault.PeerFault.{PeerFault as Fault};
 ghost use Rattle.zmtp_peer.specs.PeerStream.{talked, fault_of};
 
-use crate::answer::{answer_in, id_in};
+use crate::answer::{Taken, answer_in, id_in, taken_by};
 use cluster_types::octets::Octets;
 use cluster_types::shared_message::SharedMessage;
 use cluster_types::text::Text;
@@ -19,7 +18,6 @@ use edges::source::{Got, Source};
 use engine_session::end::SessionEnd;
 use engine_session::writing::write;
 use hmac_sign::Key;
-use json::Scratch;
 use jupyter_parts::write::write_parts;
 use std::alloc::{AllocError, Global};
 use std::sync::Wait;
@@ -40,6 +38,25 @@ fn request_octets(
     message_octets(alloc, &frames)
 }
 
+/// Writes the request.
+fn write_request<K: Sink>(
+    alloc: Global,
+    request: &SharedMessage,
+    key: &Key,
+    writer: &mut K,
+) -> Result<(), SessionEnd>
+    requires short { length request.now.target ≤ 255 }
+    requires plain { request.now.target ≢ delimiter }
+    ensures ok { OnOk result (Added (request_octets key.now request.now) (K.written writer.old) (K.written writer.new)) }
+    ensures err { OnErr result (AddedFront (request_octets key.now request.now) (K.written writer.old) (K.written writer.new)) }
+    ensures ends { OnErr result ((result ≡ Err SessionEnd.LinkFault) ⊎ (result ≡ Err SessionEnd.OutOfMemory)) }
+    ensures cause { result ≡ Err SessionEnd.LinkFault → Rose (K.faults writer.old) (K.faults writer.new) }
+    ensures later { K.faults writer.old ≤ K.faults writer.new }
+{
+    let octets = request_octets(alloc, key, request)?;
+    write(writer, octets.as_slice())
+}
+
 /// Writes the request where the handshake is done, which gave an identity.
 fn open_where<K: Sink>(
     alloc: Global,
@@ -56,11 +73,10 @@ fn open_where<K: Sink>(
     ensures cause { result ≡ Err SessionEnd.LinkFault → Rose (K.faults writer.old) (K.faults writer.new) }
     ensures later { K.faults writer.old ≤ K.faults writer.new }
 {
-    if ready.is_none() {
-        return Ok(());
+    match ready {
+        None => Ok(()),
+        Some(_) => write_request(alloc, request, key, writer),
     }
-    let octets = request_octets(alloc, key, request)?;
-    write(writer, octets.as_slice())
 }
 
 /// Writes what is due for a piece of the stream.
@@ -84,38 +100,30 @@ fn write_due<K: Sink>(
     open_where(alloc, request, key, writer, ready)
 }
 
-/// Takes a piece of the stream, writes what is due for it, and gives the first answer in it. Where the stream has a fault
-/// with no answer before it, this is the end.
+/// Takes a piece of the stream, writes what is due for it, and tells whether it ends the session.
 fn take_piece<K: Sink>(
     alloc: Global,
     peer: &mut Peer,
     request: &SharedMessage,
     id: &Option<Text>,
     key: &Key,
-    scratch: &mut Scratch,
     writer: &mut K,
     piece: &[u8],
-) -> Result<Option<SharedMessage>, SessionEnd>
+) -> Result<Taken, SessionEnd>
     requires short { length request.now.target ≤ 255 }
     requires plain { request.now.target ≢ delimiter }
+    ensures ok { OnOk result (Added (due_for key.now request.now peer.old.talk piece.now) (K.written writer.old) (K.written writer.new)) }
     ensures talk { OnOk result (peer.new.talk ≡ talked peer.old.talk piece.now) }
-    ensures written { OnOk result (Added (due_for key.now request.now peer.old.talk piece.now) (K.written writer.old) (K.written writer.new)) }
-    ensures answer { IfOk result (λ answer. answer ≡ answer_by key.now id.now peer.old.talk piece.now) }
-    ensures faultless { result ≡ Ok None → fault_of (talked peer.old.talk piece.now).phase ≡ None }
-    ensures fault { (f : Fault) → result ≡ Err (SessionEnd.ZmtpFault f) → (fault_of (talked peer.old.talk piece.now).phase ≡ Some f) × (answer_by key.now id.now peer.old.talk piece.now ≡ None) × Added (due_for key.now request.now peer.old.talk piece.now) (K.written writer.old) (K.written writer.new) }
+    ensures taken { IfOk result (λ taken. taken ≡ taken_by (answer_by key.now id.now peer.old.talk piece.now) (fault_of (talked peer.old.talk piece.now).phase)) }
     ensures err { OnErr result (AddedFront (due_for key.now request.now peer.old.talk piece.now) (K.written writer.old) (K.written writer.new)) }
-    ensures ends { result ≢ Err SessionEnd.Ended }
+    ensures ends { OnErr result ((result ≡ Err SessionEnd.LinkFault) ⊎ (result ≡ Err SessionEnd.OutOfMemory)) }
     ensures cause { result ≡ Err SessionEnd.LinkFault → Rose (K.faults writer.old) (K.faults writer.new) }
     ensures later { K.faults writer.old ≤ K.faults writer.new }
 {
     let fed = peer.feed(piece)?;
     write_due(alloc, request, key, writer, fed.send.as_slice(), &fed.ready)?;
-    let answer = answer_in(alloc, key, id, fed.messages.as_slice(), scratch)?;
-    match (answer, fed.fault) {
-        (Some(message), _) => Ok(Some(message)),
-        (None, None) => Ok(None),
-        (None, Some(fault)) => Err(SessionEnd::ZmtpFault(fault)),
-    }
+    let answer = answer_in(alloc, key, id, fed.messages.as_slice())?;
+    Ok(taken_by(answer, fed.fault))
 }
 
 /// Sends a request over a fresh link, and gives the first signed message whose parent header names it: sends the greeting and
@@ -140,8 +148,7 @@ pub fn ask_over<R: Wait, S: Source, K: Sink>(
     ensures front { AskedFront key.now request.now (S.left reader.old) (S.left reader.new) (K.written writer.old) (K.written writer.new) }
     ensures cause { result ≡ Err SessionEnd.LinkFault → Rose (S.faults reader.old) (S.faults reader.new) ⊎ Rose (K.faults writer.old) (K.faults writer.new) }
 {
-    let mut scratch = Scratch::new(alloc);
-    let id = id_in(alloc, request.header(), &mut scratch)?;
+    let id = id_in(alloc, request.header())?;
     let mut peer = Peer::new(alloc);
     write(writer, &peer.greeting())?;
     let mut piece = [0u8; 4096];
@@ -157,12 +164,13 @@ pub fn ask_over<R: Wait, S: Source, K: Sink>(
             request,
             &id,
             key,
-            &mut scratch,
             writer,
             &piece[..count],
         )?;
-        if let Some(answer) = taken {
-            return Ok(answer);
+        match taken {
+            Taken::Answer(answer) => return Ok(answer),
+            Taken::Fault(fault) => return Err(SessionEnd::ZmtpFault(fault)),
+            Taken::Nothing => {}
         }
     }
     unreachable!()

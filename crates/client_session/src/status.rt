@@ -13,5 +13,5 @@ pub fn is_ok(alloc: Global, content: &[u8]) -> Result<bool, AllocError>
 {
     let mut scratch = Scratch::new(alloc);
     let status = status_in(alloc, content, &mut scratch)?;
-    Ok(status == Some(true))
+    Ok(status.unwrap_or(false))
 }
