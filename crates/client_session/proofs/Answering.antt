@@ -11,6 +11,7 @@ use Rattle.zmtp_peer.specs.PeerStream.{Talk, talked, messages, fault_of}
 -- the answer among the messages from a place on, by the first of them
 pub first_is : (key : List ℕ) (id : Option (List ℕ)) (messages : List (List (List ℕ))) (i : ℕ) (frames : List (List ℕ)) (answer : Option Message) → i < length messages → frames ≡ get_or messages i frames →
     answer ≡ answer_of key id frames → answer_in key id (drop i messages) ≡ or_next answer (answer_in key id (drop (i + 1) messages))
+unfolding answer_in
 first_is key id messages i frames answer lt at is =
     at_drop_more (answer_in key id) messages i frames lt
     ∙ ap (λ (x : List (List ℕ)). answer_in key id (x ∷ drop (i + 1) messages)) (sym at)

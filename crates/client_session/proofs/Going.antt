@@ -21,6 +21,7 @@ next_assoc (Some m) b c = refl
 next_assoc None b c = refl
 
 answer_append : (key : List ℕ) (id : Option (List ℕ)) (xs ys : List (List (List ℕ))) → answer_in key id (xs ++ ys) ≡ or_next (answer_in key id xs) (answer_in key id ys)
+unfolding answer_in
 answer_append key id [] ys = refl
 answer_append key id (x ∷ xs) ys =
     ap (λ (a : Option Message). or_next (answer_of key id x) a) (answer_append key id xs ys) ∙ next_assoc (answer_of key id x) (answer_in key id xs) (answer_in key id ys)
@@ -74,6 +75,7 @@ greeted : (greeting : List ℕ) → greeting ≡ (greeting ++ []) ++ []
 greeted greeting = rw (append-nil greeting, append-nil greeting) refl
 
 pub begun : (key : List ℕ) (request : Message) (left old new : Option (List ℕ)) → Added own_greeting old new → Going key request left left old new begins
+unfolding answer_in
 begun key request left old new added = record {
   octets = [];
   took = took_none left;

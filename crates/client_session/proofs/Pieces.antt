@@ -1,9 +1,11 @@
 -- What is written for a piece.
-use Rattle.std.proofs.Common.{◌≡◌, ℕ, List, [], ◌++◌, Option, Result, Ok, Err, refl, subst, sym}
+use Rattle.std.proofs.Common.{◌≡◌, ℕ, List, [], ◌++◌, Option, Result, Ok, Err, refl, subst}
 use Rattle.std.specs.Prelude.{OnOk, OnErr}
 use Rattle.client_session.specs.Asking.{opened, due_for}
 use Rattle.cluster_types.specs.declared.message.Message.{Message}
 use Rattle.edges.specs.Streams.{Added}
+use Rattle.engine_session.specs.declared.end.SessionEnd.{SessionEnd}
+use Rattle.engine_session.specs.declared.end.SessionEnd.TheVariants.{LinkFault}
 use Rattle.engine_session.specs.Session.{AddedFront}
 use Rattle.engine_session.proofs.Hearing.{added_more, added_none, front_behind}
 use Rattle.zmtp_peer.specs.PeerStream.{Talk, sent, identity}
@@ -33,6 +35,7 @@ pub due_front : (key : List ℕ) (request : Message) (t : Talk) (piece send : Li
     AddedFront (send ++ opened key request ready) x y → AddedFront (due_for key request t piece) x y
 due_front key request t piece send ready x y send_is ready_is = subst (λ (xs : List ℕ). AddedFront xs x y) (due_is key request t piece send ready send_is ready_is)
 
-pub front_only : {T E P Q : Type 0} (r : Result T E) → OnErr r (P × Q) → OnErr r Q
-front_only (Ok t) both = tt
-front_only (Err e) both = both.1
+-- a front of octets was written, by a call that has no other fault
+pub written_front : {T : Type 0} (r : Result T SessionEnd) (a b : List ℕ) (x y : Option (List ℕ)) → a ≡ b → OnErr r ((r ≡ Err LinkFault) × AddedFront a x y) → OnErr r (AddedFront b x y)
+written_front (Ok t) a b x y is both = tt
+written_front (Err e) a b x y is both = subst (λ (xs : List ℕ). AddedFront xs x y) is both.1

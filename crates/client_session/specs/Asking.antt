@@ -42,7 +42,7 @@ or_next (Some message) next = Some message
 or_next None next = next
 
 -- the first answer among the frames of messages
-abbrev pub answer_in : List ℕ → Option (List ℕ) → List (List (List ℕ)) → Option Message
+unfoldable pub answer_in : List ℕ → Option (List ℕ) → List (List (List ℕ)) → Option Message
 answer_in key id [] = None
 answer_in key id (frames ∷ more) = or_next (answer_of key id frames) (answer_in key id more)
 

@@ -87,6 +87,7 @@ fn answer_of(
 }
 
 /// The first answer among messages to the request of an id.
+#[tactic(auto, unfolding(crate::specs::Asking::answer_in))]
 pub fn answer_in(
     alloc: Global,
     key: &Key,

@@ -25,11 +25,7 @@ use zmtp_peer::peer::Peer;
 use zmtp_peer::writing::message_octets;
 
 /// The octets of a request, signed under the key.
-fn request_octets(
-    alloc: Global,
-    key: &Key,
-    request: &SharedMessage,
-) -> Result<Vec<u8>, AllocError>
+fn request_octets(alloc: Global, key: &Key, request: &SharedMessage) -> Result<Vec<u8>, AllocError>
     requires short { length request.now.target ≤ 255 }
     requires plain { request.now.target ≢ delimiter }
     ensures { IfOk result (λ octets. octets.items ≡ request_octets key.now request.now) }
@@ -158,15 +154,7 @@ pub fn ask_over<R: Wait, S: Source, K: Sink>(
             Got::End => return Err(SessionEnd::Ended),
             Got::Failed => return Err(SessionEnd::LinkFault),
         };
-        let taken = take_piece(
-            alloc,
-            &mut peer,
-            request,
-            &id,
-            key,
-            writer,
-            &piece[..count],
-        )?;
+        let taken = take_piece(alloc, &mut peer, request, &id, key, writer, &piece[..count])?;
         match taken {
             Taken::Answer(answer) => return Ok(answer),
             Taken::Fault(fault) => return Err(SessionEnd::ZmtpFault(fault)),

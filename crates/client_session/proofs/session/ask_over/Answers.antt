@@ -1,4 +1,4 @@
-use Rattle.std.proofs.Common.{◌≡◌, ◌∙◌, List, ℕ, Option, Some, None, refl, sym, ap, subst, arith}
+use Rattle.std.proofs.Common.{◌≡◌, ◌∙◌, List, ℕ, Option, Some, None, sym, ap, subst, arith}
 use Rattle.client_session.specs.Asking.{id_in}
 use Rattle.client_session.proofs.Answering.{answer_taken, fault_taken, nothing_taken}
 use Rattle.client_session.proofs.Going.{Going, begun, goes_on, answers_here, unanswered, front_nothing, front_greeting, front_here, front_in_piece}
@@ -6,7 +6,7 @@ use Rattle.client_session.proofs.session.ask_over.Goals as goal
 use Rattle.edges.specs.Streams.{Added}
 use Rattle.engine_session.specs.Session.{AddedFront}
 use Rattle.engine_session.proofs.Hearing.{front_whole}
-use Rattle.zmtp_peer.specs.PeerStream.{Talk, fault_of}
+use Rattle.zmtp_peer.specs.PeerStream.{Talk, Held, fault_of}
 
 pub returns-in_err-id-clause-front : goal.returns-in_err-id-clause-front
 returns-in_err-id-clause-front g c = front_nothing c.args.key.now c.args.request.now (g.S.Source.left c.args.reader.now) (g.K.Sink.written c.args.writer.now)
@@ -18,9 +18,10 @@ returns-in_err-write-clause-front g c =
 
 pub loop-init : goal.loop-init
 loop-init g c = record {
-  going = begun c.args.key.now c.args.request.now (g.S.Source.left c.args.reader.now) (g.K.Sink.written c.args.writer.now) (g.K.Sink.written c.write.new.writer)
-      (subst (λ (xs : List ℕ). Added xs (g.K.Sink.written c.args.writer.now) (g.K.Sink.written c.write.new.writer)) c.greeting.ensures c.in_ok-write.ensures.ok);
-  faultless = refl;
+  going = subst (λ (t : Talk). Going c.args.key.now c.args.request.now (g.S.Source.left c.args.reader.now) (g.S.Source.left c.args.reader.now) (g.K.Sink.written c.args.writer.now) (g.K.Sink.written c.write.new.writer) t) (sym (ap (λ (h : Held). h.talk) c.new-peer.ensures))
+      (begun c.args.key.now c.args.request.now (g.S.Source.left c.args.reader.now) (g.K.Sink.written c.args.writer.now) (g.K.Sink.written c.write.new.writer)
+      (subst (λ (xs : List ℕ). Added xs (g.K.Sink.written c.args.writer.now) (g.K.Sink.written c.write.new.writer)) c.greeting.ensures c.in_ok-write.ensures.ok));
+  faultless = ap (λ (h : Held). fault_of h.talk.phase) c.new-peer.ensures;
   reads = omega arith;
   writes = omega (arith, c.write.ensures.later);
 }
