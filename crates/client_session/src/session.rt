@@ -2,7 +2,7 @@
 
 ghost use Rattle.std.specs.Prelude.{◌≡◌, ◌≢◌, ◌⊎◌, ◌≤◌, ◌++◌, Some, None, IfOk, OnOk, OnErr, Err, length};
 ghost use Rattle.cluster_types.specs.Causes.{Rose};
-ghost use Rattle.client_session.specs.Asking.{request_octets, opened, due_for, answer_by, taken_by, IsAnswered, IsUnanswered, AskedFront};
+ghost use Rattle.client_session.specs.Asking.{id_in, request_octets, opened, due_for, answer_by, taken_by, IsAnswered, IsUnanswered, AskedFront};
 ghost use Rattle.edges.specs.Streams.{Added, IsAtEnd};
 ghost use Rattle.engine_session.specs.Session.{AddedFront};
 ghost use Rattle.jupyter_parts.specs.Signed.{delimiter};
@@ -122,6 +122,44 @@ fn take_piece<K: Sink>(
     Ok(taken_by(answer, fed.fault))
 }
 
+/// Asks over a fresh link, where this is the id in the header of the request.
+fn ask_under<R: Wait, S: Source, K: Sink>(
+    rt: &R,
+    alloc: Global,
+    request: &SharedMessage,
+    id: &Option<Text>,
+    key: &Key,
+    reader: &mut S,
+    writer: &mut K,
+) -> Result<SharedMessage, SessionEnd>
+    requires id { id.now ≡ id_in request.now.header }
+    requires short { length request.now.target ≤ 255 }
+    requires plain { request.now.target ≢ delimiter }
+    ensures answered { IfOk result (λ answer. IsAnswered key.now request.now (S.left reader.old) (S.left reader.new) (K.written writer.old) (K.written writer.new) answer) }
+    ensures ended { result ≡ Err SessionEnd.Ended → IsUnanswered key.now request.now (S.left reader.old) (S.left reader.new) (K.written writer.old) (K.written writer.new) None × IsAtEnd (S.left reader.new) }
+    ensures fault { (f : Fault) → result ≡ Err (SessionEnd.ZmtpFault f) → IsUnanswered key.now request.now (S.left reader.old) (S.left reader.new) (K.written writer.old) (K.written writer.new) (Some f) }
+    ensures front { AskedFront key.now request.now (S.left reader.old) (S.left reader.new) (K.written writer.old) (K.written writer.new) }
+    ensures cause { result ≡ Err SessionEnd.LinkFault → Rose (S.faults reader.old) (S.faults reader.new) ⊎ Rose (K.faults writer.old) (K.faults writer.new) }
+{
+    let mut peer = Peer::new(alloc);
+    write(writer, &peer.greeting())?;
+    let mut piece = [0u8; 4096];
+    for _ in rt.forever() {
+        let count = match reader.read(&mut piece) {
+            Got::Bytes(count) => count,
+            Got::End => return Err(SessionEnd::Ended),
+            Got::Failed => return Err(SessionEnd::LinkFault),
+        };
+        let taken = take_piece(alloc, &mut peer, request, id, key, writer, &piece[..count])?;
+        match taken {
+            Taken::Answer(answer) => return Ok(answer),
+            Taken::Fault(fault) => return Err(SessionEnd::ZmtpFault(fault)),
+            Taken::Nothing => {}
+        }
+    }
+    unreachable!()
+}
+
 /// Sends a request over a fresh link, and gives the first signed message whose parent header names it: sends the greeting and
 /// READY, then the signed request once the controller is ready, and passes over each message that is no answer. A target of
 /// the request is its one identity frame.
@@ -145,21 +183,5 @@ pub fn ask_over<R: Wait, S: Source, K: Sink>(
     ensures cause { result ≡ Err SessionEnd.LinkFault → Rose (S.faults reader.old) (S.faults reader.new) ⊎ Rose (K.faults writer.old) (K.faults writer.new) }
 {
     let id = id_in(alloc, request.header())?;
-    let mut peer = Peer::new(alloc);
-    write(writer, &peer.greeting())?;
-    let mut piece = [0u8; 4096];
-    for _ in rt.forever() {
-        let count = match reader.read(&mut piece) {
-            Got::Bytes(count) => count,
-            Got::End => return Err(SessionEnd::Ended),
-            Got::Failed => return Err(SessionEnd::LinkFault),
-        };
-        let taken = take_piece(alloc, &mut peer, request, &id, key, writer, &piece[..count])?;
-        match taken {
-            Taken::Answer(answer) => return Ok(answer),
-            Taken::Fault(fault) => return Err(SessionEnd::ZmtpFault(fault)),
-            Taken::Nothing => {}
-        }
-    }
-    unreachable!()
+    ask_under(rt, alloc, request, &id, key, reader, writer)
 }

@@ -1,6 +1,6 @@
 use Rattle.std.proofs.Common.{◌≡◌, ◌≤◌, None}
 use Rattle.client_session.proofs.Going.{Going}
-use Rattle.client_session.proofs.session.ask_over.Given as goal
+use Rattle.client_session.proofs.session.ask_under.Given as goal
 use Rattle.zmtp_peer.specs.PeerStream.{fault_of}
 
 -- no answer came, all that is due was written, and the stream has no fault yet
