@@ -1,5 +1,3 @@
-use Rattle.std.proofs.Common.{◌∙◌, ap}
-use Rattle.client_session.specs.Asking.{id_in}
 use Rattle.client_session.proofs.Going.{front_nothing}
 use Rattle.client_session.proofs.session.ask_over.Goals as goal
 
