@@ -1,7 +1,7 @@
 //! A client of the cluster, without its sockets: it makes requests, and tells the outcomes of its tasks from other messages.
 #![tactic(auto)]
 
-mod answers;
+pub mod answers;
 pub mod client;
 pub mod error;
 mod identifier;

@@ -20,7 +20,7 @@ pub record Going (key : List ℕ) (before : Standing) (left rest old new : Optio
   pub writes : Writes key before octets (messages begins octets) written after
   pub added : Added written old new
 
-took_none : (x : Option (List ℕ)) → Took [] x x
+pub took_none : (x : Option (List ℕ)) → Took [] x x
 took_none None = refl
 took_none (Some octets) = refl
 

@@ -4,4 +4,4 @@
 mod answers;
 pub mod end;
 pub mod session;
-mod writing;
+pub mod writing;

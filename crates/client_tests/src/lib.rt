@@ -1,0 +1,4 @@
+//! Tests of the session of a client.
+#![tactic(auto)]
+
+mod asking;
