@@ -1,5 +1,4 @@
-use Rattle.std.proofs.Common.{◌≡◌, [], refl, ap, sym, ◌∙◌, ⊎_elim, inl, inr, arith}
-use Rattle.link_commands.proofs.Ends.{rose_above, empty_is_plain, empty_is_short}
+use Rattle.link_commands.proofs.Ends.{empty_is_plain, empty_is_short}
 use Rattle.link_commands.proofs.client.run_client.Goals as goal
 
 pub ask_over-requires-clause-short : goal.ask_over-requires-clause-short
