@@ -1,0 +1,4 @@
+pub mod Actions
+pub mod Links
+pub mod EngineEnds
+pub mod ClientEnds

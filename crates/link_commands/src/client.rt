@@ -1,0 +1,143 @@
+//! A client that asks a controller for something.
+
+ghost use Rattle.std.specs.Prelude.{◌≡◌, Err, IfOk, OnOk};
+ghost use Rattle.client_session.specs.Asking.{is_ok};
+ghost use Rattle.cluster_types.specs.Causes.{Rose};
+ghost use Rattle.link_commands.specs.Actions.{IsRequest};
+ghost use Rattle.link_commands.specs.ClientEnds.{IsPrinted, ClientEnds};
+ghost use Rattle.link_commands.specs.Links.{IsDialled};
+
+use crate::actions::{channel_for, message_for};
+use crate::random::drawn;
+use client_session::session::ask_over;
+use client_session::status::is_ok;
+use cluster_types::shared_message::SharedMessage;
+use command_words::standing::Action;
+use edges::sink::{Sink, WriteFailed, write_all};
+use engine_session::end::SessionEnd;
+use hmac_sign::Key;
+use std::alloc::{AllocError, Global};
+use std::sync::Wait;
+use thread_edges::clock::Clock;
+use thread_edges::links::{Accepted, Dialer};
+use thread_edges::words::Words;
+use zmtp_peer::fault::PeerFault;
+
+/// How a client's request ended, with its link where it shows that.
+#[derive(Drop)]
+pub enum ClientEnd<I, O> {
+    /// The content of the answer was printed, and a line feed. `ok` says whether its status is `ok`.
+    Answered {
+        ok: bool,
+        reader: I,
+        writer: O,
+    },
+    /// The controller's stream was read to its end without an answer.
+    Unanswered {
+        reader: I,
+        writer: O,
+    },
+    /// No link was made.
+    NotDialled,
+    /// A read or a write failed.
+    LinkFault {
+        reader: I,
+        writer: O,
+    },
+    /// The stream has this fault, with no answer before it.
+    ZmtpFault {
+        fault: PeerFault,
+        reader: I,
+        writer: O,
+    },
+    /// The answer came, and a write of the output failed.
+    OutputFault,
+    OutOfMemory,
+}
+
+/// Why an answer isn't shown.
+#[derive(Debug, Drop)]
+enum ShowError {
+    /// A write of the output failed.
+    WriteFailed,
+    OutOfMemory,
+}
+
+impl From<AllocError> for ShowError {
+    ghost use Rattle.std.specs.Prelude.{◌≡◌};
+    ghost use Rattle.link_commands.specs.declared.client.ShowError.{ShowError};
+
+    ghost from_gives = { λ _ e. e ≡ ShowError.OutOfMemory };
+
+    fn from(_: AllocError) -> ShowError {
+        ShowError::OutOfMemory
+    }
+}
+
+impl From<WriteFailed> for ShowError {
+    ghost use Rattle.std.specs.Prelude.{◌≡◌};
+    ghost use Rattle.link_commands.specs.declared.client.ShowError.{ShowError};
+
+    ghost from_gives = { λ _ e. e ≡ ShowError.WriteFailed };
+
+    fn from(_: WriteFailed) -> ShowError {
+        ShowError::WriteFailed
+    }
+}
+
+/// Prints the content of an answer, and a line feed. It tells whether the status of the content is `ok`.
+fn show<K: Sink>(alloc: Global, answer: &SharedMessage, output: &mut K) -> Result<bool, ShowError>
+    ensures ok { IfOk result (λ ok. ok ≡ is_ok answer.now.content) }
+    ensures printed { OnOk result (IsPrinted answer.now (K.written output.old) (K.written output.new)) }
+    ensures cause { result ≡ Err ShowError.WriteFailed → Rose (K.faults output.old) (K.faults output.new) }
+{
+    let ok = is_ok(alloc, answer.content())?;
+    write_all(output, answer.content())?;
+    write_all(output, b"\n")?;
+    Ok(ok)
+}
+
+/// Asks a controller for something: dials the channel of the action, sends its request under two drawn words, and prints the
+/// content of the answer and a line feed.
+pub fn run_client<R: Wait, N: Dialer, C: Clock, W: Words, K: Sink>(
+    rt: &R,
+    alloc: Global,
+    action: &Action,
+    key: &Key,
+    dialer: &mut N,
+    clock: &mut C,
+    words: &mut W,
+    output: &mut K,
+) -> ClientEnd<N::In, N::Out>
+    ensures { ClientEnds (record { left = N.In.left; reads = N.In.faults; written = N.Out.written; writes = N.Out.faults }) key.now (IsRequest action.now (W.coming words.old) (W.coming words.new)) (IsDialled (record { left = N.In.left; reads = N.In.faults; written = N.Out.written; writes = N.Out.faults }) (N.links dialer.old) (N.links dialer.new)) (λ answer. IsPrinted answer (K.written output.old) (K.written output.new)) (Rose (N.faults dialer.old) (N.faults dialer.new)) (Rose (K.faults output.old) (K.faults output.new)) result }
+{
+    let (mut reader, mut writer) = match dialer.dial(channel_for(action)) {
+        Accepted::Pair(reader, writer) => (reader, writer),
+        Accepted::Failed => return ClientEnd::NotDialled,
+        Accepted::End => unreachable!(),
+    };
+    let random = drawn(words);
+    let moment = clock.now().millis;
+    let request = match message_for(alloc, action, random, moment) {
+        Ok(request) => request,
+        Err(AllocError) => return ClientEnd::OutOfMemory,
+    };
+    let answer = match ask_over(rt, alloc, &request, key, &mut reader, &mut writer) {
+        Ok(answer) => answer,
+        Err(SessionEnd::Ended) => return ClientEnd::Unanswered { reader, writer },
+        Err(SessionEnd::LinkFault) => return ClientEnd::LinkFault { reader, writer },
+        Err(SessionEnd::ZmtpFault(fault)) => {
+            return ClientEnd::ZmtpFault {
+                fault,
+                reader,
+                writer,
+            };
+        }
+        Err(SessionEnd::OutOfMemory) => return ClientEnd::OutOfMemory,
+    };
+    match show(alloc, &answer, output) {
+        Ok(ok) => ClientEnd::Answered { ok, reader, writer },
+        Err(ShowError::WriteFailed) => ClientEnd::OutputFault,
+        Err(ShowError::OutOfMemory) => ClientEnd::OutOfMemory,
+    }
+}

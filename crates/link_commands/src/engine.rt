@@ -1,0 +1,79 @@
+//! An engine that works for a controller.
+
+ghost use Rattle.std.specs.Prelude.{◌≡◌, true};
+ghost use Rattle.cluster_types.specs.Causes.{Rose};
+ghost use Rattle.engine_core.specs.State.{is_uuid};
+ghost use Rattle.link_commands.specs.EngineEnds.{EngineEnds};
+ghost use Rattle.link_commands.specs.Links.{IsDialled};
+
+use engine_core::engine::Engine;
+use engine_core::error::EngineError;
+use engine_session::end::SessionEnd;
+use engine_session::session::serve_engine;
+use hmac_sign::Key;
+use std::alloc::Global;
+use std::sync::Wait;
+use thread_edges::clock::Clock;
+use thread_edges::links::{Accepted, Dialer};
+use zmtp_peer::fault::PeerFault;
+
+/// The channel of engines.
+const ENGINES: u8 = 3;
+
+/// How an engine's work ended, with its link where one was used.
+#[derive(Drop)]
+pub enum EngineEnd<I, O> {
+    /// The controller's stream was read to its end.
+    Done {
+        reader: I,
+        writer: O,
+    },
+    /// No link was made.
+    NotDialled,
+    /// A read or a write failed.
+    LinkFault {
+        reader: I,
+        writer: O,
+    },
+    /// The stream has this fault. What stands before it was answered.
+    ZmtpFault {
+        fault: PeerFault,
+        reader: I,
+        writer: O,
+    },
+    OutOfMemory,
+}
+
+/// Works for a controller as an engine: dials its channel of engines, joins, and answers its requests until its stream ends.
+pub fn run_engine<R: Wait, N: Dialer, C: Clock>(
+    rt: &R,
+    alloc: Global,
+    uuid: &str,
+    key: &Key,
+    dialer: &mut N,
+    clock: &mut C,
+) -> EngineEnd<N::In, N::Out>
+    requires { is_uuid uuid.now ≡ true }
+    ensures { EngineEnds (record { left = N.In.left; reads = N.In.faults; written = N.Out.written; writes = N.Out.faults }) key.now uuid.now (IsDialled (record { left = N.In.left; reads = N.In.faults; written = N.Out.written; writes = N.Out.faults }) (N.links dialer.old) (N.links dialer.new)) (Rose (N.faults dialer.old) (N.faults dialer.new)) result }
+{
+    let mut engine = match Engine::new(alloc, uuid) {
+        Ok(engine) => engine,
+        Err(EngineError::OutOfMemory) => return EngineEnd::OutOfMemory,
+        Err(EngineError::BadUuid) => unreachable!(),
+    };
+    let (mut reader, mut writer) = match dialer.dial(ENGINES) {
+        Accepted::Pair(reader, writer) => (reader, writer),
+        Accepted::Failed => return EngineEnd::NotDialled,
+        Accepted::End => unreachable!(),
+    };
+    match serve_engine(rt, alloc, &mut engine, key, &mut reader, &mut writer, clock) {
+        SessionEnd::Ended => EngineEnd::Done { reader, writer },
+        SessionEnd::LinkFault => EngineEnd::LinkFault { reader, writer },
+        SessionEnd::ZmtpFault(fault) => EngineEnd::ZmtpFault {
+            fault,
+            reader,
+            writer,
+        },
+        SessionEnd::OutOfMemory => EngineEnd::OutOfMemory,
+    }
+}
