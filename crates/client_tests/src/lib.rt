@@ -1,4 +1,5 @@
-//! Tests of the session of a client.
+//! Tests of the session of a client, and of commands over links.
 #![tactic(auto)]
 
 mod asking;
+mod commands;
