@@ -1,5 +1,6 @@
-//! Tests of the session of a client.
+//! Tests of the session of a client, and of commands over links.
 #![tactic(auto)]
 
 #[cfg(test)]
 mod asking;
+mod commands;
