@@ -3,4 +3,5 @@
 
 #[cfg(test)]
 mod asking;
+#[cfg(test)]
 mod commands;
