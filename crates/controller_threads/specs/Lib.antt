@@ -1,0 +1,4 @@
+pub mod Ends
+pub mod Handed
+pub mod Passes
+pub mod Ports

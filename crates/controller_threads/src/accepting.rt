@@ -1,0 +1,76 @@
+//! The acceptors.
+
+ghost use Rattle.controller_threads.specs.Handed.{Holds};
+
+use crate::handed::{Handed, Link};
+use crate::naming::Naming;
+use crate::queue::HandedBy;
+use crate::shared::Shared;
+use cluster_types::config::Channel;
+use disk_model::disk::Disk;
+use std::alloc::Global;
+use std::sync::{Arc, Wait};
+use thread_edges::clock::Clock;
+use thread_edges::gate::{Gate, Point};
+use thread_edges::links::{Accepted, Listener};
+use thread_edges::spawner::Job;
+use thread_edges::words::Words;
+
+/// Accepts the links of a port.
+#[derive(Drop)]
+pub struct Accepting<L: Listener, D: Disk, C: Clock, W: Words, G, N: Naming, R> {
+    pub shared: Arc<Shared<L, D, C, W, G, N, R>, Global>,
+    pub channel: Channel,
+    pub port: L,
+}
+
+impl<
+    L: Listener + Drop,
+    D: Disk + Drop,
+    C: Clock + Drop,
+    W: Words + Drop,
+    G: Gate + Drop,
+    N: Naming,
+    R: Wait + Drop,
+> Shared<L, D, C, W, G, N, R>
+{
+    /// Hands over the links of a port, until it ends or fails.
+    fn accept_links(&self, channel: Channel, mut port: L) -> HandedBy<L, D, C, W>
+        ensures { Holds N.lock N.start L.links L.faults result }
+    {
+        for _ in self.rt.forever() {
+            match port.accept(&self.rt) {
+                Accepted::Pair(reader, writer) => self.hand(Handed::Accepted(Link {
+                    channel,
+                    reader,
+                    writer,
+                })),
+                Accepted::End => return Handed::PortEnded { channel, port },
+                Accepted::Failed => return Handed::PortFailed { channel, port },
+            }
+            self.gate.pass(&self.rt, Point::Accepted, 0);
+        }
+        unreachable!()
+    }
+}
+
+impl<
+    L: Listener + Drop,
+    D: Disk + Drop,
+    C: Clock + Drop,
+    W: Words + Drop,
+    G: Gate + Drop,
+    N: Naming,
+    R: Wait + Drop,
+> Job for Accepting<L, D, C, W, G, N, R>
+{
+    fn run(self) {
+        let Accepting {
+            shared,
+            channel,
+            port,
+        } = self;
+        let handed = shared.accept_links(channel, port);
+        shared.hand(handed);
+    }
+}

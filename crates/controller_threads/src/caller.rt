@@ -1,0 +1,243 @@
+//! The caller of `serve`, which alone starts jobs.
+
+ghost use Rattle.std.specs.Prelude.{◌≡◌, ◌≤◌, ℕ, All, IsTrue, IfErr, OnOk};
+ghost use Rattle.history_lock.specs.declared.known.Content.{Content};
+ghost use Rattle.history_lock.specs.Names.{known, room_of, IsIdle};
+ghost use Rattle.session_threads.specs.Passes.{HasSeen};
+ghost use Rattle.controller_threads.specs.Ends.{HaltCause, StopCause, EndCause};
+ghost use Rattle.controller_threads.specs.Handed.{Holds};
+ghost use Rattle.controller_threads.specs.Passes.{IsSince, IsRested};
+ghost use Rattle.controller_threads.specs.Ports.{AreEnded, AreAll};
+
+use crate::end::{Halt, ServeEnd};
+use crate::handed::Handed;
+use crate::naming::Naming;
+use crate::ports::{Ports, all_ports, have_all_ended, no_ports, put_port};
+use crate::queue::HandedBy;
+use crate::shared::Shared;
+use crate::stop::Stop;
+use controller_desk::locked::Locked;
+use disk_model::disk::Disk;
+use history_lock::lock::Pass;
+use load_schemes::chooser::Chooser;
+use session_threads::admission::Passes;
+use std::alloc::Global;
+use std::sync::{Arc, Wait};
+use std::thread::Threads;
+use thread_edges::clock::Clock;
+use thread_edges::gate::{Gate, Point};
+use thread_edges::links::Listener;
+use thread_edges::spawner::Spawner;
+use thread_edges::words::Words;
+
+/// How often the gate is passed before a controller stops, so that the writers come to write.
+const LAST_TURNS: u32 = 40;
+
+/// What the caller of `serve` has.
+#[derive(Drop)]
+pub struct Caller<L: Listener, D: Disk, C: Clock, W: Words, G, N: Naming, R> {
+    pub shared: Arc<Shared<L, D, C, W, G, N, R>, Global>,
+    pub pass: Pass<Locked<D, C, W>>,
+    /// The passes of sessions that have ended.
+    pub kept: Passes<Locked<D, C, W>>,
+    pub ended: Ports<Option<L>>,
+    /// How many greetings run.
+    pub greetings: u64,
+    /// How many sessions run.
+    pub sessions: u64,
+    /// How many workers run.
+    pub workers: u64,
+    ghost rested: { IsRested N.lock N.start pass },
+    ghost kept_idle: { All (IsIdle N.lock) kept.items },
+    ghost kept_seen: { All (HasSeen N.start) kept.items },
+    ghost ended_ports: { AreEnded L.links ended },
+}
+
+impl<
+    L: Listener + Drop + Send + 'static,
+    D: Disk + Drop + Send + Sync + 'static,
+    C: Clock + Drop + Send + Sync + 'static,
+    W: Words + Drop + Send + Sync + 'static,
+    G: Gate + Drop + Send + Sync + 'static,
+    N: Naming + Send + Sync + 'static,
+    R: Wait + Drop + Copy + Send + Sync + 'static,
+> Caller<L, D, C, W, G, N, R>
+{
+    /// A caller that has started nothing yet.
+    pub fn new(
+        shared: Arc<Shared<L, D, C, W, G, N, R>, Global>,
+        pass: Pass<Locked<D, C, W>>,
+    ) -> Caller<L, D, C, W, G, N, R>
+        requires { IsRested N.lock N.start pass }
+        ensures { room_of result.pass ≡ room_of pass }
+    {
+        let kept = Vec::new(shared.alloc);
+        Caller {
+            shared,
+            pass,
+            kept,
+            ended: no_ports(),
+            greetings: 0,
+            sessions: 0,
+            workers: 0,
+        }
+    }
+
+    /// Keeps the pass of a session that ended, to be used again.
+    fn keep(&mut self, pass: Pass<Locked<D, C, W>>) -> Result<(), Stop<L>>
+        requires { IsSince N.lock N.start pass }
+        ensures { (before : ℕ) (now : ℕ) (seen : Content) → IfErr result (λ stop. StopCause L.faults N.start seen before now stop) }
+    {
+        self.sessions = self.sessions.saturating_sub(1);
+        self.kept.push(pass)?;
+        Ok(())
+    }
+
+    /// Takes in the pass of a worker that ended.
+    fn take_in(&mut self, pass: Pass<Locked<D, C, W>>)
+        requires { IsRested N.lock N.start pass }
+        ensures { HasSeen (known pass).seen self.new.pass }
+    {
+        self.shared.join(&mut self.pass, pass);
+    }
+
+    /// Does what is to be done about what was handed over.
+    fn answer<H: Threads + Drop>(
+        &mut self,
+        spawner: &mut Spawner<H>,
+        chooser: &Chooser,
+        handed: HandedBy<L, D, C, W>,
+    ) -> Result<(), Stop<L>>
+        requires { Holds N.lock N.start L.links L.faults handed }
+        ensures ok { OnOk result (spawner.new.faults ≡ spawner.old.faults) }
+        ensures cause { IfErr result (λ stop. StopCause L.faults N.start (known self.new.pass).seen spawner.old.faults spawner.new.faults stop) }
+    {
+        match handed {
+            Handed::Accepted(link) => self.start_greeting(spawner, link),
+            Handed::Greeted { link, greeted } => {
+                self.greetings = self.greetings.saturating_sub(1);
+                self.open(spawner, chooser, link, greeted)
+            }
+            Handed::NotGreeted => {
+                self.greetings = self.greetings.saturating_sub(1);
+                Ok(())
+            }
+            Handed::SessionEnded(pass) => self.keep(pass),
+            Handed::PortEnded { channel, port } => {
+                put_port(&mut self.ended, channel, port);
+                Ok(())
+            }
+            Handed::PortFailed { channel, port } => Err(Stop::PortFailed { channel, port }),
+            Handed::WorkerEnded(pass) => {
+                self.workers = self.workers.saturating_sub(1);
+                self.take_in(pass);
+                Ok(())
+            }
+            Handed::Halted { halt, pass } => {
+                self.take_in(pass);
+                Err(Stop::Halted(halt))
+            }
+        }
+    }
+
+    /// Whether all links have ended, and no more come.
+    fn has_no_links(&self) -> bool
+        ensures { IsTrue result → AreAll self.now.ended }
+    {
+        self.greetings == 0 && self.sessions == 0 && have_all_ended(&self.ended)
+    }
+
+    /// Serves until all links have ended, and then the workers.
+    fn serve_links<H: Threads + Drop>(
+        &mut self,
+        spawner: &mut Spawner<H>,
+        chooser: &Chooser,
+    ) -> Result<(), Stop<L>>
+        ensures ok { OnOk result (AreAll self.new.ended) }
+        ensures cause { IfErr result (λ stop. StopCause L.faults N.start (known self.new.pass).seen spawner.old.faults spawner.new.faults stop) }
+    {
+        let rt = self.shared.rt;
+        for _ in rt.forever() {
+            if self.has_no_links() {
+                if self.workers == 0 {
+                    return Ok(());
+                }
+                self.shared.end_workers();
+            }
+            match self.shared.queue.take(&rt) {
+                Some(handed) => self.answer(spawner, chooser, handed)?,
+                None => return Err(Stop::OutOfMemory),
+            }
+        }
+        unreachable!()
+    }
+
+    /// Serves the links of these ports.
+    pub fn serve<H: Threads + Drop>(
+        &mut self,
+        spawner: &mut Spawner<H>,
+        chooser: &Chooser,
+        ports: Ports<L>,
+    ) -> Result<(), Stop<L>>
+        requires { 3 ≤ room_of self.old.pass }
+        ensures ok { OnOk result (AreAll self.new.ended) }
+        ensures cause { IfErr result (λ stop. StopCause L.faults N.start (known self.new.pass).seen spawner.old.faults spawner.new.faults stop) }
+    {
+        self.start_workers(spawner)?;
+        self.start_acceptors(spawner, ports)?;
+        self.serve_links(spawner, chooser)
+    }
+
+    /// The end where all links have ended.
+    pub fn ended(self) -> ServeEnd<L, Locked<D, C, W>>
+        requires { AreAll self.ended }
+        ensures { (before : ℕ) (now : ℕ) → EndCause N.lock N.start L.links L.faults before now result }
+    {
+        let Caller { pass, ended, .. } = self;
+        ServeEnd::Ended {
+            ports: all_ports(ended),
+            pass,
+        }
+    }
+
+    /// Lets the writers write what was flushed.
+    fn give_writers_turns(&self) {
+        for _ in 0..LAST_TURNS {
+            self.shared.gate.pass(&self.shared.rt, Point::Idle, 0);
+        }
+    }
+
+    /// The end where the desk halts the controller.
+    fn halted(self, halt: Halt) -> ServeEnd<L, Locked<D, C, W>>
+        requires { HaltCause halt N.start (known self.pass).seen }
+        ensures { (before : ℕ) (now : ℕ) → EndCause N.lock N.start L.links L.faults before now result }
+    {
+        let Caller { pass, .. } = self;
+        match halt {
+            Halt::Stopping => ServeEnd::Stopped(pass),
+            Halt::DiskFault => ServeEnd::DiskFault(pass),
+            Halt::HistoryFull { entries, bytes } => ServeEnd::HistoryFull {
+                entries,
+                bytes,
+                pass,
+            },
+        }
+    }
+
+    /// The end where it stops before.
+    pub fn stopped(self, stop: Stop<L>) -> ServeEnd<L, Locked<D, C, W>>
+        ensures { (before : ℕ) (now : ℕ) → StopCause L.faults N.start (known self.pass).seen before now stop → EndCause N.lock N.start L.links L.faults before now result }
+    {
+        match stop {
+            Stop::Halted(halt) => {
+                if halt == Halt::Stopping {
+                    self.give_writers_turns();
+                }
+                self.halted(halt)
+            }
+            Stop::PortFailed { channel, port } => ServeEnd::ListenerFault { channel, port },
+            Stop::NotStarted => ServeEnd::SpawnFault,
+            Stop::OutOfMemory => ServeEnd::OutOfMemory,
+        }
+    }
+}

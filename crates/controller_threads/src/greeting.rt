@@ -1,0 +1,67 @@
+//! The greetings.
+
+ghost use Rattle.controller_threads.specs.Handed.{Holds};
+
+use crate::handed::{Handed, Link};
+use crate::naming::Naming;
+use crate::queue::HandedBy;
+use crate::shared::Shared;
+use disk_model::disk::Disk;
+use session_threads::greeting::greet;
+use std::alloc::Global;
+use std::sync::{Arc, Wait};
+use thread_edges::clock::Clock;
+use thread_edges::gate::Gate;
+use thread_edges::links::Listener;
+use thread_edges::spawner::Job;
+use thread_edges::words::Words;
+
+/// Makes the handshake on a link that was accepted.
+#[derive(Drop)]
+pub struct Greeting<L: Listener, D: Disk, C: Clock, W: Words, G, N: Naming, R> {
+    pub shared: Arc<Shared<L, D, C, W, G, N, R>, Global>,
+    pub link: Link<L::In, L::Out>,
+}
+
+impl<
+    L: Listener + Drop,
+    D: Disk + Drop,
+    C: Clock + Drop,
+    W: Words + Drop,
+    G: Gate + Drop,
+    N: Naming,
+    R: Wait + Drop,
+> Shared<L, D, C, W, G, N, R>
+{
+    /// Makes the handshake on a link.
+    fn greet_link(&self, mut link: Link<L::In, L::Out>) -> HandedBy<L, D, C, W>
+        ensures { Holds N.lock N.start L.links L.faults result }
+    {
+        match greet(
+            &self.rt,
+            self.alloc,
+            &mut link.reader,
+            &mut link.writer,
+        ) {
+            Ok(greeted) => Handed::Greeted { link, greeted },
+            Err(_) => Handed::NotGreeted,
+        }
+    }
+}
+
+impl<
+    L: Listener + Drop,
+    D: Disk + Drop,
+    C: Clock + Drop,
+    W: Words + Drop,
+    G: Gate + Drop,
+    N: Naming,
+    R: Wait + Drop,
+> Job for Greeting<L, D, C, W, G, N, R>
+{
+    fn run(self) {
+        let Greeting { shared, link } = self;
+        let handed = shared.greet_link(link);
+        shared.hand(handed);
+    }
+}

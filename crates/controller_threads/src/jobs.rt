@@ -1,0 +1,205 @@
+//! The jobs that the caller of `serve` starts.
+
+ghost use Rattle.std.specs.Prelude.{◌≡◌, ◌≤◌, All, IfErr, OnOk};
+ghost use Rattle.history_lock.specs.Names.{room_of};
+ghost use Rattle.zmtp_peer.specs.Limits.{IsShortMessage};
+ghost use Rattle.controller_threads.specs.Ends.{StopsAtStart};
+ghost use Rattle.controller_threads.specs.Passes.{IsSince};
+
+use crate::accepting::Accepting;
+use crate::caller::Caller;
+use crate::greeting::Greeting;
+use crate::handed::Link;
+use crate::naming::Naming;
+use crate::ports::Ports;
+use crate::sessions::{Reading, Writing};
+use crate::starting::{start, start_choosing};
+use crate::stop::Stop;
+use crate::workers::{Flushing, Recurring, Rhythm};
+use cluster_types::config::Channel;
+use controller_desk::locked::Locked;
+use disk_model::disk::Disk;
+use history_lock::lock::Pass;
+use session_threads::connection::Connection;
+use std::sync::{Arc, Wait};
+use std::thread::Threads;
+use thread_edges::clock::Clock;
+use thread_edges::gate::Gate;
+use thread_edges::links::Listener;
+use thread_edges::spawner::Spawner;
+use thread_edges::words::Words;
+use zmtp_peer::peer::Peer;
+use zmtp_peer::phase::FramesList;
+
+/// How many workers there are: for beats, for time and for flushes.
+const WORKERS: u64 = 3;
+
+impl<
+    L: Listener + Drop + Send + 'static,
+    D: Disk + Drop + Send + Sync + 'static,
+    C: Clock + Drop + Send + Sync + 'static,
+    W: Words + Drop + Send + Sync + 'static,
+    G: Gate + Drop + Send + Sync + 'static,
+    N: Naming + Send + Sync + 'static,
+    R: Wait + Drop + Copy + Send + Sync + 'static,
+> Caller<L, D, C, W, G, N, R>
+{
+    fn start_acceptor<H: Threads + Drop>(
+        &self,
+        spawner: &mut Spawner<H>,
+        channel: Channel,
+        port: L,
+    ) -> Result<(), Stop<L>>
+        ensures ok { OnOk result (spawner.new.faults ≡ spawner.old.faults) }
+        ensures err { IfErr result (λ stop. StopsAtStart spawner.old.faults spawner.new.faults stop) }
+    {
+        let shared = Arc::try_clone(&self.shared)?;
+        let acceptor = Accepting {
+            shared,
+            channel,
+            port,
+        };
+        start(spawner, acceptor)
+    }
+
+    /// Starts an acceptor for each port.
+    pub fn start_acceptors<H: Threads + Drop>(
+        &self,
+        spawner: &mut Spawner<H>,
+        ports: Ports<L>,
+    ) -> Result<(), Stop<L>>
+        ensures ok { OnOk result (spawner.new.faults ≡ spawner.old.faults) }
+        ensures err { IfErr result (λ stop. StopsAtStart spawner.old.faults spawner.new.faults stop) }
+    {
+        let Ports {
+            hub,
+            task,
+            mux,
+            engine,
+        } = ports;
+        self.start_acceptor(spawner, Channel::Hub, hub)?;
+        self.start_acceptor(spawner, Channel::Task, task)?;
+        self.start_acceptor(spawner, Channel::Mux, mux)?;
+        self.start_acceptor(spawner, Channel::Engine, engine)
+    }
+
+    fn start_recurring<H: Threads + Drop>(
+        &self,
+        spawner: &mut Spawner<H>,
+        rhythm: Rhythm,
+        pass: Pass<Locked<D, C, W>>,
+    ) -> Result<(), Stop<L>>
+        requires { IsSince N.lock N.start pass }
+        ensures ok { OnOk result (spawner.new.faults ≡ spawner.old.faults) }
+        ensures err { IfErr result (λ stop. StopsAtStart spawner.old.faults spawner.new.faults stop) }
+    {
+        let shared = Arc::try_clone(&self.shared)?;
+        let worker = Recurring {
+            shared,
+            rhythm,
+            pass,
+        };
+        start_choosing(self.shared.alloc, spawner, worker)
+    }
+
+    fn start_flushing<H: Threads + Drop>(
+        &self,
+        spawner: &mut Spawner<H>,
+        pass: Pass<Locked<D, C, W>>,
+    ) -> Result<(), Stop<L>>
+        requires { IsSince N.lock N.start pass }
+        ensures ok { OnOk result (spawner.new.faults ≡ spawner.old.faults) }
+        ensures err { IfErr result (λ stop. StopsAtStart spawner.old.faults spawner.new.faults stop) }
+    {
+        let shared = Arc::try_clone(&self.shared)?;
+        start(spawner, Flushing { shared, pass })
+    }
+
+    /// Starts the workers, each with a pass.
+    pub fn start_workers<H: Threads + Drop>(
+        &mut self,
+        spawner: &mut Spawner<H>,
+    ) -> Result<(), Stop<L>>
+        requires { 3 ≤ room_of self.old.pass }
+        ensures ok { OnOk result (spawner.new.faults ≡ spawner.old.faults) }
+        ensures err { IfErr result (λ stop. StopsAtStart spawner.old.faults spawner.new.faults stop) }
+    {
+        let beating = self.shared.split(&mut self.pass);
+        let timing = self.shared.split(&mut self.pass);
+        let flushing = self.shared.split(&mut self.pass);
+        self.start_recurring(spawner, Rhythm::Beat, beating)?;
+        self.start_recurring(spawner, Rhythm::Time, timing)?;
+        self.start_flushing(spawner, flushing)?;
+        self.workers = WORKERS;
+        Ok(())
+    }
+
+    /// Starts the greeting of a link.
+    pub fn start_greeting<H: Threads + Drop>(
+        &mut self,
+        spawner: &mut Spawner<H>,
+        link: Link<L::In, L::Out>,
+    ) -> Result<(), Stop<L>>
+        ensures ok { OnOk result (spawner.new.faults ≡ spawner.old.faults) }
+        ensures err { IfErr result (λ stop. StopsAtStart spawner.old.faults spawner.new.faults stop) }
+    {
+        let shared = Arc::try_clone(&self.shared)?;
+        start(spawner, Greeting { shared, link })?;
+        self.greetings = self.greetings.saturating_add(1);
+        Ok(())
+    }
+
+    /// Starts the session that reads a link.
+    pub fn start_reading<H: Threads + Drop>(
+        &mut self,
+        spawner: &mut Spawner<H>,
+        reader: L::In,
+        peer: Peer,
+        early: FramesList,
+        connection: Connection,
+        pass: Pass<Locked<D, C, W>>,
+    ) -> Result<(), Stop<L>>
+        requires since { IsSince N.lock N.start pass }
+        requires short { All IsShortMessage early }
+        ensures ok { OnOk result (spawner.new.faults ≡ spawner.old.faults) }
+        ensures err { IfErr result (λ stop. StopsAtStart spawner.old.faults spawner.new.faults stop) }
+    {
+        let shared = Arc::try_clone(&self.shared)?;
+        let session = Reading {
+            shared,
+            reader,
+            peer,
+            early,
+            connection,
+            pass,
+        };
+        start_choosing(self.shared.alloc, spawner, session)?;
+        self.sessions = self.sessions.saturating_add(1);
+        Ok(())
+    }
+
+    /// Starts the session that writes to a link.
+    pub fn start_writing<H: Threads + Drop>(
+        &mut self,
+        spawner: &mut Spawner<H>,
+        writer: L::Out,
+        conn: u32,
+        pass: Pass<Locked<D, C, W>>,
+    ) -> Result<(), Stop<L>>
+        requires { IsSince N.lock N.start pass }
+        ensures ok { OnOk result (spawner.new.faults ≡ spawner.old.faults) }
+        ensures err { IfErr result (λ stop. StopsAtStart spawner.old.faults spawner.new.faults stop) }
+    {
+        let shared = Arc::try_clone(&self.shared)?;
+        self.shared.writers.add(&self.shared.rt, conn)?;
+        let session = Writing {
+            shared,
+            writer,
+            conn,
+            pass,
+        };
+        start(spawner, session)?;
+        self.sessions = self.sessions.saturating_add(1);
+        Ok(())
+    }
+}
