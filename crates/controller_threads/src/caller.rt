@@ -224,10 +224,11 @@ impl<
         }
     }
 
-    /// The end where it stops before.
+    /// The end where it stops before. The workers end, and nobody waits for them.
     pub fn stopped(self, stop: Stop<L>) -> ServeEnd<L, Locked<D, C, W>>
         ensures { (before : ℕ) (now : ℕ) → StopCause L.faults N.start (known self.pass).seen before now stop → EndCause N.lock N.start L.links L.faults before now result }
     {
+        self.shared.end_workers();
         match stop {
             Stop::Halted(halt) => {
                 if halt == Halt::Stopping {

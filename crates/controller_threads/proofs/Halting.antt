@@ -1,0 +1,113 @@
+-- Why a desk halts its controller.
+use Rattle.std.proofs.Common.{◌≡◌, ℕ, suc, ◌≤◌, List, [], ◌∷◌, ◌++◌, Bool, true, false, ◌||◌, Err, refl, sym, ap, ◌∙◌, subst, arith}
+use Rattle.std.specs.List.{list_any}
+use Rattle.cluster_types.specs.Causes.{Rose}
+use Rattle.cluster_types.specs.declared.config.Channel.{Channel}
+use Rattle.cluster_types.specs.declared.entry.Input.{Input as InputType}
+use Rattle.cluster_types.specs.declared.entry.Input.TheVariants.{Open, Up, Down, In, Beat, Time}
+use Rattle.cluster_types.specs.declared.entry.Entry.{Entry}
+use Rattle.cluster_types.specs.declared.entry.Entry.TheVariants.{Input, Hand, Settle, Lose}
+use Rattle.cluster_defs.specs.Histories.{History, is_stopping}
+use Rattle.cluster_store.specs.Stores.{StoreView}
+use Rattle.controller_desk.specs.declared.fault.ActError.{ActError}
+use Rattle.controller_desk.specs.declared.fault.ActError.TheVariants as refusals
+use Rattle.controller_desk.specs.Calls.{IsRefusedAs, HasFlushed}
+use Rattle.controller_desk.specs.Contents.{content_of}
+use Rattle.controller_desk.specs.Turns.{InTurn}
+use Rattle.controller_desk.specs.Ups.{ups, up_of}
+use Rattle.history_lock.specs.declared.known.Content.{Content}
+use Rattle.history_lock.specs.declared.known.View.{View}
+use Rattle.history_lock.specs.History.{is_open_entry, Extends}
+use Rattle.history_lock.specs.Rule.{without_turn}
+use Rattle.task_journal.specs.declared.fault.AppendFault.TheVariants as appends
+use Rattle.session_threads.specs.declared.end.SessionEnd.{SessionEnd}
+use Rattle.session_threads.specs.declared.end.SessionEnd.TheVariants as ends
+use Rattle.session_threads.specs.Admission.{OpensInTurn}
+use Rattle.session_threads.specs.Ends.{HasDeskCause}
+use Rattle.session_threads.proofs.Causes.{cause_since, refused_cause}
+use Rattle.controller_threads.specs.declared.end.Halt.{Halt}
+use Rattle.controller_threads.specs.declared.end.Halt.TheVariants as halts
+use Rattle.controller_threads.specs.Ends.{faults_seen, HaltCause, RefusalCause, SessionCause}
+
+-- A SHUTDOWN STAYS ASKED
+
+either_is : (a b : Bool) → b ≡ true → (a || b) ≡ true
+either_is true b is = refl
+either_is false b is = is
+
+first_is : (a b : Bool) → (a || b) ≡ false → a ≡ false
+first_is true b is = cc
+first_is false b is = refl
+
+second_is : (a b : Bool) → (a || b) ≡ false → b ≡ false
+second_is true b is = cc
+second_is false b is = is
+
+entry_keeps : (e : Entry) (older : History) → is_open_entry e ≡ false → is_stopping older ≡ true → is_stopping (e ∷ older) ≡ true
+entry_keeps (Input (Open moment scheme hwm misses)) older off is = cc
+entry_keeps (Input (Up conn channel moment word identity)) older off is = either_is _ (is_stopping older) is
+entry_keeps (Input (Down conn moment word)) older off is = either_is _ (is_stopping older) is
+entry_keeps (Input (In conn moment word m)) older off is = either_is _ (is_stopping older) is
+entry_keeps (Input (Beat moment word)) older off is = either_is _ (is_stopping older) is
+entry_keeps (Input (Time moment word)) older off is = either_is _ (is_stopping older) is
+entry_keeps (Hand id n) older off is = either_is _ (is_stopping older) is
+entry_keeps (Settle id v c) older off is = either_is _ (is_stopping older) is
+entry_keeps (Lose n) older off is = either_is _ (is_stopping older) is
+
+entries_keep : (es old : History) → list_any is_open_entry es ≡ false → is_stopping old ≡ true → is_stopping (es ++ old) ≡ true
+entries_keep [] old off is = is
+entries_keep (e ∷ es) old off is =
+    entry_keeps e (es ++ old) (first_is (is_open_entry e) (list_any is_open_entry es) off) (entries_keep es old (second_is (is_open_entry e) (list_any is_open_entry es) off) is)
+
+pub still_stopping : (a b : Content) → Extends a b → is_stopping a.list ≡ true → is_stopping b.list ≡ true
+still_stopping a b on is = subst (λ (h : History). is_stopping h ≡ true) (sym on.list) (entries_keep on.beyond a.list on.no_open is)
+
+-- CAUSES LAST
+
+rose_later : (a b c : ℕ) → Rose a b → b ≤ c → Rose a c
+rose_later a b c rose more = omega (arith, rose, more)
+
+rose_earlier : (a b c : ℕ) → a ≤ b → Rose b c → Rose a c
+rose_earlier a b c less rose = omega (arith, less, rose)
+
+pub halt_later : (halt : Halt) (start a b : Content) → HaltCause halt start a → Extends a b → HaltCause halt start b
+halt_later halts.Stopping start a b cause on = still_stopping a b on cause
+halt_later halts.DiskFault start a b cause on = rose_later _ _ _ cause (on.counts 0)
+halt_later (halts.HistoryFull entries bytes) start a b cause on = (rose_later _ _ _ cause.0 (on.counts 2), cause.1)
+
+-- CALLS
+
+abbrev at_start : Content → View
+at_start start = without_turn 0 start []
+
+pub session_cause : (end : SessionEnd) (start : Content) (u w : View) → Extends start u.seen → HasDeskCause end u w → SessionCause end start w.seen
+session_cause (ends.HistoryFull entries bytes) start u w on cause = cause_since (ends.HistoryFull entries bytes) (at_start start) u w on cause
+session_cause ends.Reopen start u w on cause = tt
+session_cause ends.Ended start u w on cause = tt
+session_cause ends.Closed start u w on cause = tt
+session_cause ends.LinkFault start u w on cause = tt
+session_cause (ends.ZmtpFault fault) start u w on cause = tt
+session_cause ends.OutOfMemory start u w on cause = tt
+
+pub refusal_cause : {D : Type 0} (faults : D → ℕ) (start : Content) (u w : View) (before after : StoreView D) (input : InputType) (e : ActError) → Extends start u.seen → InTurn faults u before after w → IsRefusedAs before input e after → RefusalCause e start w.seen
+refusal_cause faults start u w before after input (refusals.HistoryFull entries bytes) on turn refused =
+    session_cause (ends.HistoryFull entries bytes) start u w on (refused_cause faults u w before after input (refusals.HistoryFull entries bytes) (ends.HistoryFull entries bytes) turn refused refl)
+refusal_cause faults start u w before after input refusals.TooManyConnections on turn refused = tt
+refusal_cause faults start u w before after input refusals.Reopen on turn refused = tt
+refusal_cause faults start u w before after input refusals.OutOfMemory on turn refused = tt
+
+pub opening_cause : {D : Type 0} (faults : D → ℕ) (start : Content) (u w : View) (channel : Channel) (identity : List ℕ) (e : ActError) → Extends start u.seen → OpensInTurn faults u channel identity (Err e) w → RefusalCause e start w.seen
+opening_cause faults start u w channel identity (refusals.HistoryFull entries bytes) on o =
+    refusal_cause faults start o.left w o.before o.after (up_of (suc (ups o.before.history)) channel o.moment o.word identity) (refusals.HistoryFull entries bytes)
+    (subst (λ (c : Content). Extends start c) (sym o.seen) on) o.turn o.opened.1
+opening_cause faults start u w channel identity refusals.TooManyConnections on o = tt
+opening_cause faults start u w channel identity refusals.Reopen on o = tt
+opening_cause faults start u w channel identity refusals.OutOfMemory on o = tt
+
+pub flush_cause : {A D : Type 0} (faults : D → ℕ) (start : Content) (u w : View) (before after : StoreView D) → Extends start u.seen → InTurn faults u before after w → HasFlushed {A} faults before (Err appends.DiskFault) after → HaltCause halts.DiskFault start w.seen
+flush_cause faults start u w before after on turn flushed =
+    let seen : faults_seen w.seen ≡ faults after.disk = ap faults_seen turn.seen in
+    let less = on.counts 0 in
+    let more : faults_seen u.seen ≤ faults before.disk = turn.adds.later.counts 0 in
+    let rose = flushed.cause refl in
+    omega (arith, seen, less, more, rose)
