@@ -11,7 +11,7 @@ use Rattle.cluster_defs.specs.Histories.{History, is_stopping}
 use Rattle.cluster_store.specs.Stores.{StoreView}
 use Rattle.controller_desk.specs.declared.fault.ActError.{ActError}
 use Rattle.controller_desk.specs.declared.fault.ActError.TheVariants as refusals
-use Rattle.controller_desk.specs.Calls.{IsRefusedAs, HasFlushed}
+use Rattle.controller_desk.specs.Calls.{IsRefusedAs, HasOpened, HasFlushed}
 use Rattle.controller_desk.specs.Contents.{content_of}
 use Rattle.controller_desk.specs.Turns.{InTurn}
 use Rattle.controller_desk.specs.Ups.{ups, up_of}
@@ -22,7 +22,6 @@ use Rattle.history_lock.specs.Rule.{without_turn}
 use Rattle.task_journal.specs.declared.fault.AppendFault.TheVariants as appends
 use Rattle.session_threads.specs.declared.end.SessionEnd.{SessionEnd}
 use Rattle.session_threads.specs.declared.end.SessionEnd.TheVariants as ends
-use Rattle.session_threads.specs.Admission.{OpensInTurn}
 use Rattle.session_threads.specs.Ends.{HasDeskCause}
 use Rattle.session_threads.proofs.Causes.{cause_since, refused_cause}
 use Rattle.controller_threads.specs.declared.end.Halt.{Halt}
@@ -96,13 +95,13 @@ refusal_cause faults start u w before after input refusals.TooManyConnections on
 refusal_cause faults start u w before after input refusals.Reopen on turn refused = tt
 refusal_cause faults start u w before after input refusals.OutOfMemory on turn refused = tt
 
-pub opening_cause : {D : Type 0} (faults : D → ℕ) (start : Content) (u w : View) (channel : Channel) (identity : List ℕ) (e : ActError) → Extends start u.seen → OpensInTurn faults u channel identity (Err e) w → RefusalCause e start w.seen
-opening_cause faults start u w channel identity (refusals.HistoryFull entries bytes) on o =
-    refusal_cause faults start o.left w o.before o.after (up_of (suc (ups o.before.history)) channel o.moment o.word identity) (refusals.HistoryFull entries bytes)
-    (subst (λ (c : Content). Extends start c) (sym o.seen) on) o.turn o.opened.1
-opening_cause faults start u w channel identity refusals.TooManyConnections on o = tt
-opening_cause faults start u w channel identity refusals.Reopen on o = tt
-opening_cause faults start u w channel identity refusals.OutOfMemory on o = tt
+pub opening_cause : {D : Type 0} (faults : D → ℕ) (start : Content) (u w : View) (before after : StoreView D) (moment word : ℕ) (channel : Channel) (identity : List ℕ) (e : ActError) → Extends start u.seen → InTurn faults u before after w
+    → HasOpened before moment word channel identity (Err e) after → RefusalCause e start w.seen
+opening_cause faults start u w before after moment word channel identity (refusals.HistoryFull entries bytes) on turn opened =
+    refusal_cause faults start u w before after (up_of (suc (ups before.history)) channel moment word identity) (refusals.HistoryFull entries bytes) on turn opened.1
+opening_cause faults start u w before after moment word channel identity refusals.TooManyConnections on turn opened = tt
+opening_cause faults start u w before after moment word channel identity refusals.Reopen on turn opened = tt
+opening_cause faults start u w before after moment word channel identity refusals.OutOfMemory on turn opened = tt
 
 pub flush_cause : {A D : Type 0} (faults : D → ℕ) (start : Content) (u w : View) (before after : StoreView D) → Extends start u.seen → InTurn faults u before after w → HasFlushed {A} faults before (Err appends.DiskFault) after → HaltCause halts.DiskFault start w.seen
 flush_cause faults start u w before after on turn flushed =

@@ -1,5 +1,5 @@
 -- Why `serve` ends, and what its end gives back.
-use Rattle.std.specs.Prelude.{◌≡◌, ◌≤◌, ⊤, true, ℕ, List, Option, Result, Ok, Err, slice_index}
+use Rattle.std.specs.Prelude.{◌≡◌, ◌≤◌, ⊤, true, ℕ, List, Option, slice_index}
 use Rattle.cluster_types.specs.Causes.{Rose}
 use Rattle.cluster_core.specs.Size.{is_past}
 use Rattle.cluster_defs.specs.Histories.{is_stopping}
@@ -8,6 +8,8 @@ use Rattle.controller_desk.specs.declared.fault.ActError.TheVariants as refusals
 use Rattle.history_lock.specs.declared.known.Content.{Content}
 use Rattle.history_lock.specs.declared.lock.Pass.{Pass}
 use Rattle.history_lock.specs.Names.{LockId, known}
+use Rattle.session_threads.specs.declared.admission.AdmitEnd.{AdmitEnd}
+use Rattle.session_threads.specs.declared.admission.AdmitEnd.TheVariants.{NoPass, Act}
 use Rattle.session_threads.specs.declared.end.SessionEnd.{SessionEnd}
 use Rattle.session_threads.specs.declared.end.SessionEnd.TheVariants as sessions
 use Rattle.session_threads.specs.Passes.{fulls_seen, limits_seen}
@@ -37,7 +39,12 @@ abbrev pub RefusalCause : ActError → Content → Content → Type 0
 RefusalCause (refusals.HistoryFull entries bytes) start seen = HaltCause (halts.HistoryFull entries bytes) start seen
 RefusalCause _ start seen = ⊤
 
--- so has such an end of a session
+-- so has a link that isn't admitted for it
+abbrev pub AdmitCause : AdmitEnd → Content → Content → Type 0
+AdmitCause NoPass start seen = ⊤
+AdmitCause (Act error) start seen = RefusalCause error start seen
+
+-- and such an end of a session
 abbrev pub SessionCause : SessionEnd → Content → Content → Type 0
 SessionCause (sessions.HistoryFull entries bytes) start seen = HaltCause (halts.HistoryFull entries bytes) start seen
 SessionCause _ start seen = ⊤

@@ -1,9 +1,14 @@
 -- The passes of a controller's threads.
-use Rattle.std.specs.Prelude.{List, ℕ, [], ◌∷◌}
+use Rattle.std.specs.Prelude.{[]}
 use Rattle.history_lock.specs.declared.known.Content.{Content}
 use Rattle.history_lock.specs.declared.lock.Pass.{Pass}
 use Rattle.history_lock.specs.Names.{LockId, known, IsIdle}
-use Rattle.session_threads.specs.Passes.{HasSeen, Rests}
+use Rattle.history_lock.specs.History.{Extends}
+use Rattle.session_threads.specs.Passes.{Rests}
+
+-- a pass has seen at least this
+abbrev pub HasSeen : {T : Type 0} → Content → Pass T → Type 0
+HasSeen c pass = Extends c (known pass).seen
 
 module _ {T : Type 0} (lock : LockId) (start : Content) where
   -- a pass of a lock without the turn, which has seen at least this

@@ -16,10 +16,10 @@ module _ {P I O : Type 0} (links : P → Option (List (I × O))) where
 
   -- of none of those that are there
   pub record AreEnded (ports : Ports (Option P)) : Type 0 where
-    pub hub : IfSome ports.hub HasNoLink
-    pub task : IfSome ports.task HasNoLink
-    pub mux : IfSome ports.mux HasNoLink
-    pub engine : IfSome ports.engine HasNoLink
+    pub hub : IfSome ports.hub (λ p. HasNoLink p)
+    pub task : IfSome ports.task (λ p. HasNoLink p)
+    pub mux : IfSome ports.mux (λ p. HasNoLink p)
+    pub engine : IfSome ports.engine (λ p. HasNoLink p)
 
 -- all four are there
 pub record AreAll {P : Type 0} (ports : Ports (Option P)) : Type 0 where

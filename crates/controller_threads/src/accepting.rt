@@ -7,6 +7,7 @@ use crate::naming::Naming;
 use crate::queue::HandedBy;
 use crate::shared::Shared;
 use cluster_types::config::Channel;
+use controller_desk::locked::Locked;
 use disk_model::disk::Disk;
 use std::alloc::Global;
 use std::sync::{Arc, Wait};
@@ -32,10 +33,9 @@ impl<
     G: Gate + Drop,
     N: Naming,
     R: Wait + Drop,
-> Shared<L, D, C, W, G, N, R>
-{
+> Shared<L, D, C, W, G, N, R> {
     /// Hands over the links of a port, until it ends or fails.
-    fn accept_links(&self, channel: Channel, mut port: L) -> HandedBy<L, D, C, W>
+    fn accept_links(&self, channel: Channel, mut port: L) -> HandedBy<L, Locked<D, C, W>>
         ensures { Holds N.lock N.start L.links L.faults result }
     {
         for _ in self.rt.forever() {
@@ -62,8 +62,7 @@ impl<
     G: Gate + Drop,
     N: Naming,
     R: Wait + Drop,
-> Job for Accepting<L, D, C, W, G, N, R>
-{
+> Job for Accepting<L, D, C, W, G, N, R> {
     fn run(self) {
         let Accepting {
             shared,

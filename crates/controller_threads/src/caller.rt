@@ -1,17 +1,17 @@
 //! The caller of `serve`, which alone starts jobs.
 
-ghost use Rattle.std.specs.Prelude.{◌≡◌, ◌≤◌, ℕ, All, IsTrue, IfErr, OnOk};
+ghost use Rattle.std.specs.Prelude.{◌≡◌, ◌≤◌, ℕ, IsTrue, IfErr, OnOk};
 ghost use Rattle.history_lock.specs.declared.known.Content.{Content};
-ghost use Rattle.history_lock.specs.Names.{known, room_of, IsIdle};
-ghost use Rattle.session_threads.specs.Passes.{HasSeen};
+ghost use Rattle.history_lock.specs.Names.{known, room_of};
 ghost use Rattle.controller_threads.specs.Ends.{HaltCause, StopCause, EndCause};
 ghost use Rattle.controller_threads.specs.Handed.{Holds};
-ghost use Rattle.controller_threads.specs.Passes.{IsSince, IsRested};
+ghost use Rattle.controller_threads.specs.Passes.{HasSeen, IsSince, IsRested};
 ghost use Rattle.controller_threads.specs.Ports.{AreEnded, AreAll};
 
 use crate::end::{Halt, ServeEnd};
 use crate::handed::Handed;
 use crate::naming::Naming;
+use crate::passes::KeptPasses;
 use crate::ports::{Ports, all_ports, have_all_ended, no_ports, put_port};
 use crate::queue::HandedBy;
 use crate::shared::Shared;
@@ -20,7 +20,6 @@ use controller_desk::locked::Locked;
 use disk_model::disk::Disk;
 use history_lock::lock::Pass;
 use load_schemes::chooser::Chooser;
-use session_threads::admission::Passes;
 use std::alloc::Global;
 use std::sync::{Arc, Wait};
 use std::thread::Threads;
@@ -39,7 +38,7 @@ pub struct Caller<L: Listener, D: Disk, C: Clock, W: Words, G, N: Naming, R> {
     pub shared: Arc<Shared<L, D, C, W, G, N, R>, Global>,
     pub pass: Pass<Locked<D, C, W>>,
     /// The passes of sessions that have ended.
-    pub kept: Passes<Locked<D, C, W>>,
+    pub kept: KeptPasses<Locked<D, C, W>, N>,
     pub ended: Ports<Option<L>>,
     /// How many greetings run.
     pub greetings: u64,
@@ -48,8 +47,6 @@ pub struct Caller<L: Listener, D: Disk, C: Clock, W: Words, G, N: Naming, R> {
     /// How many workers run.
     pub workers: u64,
     ghost rested: { IsRested N.lock N.start pass },
-    ghost kept_idle: { All (IsIdle N.lock) kept.items },
-    ghost kept_seen: { All (HasSeen N.start) kept.items },
     ghost ended_ports: { AreEnded L.links ended },
 }
 
@@ -61,8 +58,7 @@ impl<
     G: Gate + Drop + Send + Sync + 'static,
     N: Naming + Send + Sync + 'static,
     R: Wait + Drop + Copy + Send + Sync + 'static,
-> Caller<L, D, C, W, G, N, R>
-{
+> Caller<L, D, C, W, G, N, R> {
     /// A caller that has started nothing yet.
     pub fn new(
         shared: Arc<Shared<L, D, C, W, G, N, R>, Global>,
@@ -71,7 +67,7 @@ impl<
         requires { IsRested N.lock N.start pass }
         ensures { room_of result.pass ≡ room_of pass }
     {
-        let kept = Vec::new(shared.alloc);
+        let kept = KeptPasses::new(shared.alloc);
         Caller {
             shared,
             pass,
@@ -89,7 +85,7 @@ impl<
         ensures { (before : ℕ) (now : ℕ) (seen : Content) → IfErr result (λ stop. StopCause L.faults N.start seen before now stop) }
     {
         self.sessions = self.sessions.saturating_sub(1);
-        self.kept.push(pass)?;
+        self.kept.put(pass)?;
         Ok(())
     }
 
@@ -106,7 +102,7 @@ impl<
         &mut self,
         spawner: &mut Spawner<H>,
         chooser: &Chooser,
-        handed: HandedBy<L, D, C, W>,
+        handed: HandedBy<L, Locked<D, C, W>>,
     ) -> Result<(), Stop<L>>
         requires { Holds N.lock N.start L.links L.faults handed }
         ensures ok { OnOk result (spawner.new.faults ≡ spawner.old.faults) }

@@ -8,11 +8,17 @@ use history_lock::lock::Pass;
 #[derive(Drop)]
 pub enum ServeEnd<P, T> {
     /// All four ports have ended, and all their links.
-    Ended { ports: Ports<P>, pass: Pass<T> },
+    Ended {
+        ports: Ports<P>,
+        pass: Pass<T>,
+    },
     /// A shutdown was asked.
     Stopped(Pass<T>),
     /// An accept failed on the port of this channel.
-    ListenerFault { channel: Channel, port: P },
+    ListenerFault {
+        channel: Channel,
+        port: P,
+    },
     /// A job wasn't started.
     SpawnFault,
     /// A flush failed.

@@ -6,6 +6,7 @@ use crate::handed::{Handed, Link};
 use crate::naming::Naming;
 use crate::queue::HandedBy;
 use crate::shared::Shared;
+use controller_desk::locked::Locked;
 use disk_model::disk::Disk;
 use session_threads::greeting::greet;
 use std::alloc::Global;
@@ -31,18 +32,12 @@ impl<
     G: Gate + Drop,
     N: Naming,
     R: Wait + Drop,
-> Shared<L, D, C, W, G, N, R>
-{
+> Shared<L, D, C, W, G, N, R> {
     /// Makes the handshake on a link.
-    fn greet_link(&self, mut link: Link<L::In, L::Out>) -> HandedBy<L, D, C, W>
+    fn greet_link(&self, mut link: Link<L::In, L::Out>) -> HandedBy<L, Locked<D, C, W>>
         ensures { Holds N.lock N.start L.links L.faults result }
     {
-        match greet(
-            &self.rt,
-            self.alloc,
-            &mut link.reader,
-            &mut link.writer,
-        ) {
+        match greet(&self.rt, self.alloc, &mut link.reader, &mut link.writer) {
             Ok(greeted) => Handed::Greeted { link, greeted },
             Err(_) => Handed::NotGreeted,
         }
@@ -57,8 +52,7 @@ impl<
     G: Gate + Drop,
     N: Naming,
     R: Wait + Drop,
-> Job for Greeting<L, D, C, W, G, N, R>
-{
+> Job for Greeting<L, D, C, W, G, N, R> {
     fn run(self) {
         let Greeting { shared, link } = self;
         let handed = shared.greet_link(link);

@@ -19,10 +19,7 @@ pub enum Handed<I, O, P, T> {
     /// A link was accepted.
     Accepted(Link<I, O>),
     /// The handshake of a link is done.
-    Greeted {
-        link: Link<I, O>,
-        greeted: Greeted,
-    },
+    Greeted { link: Link<I, O>, greeted: Greeted },
     /// A link ended before its handshake was done.
     NotGreeted,
     /// A session ended.

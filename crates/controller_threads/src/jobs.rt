@@ -1,6 +1,6 @@
 //! The jobs that the caller of `serve` starts.
 
-ghost use Rattle.std.specs.Prelude.{◌≡◌, ◌≤◌, All, IfErr, OnOk};
+ghost use Rattle.std.specs.Prelude.{◌≡◌, ◌≤◌, ◌<◌, ◌+◌, All, IfErr, OnOk};
 ghost use Rattle.history_lock.specs.Names.{room_of};
 ghost use Rattle.zmtp_peer.specs.Limits.{IsShortMessage};
 ghost use Rattle.controller_threads.specs.Ends.{StopsAtStart};
@@ -42,8 +42,7 @@ impl<
     G: Gate + Drop + Send + Sync + 'static,
     N: Naming + Send + Sync + 'static,
     R: Wait + Drop + Copy + Send + Sync + 'static,
-> Caller<L, D, C, W, G, N, R>
-{
+> Caller<L, D, C, W, G, N, R> {
     fn start_acceptor<H: Threads + Drop>(
         &self,
         spawner: &mut Spawner<H>,
@@ -115,6 +114,18 @@ impl<
         start(spawner, Flushing { shared, pass })
     }
 
+    /// A pass for a worker.
+    fn worker_pass(&mut self) -> Pass<Locked<D, C, W>>
+        requires { 0 < room_of self.old.pass }
+        ensures room { room_of self.new.pass + 1 ≡ room_of self.old.pass }
+        ensures since { IsSince N.lock N.start result }
+    {
+        match self.shared.split(&mut self.pass) {
+            Some(pass) => pass,
+            None => unreachable!(),
+        }
+    }
+
     /// Starts the workers, each with a pass.
     pub fn start_workers<H: Threads + Drop>(
         &mut self,
@@ -124,9 +135,9 @@ impl<
         ensures ok { OnOk result (spawner.new.faults ≡ spawner.old.faults) }
         ensures err { IfErr result (λ stop. StopsAtStart spawner.old.faults spawner.new.faults stop) }
     {
-        let beating = self.shared.split(&mut self.pass);
-        let timing = self.shared.split(&mut self.pass);
-        let flushing = self.shared.split(&mut self.pass);
+        let beating = self.worker_pass();
+        let timing = self.worker_pass();
+        let flushing = self.worker_pass();
         self.start_recurring(spawner, Rhythm::Beat, beating)?;
         self.start_recurring(spawner, Rhythm::Time, timing)?;
         self.start_flushing(spawner, flushing)?;

@@ -9,6 +9,7 @@ mod handed;
 mod jobs;
 mod naming;
 mod opening;
+mod passes;
 pub mod ports;
 mod queue;
 pub mod serving;

@@ -1,11 +1,9 @@
 //! Links whose handshake is done.
 
-ghost use Rattle.std.specs.Prelude.{◌≡◌, ℕ, All, Err, IfOk, IfErr, OnOk};
-ghost use Rattle.controller_desk.specs.declared.fault.ActError.{ActError as Refusal};
+ghost use Rattle.std.specs.Prelude.{◌≡◌, ℕ, All, IfOk, IfErr, IfSome, OnOk};
 ghost use Rattle.history_lock.specs.Names.{known};
-ghost use Rattle.session_threads.specs.declared.admission.AdmitEnd.{AdmitEnd as Refused};
 ghost use Rattle.zmtp_peer.specs.Limits.{IsShortMessage, IsShortIdentity};
-ghost use Rattle.controller_threads.specs.Ends.{RefusalCause, StopCause};
+ghost use Rattle.controller_threads.specs.Ends.{AdmitCause, StopCause};
 ghost use Rattle.controller_threads.specs.Passes.{IsSince};
 
 use crate::caller::Caller;
@@ -18,6 +16,7 @@ use controller_desk::fault::ActError;
 use controller_desk::locked::Locked;
 use disk_model::disk::Disk;
 use edges::sink::{Sink, write_all};
+use history_lock::lock::Pass;
 use load_schemes::chooser::Chooser;
 use session_threads::admission::{AdmitEnd, Admitted};
 use session_threads::connection::Connection;
@@ -47,8 +46,31 @@ impl<
     G: Gate + Drop + Send + Sync + 'static,
     N: Naming + Send + Sync + 'static,
     R: Wait + Drop + Copy + Send + Sync + 'static,
-> Caller<L, D, C, W, G, N, R>
-{
+> Caller<L, D, C, W, G, N, R> {
+    /// A pass for a session: the last one that is kept, or else one of the caller's own.
+    fn session_pass(&mut self) -> Option<Pass<Locked<D, C, W>>>
+        ensures { IfSome result (λ pass. IsSince N.lock N.start pass) }
+    {
+        match self.kept.take() {
+            Some(pass) => Some(pass),
+            None => self.shared.split(&mut self.pass),
+        }
+    }
+
+    /// Passes for the two sessions of a link.
+    fn session_passes(&mut self) -> Option<(Pass<Locked<D, C, W>>, Pass<Locked<D, C, W>>)>
+        ensures { IfSome result (λ two. IsSince N.lock N.start two.0 × IsSince N.lock N.start two.1) }
+    {
+        let reading = self.session_pass()?;
+        match self.session_pass() {
+            Some(writing) => Some((reading, writing)),
+            None => {
+                let _ = self.kept.put(reading);
+                None
+            }
+        }
+    }
+
     /// Takes passes for the sessions of a link, and brings its connection up.
     fn admit(
         &mut self,
@@ -58,23 +80,31 @@ impl<
     ) -> Result<Admitted<Locked<D, C, W>>, AdmitEnd>
         requires { IsShortIdentity identity.now }
         ensures ok { IfOk result (λ a. IsSince N.lock N.start a.reading × IsSince N.lock N.start a.writing) }
-        ensures cause { (e : Refusal) → result ≡ Err (Refused.Act e) → RefusalCause e N.start (known self.new.pass).seen }
+        ensures cause { IfErr result (λ end. AdmitCause end N.start (known self.new.pass).seen) }
     {
-        if self.kept.reserve(2).is_err() {
-            return Err(AdmitEnd::Act(ActError::OutOfMemory));
+        let Some((reading, writing)) = self.session_passes() else {
+            return Err(AdmitEnd::NoPass);
+        };
+        match self
+            .shared
+            .open_conn(&mut self.pass, chooser, channel, identity)
+        {
+            Ok(conn) => Ok(Admitted {
+                conn,
+                reading,
+                writing,
+            }),
+            Err(error) => {
+                let _ = self.kept.put(reading);
+                let _ = self.kept.put(writing);
+                Err(AdmitEnd::Act(error))
+            }
         }
-        self.shared.admit(
-            &mut self.pass,
-            &mut self.kept,
-            chooser,
-            channel,
-            identity,
-        )
     }
 
     /// Refuses a link: where the history is full the controller is halted.
     fn refuse(&self, end: AdmitEnd, mut writer: L::Out) -> Result<(), Stop<L>>
-        requires { (e : Refusal) → end ≡ Refused.Act e → RefusalCause e N.start (known self.now.pass).seen }
+        requires { AdmitCause end N.start (known self.now.pass).seen }
         ensures { (before : ℕ) (now : ℕ) → IfErr result (λ stop. StopCause L.faults N.start (known self.now.pass).seen before now stop) }
     {
         match end {

@@ -1,6 +1,6 @@
 //! The four ports of a controller.
 
-ghost use Rattle.std.specs.Prelude.{◌≡◌, IsTrue, Some, []};
+ghost use Rattle.std.specs.Prelude.{IsTrue, IsSome, IfSome};
 ghost use Rattle.controller_threads.specs.Ports.{HasNoLink, HaveNoLinks, AreEnded, AreAll};
 
 use cluster_types::config::Channel;
@@ -48,6 +48,18 @@ pub fn have_all_ended<L: Listener>(ended: &Ports<Option<L>>) -> bool
     ended.hub.is_some() && ended.task.is_some() && ended.mux.is_some() && ended.engine.is_some()
 }
 
+/// A port that has ended.
+fn ended_port<L: Listener>(port: Option<L>) -> L
+    requires ended { IfSome port (λ p. HasNoLink L.links p) }
+    requires some { IsSome port }
+    ensures { HasNoLink L.links result }
+{
+    match port {
+        Some(port) => port,
+        None => unreachable!(),
+    }
+}
+
 /// The four ports, once all have ended.
 pub fn all_ports<L: Listener>(ended: Ports<Option<L>>) -> Ports<L>
     requires ended { AreEnded L.links ended }
@@ -55,18 +67,15 @@ pub fn all_ports<L: Listener>(ended: Ports<Option<L>>) -> Ports<L>
     ensures { HaveNoLinks L.links result }
 {
     let Ports {
-        hub: Some(hub),
-        task: Some(task),
-        mux: Some(mux),
-        engine: Some(engine),
-    } = ended
-    else {
-        unreachable!()
-    };
-    Ports {
         hub,
         task,
         mux,
         engine,
+    } = ended;
+    Ports {
+        hub: ended_port::<L>(hub),
+        task: ended_port::<L>(task),
+        mux: ended_port::<L>(mux),
+        engine: ended_port::<L>(engine),
     }
 }

@@ -32,7 +32,15 @@ use thread_edges::spawner::Spawner;
 use thread_edges::words::Words;
 
 /// What the threads are to share.
-fn new_shared<L: Listener + Drop, D: Disk + Drop, C: Clock + Drop, W: Words + Drop, G: Gate + Drop, N: Naming, R: Wait + Drop>(
+fn new_shared<
+    L: Listener + Drop,
+    D: Disk + Drop,
+    C: Clock + Drop,
+    W: Words + Drop,
+    G: Gate + Drop,
+    N: Naming,
+    R: Wait + Drop,
+>(
     rt: R,
     alloc: Global,
     desk: Arc<Desk<D, C, W>, Global>,

@@ -7,12 +7,12 @@ ghost use Rattle.controller_threads.specs.Ends.{SessionCause};
 ghost use Rattle.controller_threads.specs.Handed.{Holds};
 ghost use Rattle.controller_threads.specs.Passes.{IsSince, IsRested};
 
-use crate::starting::ChoosingJob;
 use crate::end::Halt;
 use crate::handed::Handed;
 use crate::naming::Naming;
 use crate::queue::HandedBy;
 use crate::shared::Shared;
+use crate::starting::ChoosingJob;
 use controller_desk::locked::Locked;
 use disk_model::disk::Disk;
 use history_lock::lock::Pass;
@@ -62,8 +62,7 @@ impl<
     G: Gate + Drop,
     N: Naming,
     R: Wait + Drop,
-> Shared<L, D, C, W, G, N, R>
-{
+> Shared<L, D, C, W, G, N, R> {
     /// Reads a link to its end.
     fn read_link(
         &self,
@@ -135,8 +134,7 @@ impl<
     G: Gate + Drop,
     N: Naming,
     R: Wait + Drop,
-> ChoosingJob for Reading<L, D, C, W, G, N, R>
-{
+> ChoosingJob for Reading<L, D, C, W, G, N, R> {
     fn run(self, chooser: &Chooser) {
         let Reading {
             shared,
@@ -160,8 +158,7 @@ impl<
     G: Gate + Drop,
     N: Naming,
     R: Wait + Drop,
-> Job for Writing<L, D, C, W, G, N, R>
-{
+> Job for Writing<L, D, C, W, G, N, R> {
     fn run(self) {
         let Writing {
             shared,

@@ -1,26 +1,23 @@
 //! What the threads of a controller share.
 
-ghost use Rattle.std.specs.Prelude.{◌≡◌, ◌≤◌, ◌<◌, ◌+◌, ℕ, All, Err, IfOk, length};
+ghost use Rattle.std.specs.Prelude.{◌≡◌, ◌<◌, ◌+◌, ◌↔◌, IfErr, IfSome, IsSome, length};
 ghost use Rattle.std.specs.Arc.{arc_value};
-ghost use Rattle.std.specs.Vec.{vec_len, vec_capacity};
-ghost use Rattle.controller_desk.specs.declared.fault.ActError.{ActError as Refusal};
-ghost use Rattle.history_lock.specs.Names.{known, room_of, lock_id, IsIdle};
-ghost use Rattle.session_threads.specs.Passes.{HasSeen, Rests};
+ghost use Rattle.history_lock.specs.Names.{known, room_of, lock_id};
 ghost use Rattle.controller_threads.specs.Ends.{RefusalCause};
 ghost use Rattle.controller_threads.specs.Handed.{Holds};
-ghost use Rattle.controller_threads.specs.Passes.{IsSince, IsRested};
+ghost use Rattle.controller_threads.specs.Passes.{HasSeen, IsSince, IsRested};
 
 use crate::naming::Naming;
 use crate::queue::{HandedBy, Queue};
 use crate::writers::Writers;
 use cluster_types::config::Channel;
 use controller_desk::desk::Desk;
+use controller_desk::fault::ActError;
 use controller_desk::locked::Locked;
 use disk_model::disk::Disk;
 use history_lock::lock::Pass;
 use hmac_sign::Key;
 use load_schemes::chooser::Chooser;
-use session_threads::admission::{AdmitEnd, Admitted, Passes, admit};
 use std::alloc::Global;
 use std::sync::atomic::{AtomicU64, Ordering};
 use std::sync::{Arc, Wait};
@@ -37,7 +34,7 @@ pub struct Shared<L: Listener, D: Disk, C: Clock, W: Words, G, N: Naming, R> {
     pub desk: Arc<Desk<D, C, W>, Global>,
     pub gate: Arc<G, Global>,
     pub key: Key,
-    pub queue: Queue<L, D, C, W, N>,
+    pub queue: Queue<L, Locked<D, C, W>, N>,
     pub writers: Writers,
     /// Not 0 once no links are left.
     pub ending: AtomicU64,
@@ -52,10 +49,9 @@ impl<
     G: Gate + Drop,
     N: Naming,
     R: Wait + Drop,
-> Shared<L, D, C, W, G, N, R>
-{
+> Shared<L, D, C, W, G, N, R> {
     /// Hands over to the caller of `serve`.
-    pub fn hand(&self, handed: HandedBy<L, D, C, W>)
+    pub fn hand(&self, handed: HandedBy<L, Locked<D, C, W>>)
         requires { Holds N.lock N.start L.links L.faults handed }
     {
         self.queue.put(&self.rt, handed);
@@ -72,17 +68,17 @@ impl<
         self.ending.load(Ordering::SeqCst) != 0
     }
 
-    /// A pass for a worker.
-    pub fn split(&self, pass: &mut Pass<Locked<D, C, W>>) -> Pass<Locked<D, C, W>>
+    /// A pass of its own for a job. `None` where no more may come from this one.
+    pub fn split(&self, pass: &mut Pass<Locked<D, C, W>>) -> Option<Pass<Locked<D, C, W>>>
         requires rested { IsRested N.lock N.start pass.old }
-        requires room { 0 < room_of pass.old }
         ensures rested { IsRested N.lock N.start pass.new }
-        ensures room { room_of pass.new + 1 ≡ room_of pass.old }
-        ensures given { IsSince N.lock N.start result }
+        ensures exact { IsSome result ↔ (0 < room_of pass.old) }
+        ensures room { IfSome result (λ _. room_of pass.new + 1 ≡ room_of pass.old) }
+        ensures given { IfSome result (λ other. IsSince N.lock N.start other) }
     {
         match self.desk.split(pass, 0) {
-            Ok(other) => other,
-            Err(_) => unreachable!(),
+            Ok(other) => Some(other),
+            Err(_) => None,
         }
     }
 
@@ -96,28 +92,20 @@ impl<
         self.desk.join(pass, other);
     }
 
-    /// Admits a link.
-    pub fn admit(
+    /// Brings a connection up.
+    pub fn open_conn(
         &self,
         pass: &mut Pass<Locked<D, C, W>>,
-        kept: &mut Passes<Locked<D, C, W>>,
         chooser: &Chooser,
         channel: Channel,
         identity: &[u8],
-    ) -> Result<Admitted<Locked<D, C, W>>, AdmitEnd>
+    ) -> Result<u32, ActError>
         requires rested { IsRested N.lock N.start pass.old }
-        requires kept_idle { All (IsIdle N.lock) kept.old.items }
-        requires kept_seen { All (HasSeen N.start) kept.old.items }
-        requires spare { vec_len kept.old + 2 ≤ vec_capacity kept.old }
         requires identity { length identity.now < 256 }
         ensures rested { IsRested N.lock N.start pass.new }
-        ensures kept_idle { All (IsIdle N.lock) kept.new.items }
-        ensures kept_seen { All (HasSeen N.start) kept.new.items }
-        ensures ok { IfOk result (λ a. IsSince N.lock N.start a.reading × IsSince N.lock N.start a.writing) }
-        ensures cause { (e : Refusal) → result ≡ Err (AdmitEnd.Act e) → RefusalCause e N.start (known pass.new).seen }
+        ensures cause { IfErr result (λ e. RefusalCause e N.start (known pass.new).seen) }
     {
-        admit(
-            &self.rt, &self.desk, pass, kept, chooser, channel, identity,
-        )
+        self.desk
+            .open_conn(&self.rt, pass, chooser, channel, identity)
     }
 }

@@ -6,12 +6,12 @@ ghost use Rattle.controller_threads.specs.Ends.{HaltCause};
 ghost use Rattle.controller_threads.specs.Handed.{Holds};
 ghost use Rattle.controller_threads.specs.Passes.{IsSince, IsRested};
 
-use crate::starting::ChoosingJob;
 use crate::end::Halt;
 use crate::handed::Handed;
 use crate::naming::Naming;
 use crate::queue::HandedBy;
 use crate::shared::Shared;
+use crate::starting::ChoosingJob;
 use controller_desk::fault::ActError;
 use controller_desk::locked::Locked;
 use disk_model::disk::Disk;
@@ -60,8 +60,7 @@ impl<
     G: Gate + Drop,
     N: Naming,
     R: Wait + Drop,
-> Shared<L, D, C, W, G, N, R>
-{
+> Shared<L, D, C, W, G, N, R> {
     /// Sends heartbeats once. It goes on after want of memory, and after a call of the disk that failed.
     fn beat(&self, pass: &mut Pass<Locked<D, C, W>>, chooser: &Chooser) -> Option<Halt>
         requires since { IsSince N.lock N.start pass.old }
@@ -119,7 +118,7 @@ impl<
         mut pass: Pass<Locked<D, C, W>>,
         chooser: &Chooser,
         rhythm: Rhythm,
-    ) -> HandedBy<L, D, C, W>
+    ) -> HandedBy<L, Locked<D, C, W>>
         requires { IsSince N.lock N.start pass }
         ensures { Holds N.lock N.start L.links L.faults result }
     {
@@ -152,7 +151,7 @@ impl<
     }
 
     /// Flushes until no links are left, and once more.
-    fn keep_flushing(&self, mut pass: Pass<Locked<D, C, W>>) -> HandedBy<L, D, C, W>
+    fn keep_flushing(&self, mut pass: Pass<Locked<D, C, W>>) -> HandedBy<L, Locked<D, C, W>>
         requires { IsSince N.lock N.start pass }
         ensures { Holds N.lock N.start L.links L.faults result }
     {
@@ -178,8 +177,7 @@ impl<
     G: Gate + Drop,
     N: Naming,
     R: Wait + Drop,
-> ChoosingJob for Recurring<L, D, C, W, G, N, R>
-{
+> ChoosingJob for Recurring<L, D, C, W, G, N, R> {
     fn run(self, chooser: &Chooser) {
         let Recurring {
             shared,
@@ -199,8 +197,7 @@ impl<
     G: Gate + Drop,
     N: Naming,
     R: Wait + Drop,
-> Job for Flushing<L, D, C, W, G, N, R>
-{
+> Job for Flushing<L, D, C, W, G, N, R> {
     fn run(self) {
         let Flushing { shared, pass } = self;
         let handed = shared.keep_flushing(pass);

@@ -8,8 +8,6 @@ use Rattle.cluster_defs.specs.Histories.{facts, Legal}
 use Rattle.cluster_core.specs.declared.size.HistorySize.{HistorySize}
 use Rattle.history_lock.specs.declared.known.Content.{Content}
 use Rattle.history_lock.specs.declared.known.View.{View}
-use Rattle.history_lock.specs.declared.lock.Pass.{Pass}
-use Rattle.history_lock.specs.Names.{known}
 use Rattle.history_lock.specs.History.{Extends}
 use Rattle.controller_desk.specs.Contents.{taken_place}
 
@@ -34,10 +32,6 @@ taken_seen c conn = slice_index c.counts (taken_place conn)
 -- the history is legal, and no decision is due after it
 abbrev pub Rests : Content → Type 0
 Rests c = Legal c.list × (due (facts c.list) ≡ None)
-
--- a pass has seen at least this
-abbrev pub HasSeen : {T : Type 0} → Content → Pass T → Type 0
-HasSeen c pass = Extends c (known pass).seen
 
 -- WHAT A PASS ADDS
 

@@ -3,10 +3,9 @@
 ghost use Rattle.std.specs.Prelude.{◌≡◌, ◌⊎◌, ◌<◌, ◌≤◌, ◌+◌, ◌-◌, ◌↔◌, All, None, IfOk, IfSome, IsSome, Ok, Err, length, take};
 ghost use Rattle.std.specs.Vec.{vec_len, vec_capacity};
 ghost use Rattle.controller_desk.specs.declared.fault.ActError.{ActError as Refusal};
-ghost use Rattle.history_lock.specs.declared.known.Content.{Content};
 ghost use Rattle.history_lock.specs.Names.{known, room_of, lock_id, IsIdle};
 ghost use Rattle.session_threads.specs.Admission.{OpensInTurn};
-ghost use Rattle.session_threads.specs.Passes.{HasSeen, Rests};
+ghost use Rattle.session_threads.specs.Passes.{Rests};
 
 use cluster_types::config::Channel;
 use controller_desk::desk::Desk;
@@ -51,7 +50,6 @@ fn split_two<D: Disk + Drop, C: Clock + Drop, W: Words + Drop>(
     ensures idle { IsIdle (lock_id desk.now.lock) pass.new }
     ensures exact { IsSome result ↔ (2 ≤ room_of pass.old) }
     ensures some { IfSome result (λ two. IsIdle (lock_id desk.now.lock) two.0 × IsIdle (lock_id desk.now.lock) two.1 × (room_of pass.new + 2 ≡ room_of pass.old)) }
-    ensures given { IfSome result (λ two. ((known two.0).seen ≡ (known pass.old).seen) × ((known two.1).seen ≡ (known pass.old).seen)) }
     ensures none { result ≡ None → (known pass.new ≡ known pass.old) × (room_of pass.new ≡ room_of pass.old) }
     ensures seen { (known pass.new).seen ≡ (known pass.old).seen }
     ensures added { (known pass.new).added ≡ (known pass.old).added }
@@ -82,7 +80,6 @@ fn two_passes<D: Disk + Drop, C: Clock + Drop, W: Words + Drop>(
     ensures none { result ≡ None → (known pass.new ≡ known pass.old) × (room_of pass.new ≡ room_of pass.old) × (kept.new.items ≡ kept.old.items) }
     ensures seen { (known pass.new).seen ≡ (known pass.old).seen }
     ensures added { (known pass.new).added ≡ (known pass.old).added }
-    ensures since { (c : Content) → HasSeen c pass.old → All (HasSeen c) kept.old.items → All (HasSeen c) kept.new.items × IfSome result (λ two. HasSeen c two.0 × HasSeen c two.1) }
     ensures spare { vec_capacity kept.new ≡ vec_capacity kept.old }
 {
     let Some(last) = kept.pop() else {
@@ -128,8 +125,6 @@ pub fn admit<R: Wait, D: Disk + Drop, C: Clock + Drop, W: Words + Drop>(
     ensures act { (e : Refusal) → result ≡ Err (AdmitEnd.Act e) → OpensInTurn D.faults (known pass.old) channel identity.now (Err e) (known pass.new) }
     ensures returned { (e : Refusal) → result ≡ Err (AdmitEnd.Act e) → (2 ≤ length kept.new.items) × (length kept.new.items + room_of pass.new ≡ length kept.old.items + room_of pass.old) }
     ensures rests { (result ≡ Err AdmitEnd.NoPass) ⊎ Rests (known pass.new).seen }
-    ensures since { (c : Content) → HasSeen c pass.old → All (HasSeen c) kept.old.items → All (HasSeen c) kept.new.items × IfOk result (λ a. HasSeen c a.reading × HasSeen c a.writing) }
-    ensures later { HasSeen (known pass.old).seen pass.new }
 {
     let Some((reading, writing)) = two_passes(desk, pass, kept) else {
         return Err(AdmitEnd::NoPass);
