@@ -1,5 +1,6 @@
 -- Why a desk halts its controller.
-use Rattle.std.proofs.Common.{◌≡◌, ℕ, suc, ◌≤◌, List, [], ◌∷◌, ◌++◌, Bool, true, false, ◌||◌, Err, refl, sym, ap, ◌∙◌, subst, arith}
+use Rattle.std.proofs.Common.{◌≡◌, ℕ, suc, ◌≤◌, List, [], ◌∷◌, ◌++◌, Bool, true, false, ◌||◌, ◌&&◌, Err, refl, sym, ap, ◌∙◌, subst, arith, le_refl}
+use Rattle.std.proofs.lemmas.Bool.Decides.{nat_tests}
 use Rattle.std.specs.List.{list_any}
 use Rattle.cluster_types.specs.Causes.{Rose}
 use Rattle.cluster_types.specs.declared.config.Channel.{Channel}
@@ -23,10 +24,11 @@ use Rattle.task_journal.specs.declared.fault.AppendFault.TheVariants as appends
 use Rattle.session_threads.specs.declared.end.SessionEnd.{SessionEnd}
 use Rattle.session_threads.specs.declared.end.SessionEnd.TheVariants as ends
 use Rattle.session_threads.specs.Ends.{HasDeskCause}
+use Rattle.session_threads.specs.Passes.{fulls_seen}
 use Rattle.session_threads.proofs.Causes.{cause_since, refused_cause}
 use Rattle.controller_threads.specs.declared.end.Halt.{Halt}
 use Rattle.controller_threads.specs.declared.end.Halt.TheVariants as halts
-use Rattle.controller_threads.specs.Ends.{faults_seen, HaltCause, RefusalCause, SessionCause}
+use Rattle.controller_threads.specs.Ends.{faults_seen, has_risen, HaltCause, RefusalCause, SessionCause}
 
 -- A SHUTDOWN STAYS ASKED
 
@@ -63,16 +65,29 @@ still_stopping a b on is = subst (λ (h : History). is_stopping h ≡ true) (sym
 
 -- CAUSES LAST
 
-rose_later : (a b c : ℕ) → Rose a b → b ≤ c → Rose a c
-rose_later a b c rose more = omega (arith, rose, more)
+and_left : (a b : Bool) → (a && b) ≡ true → a ≡ true
+and_left true b is = refl
+and_left false b is = cc
 
-rose_earlier : (a b c : ℕ) → a ≤ b → Rose b c → Rose a c
-rose_earlier a b c less rose = omega (arith, less, rose)
+and_right : (a b : Bool) → (a && b) ≡ true → b ≡ true
+and_right true b is = is
+and_right false b is = cc
+
+and_both : (a b : Bool) → a ≡ true → b ≡ true → (a && b) ≡ true
+and_both true b p q = q
+and_both false b p q = cc
+
+risen_later : (a b c : ℕ) → has_risen a b ≡ true → b ≤ c → has_risen a c ≡ true
+risen_later a b c risen more = grind (arith, nat_tests)
+
+risen_since : (a b c d : ℕ) → a ≤ b → Rose b c → c ≤ d → has_risen a d ≡ true
+risen_since a b c d less rose more = grind (arith, nat_tests)
 
 pub halt_later : (halt : Halt) (start a b : Content) → HaltCause halt start a → Extends a b → HaltCause halt start b
 halt_later halts.Stopping start a b cause on = still_stopping a b on cause
-halt_later halts.DiskFault start a b cause on = rose_later _ _ _ cause (on.counts 0)
-halt_later (halts.HistoryFull entries bytes) start a b cause on = (rose_later _ _ _ cause.0 (on.counts 2), cause.1)
+halt_later halts.DiskFault start a b cause on = risen_later (faults_seen start) (faults_seen a) (faults_seen b) cause (on.counts 0)
+halt_later (halts.HistoryFull entries bytes) start a b cause on =
+    and_both _ _ (risen_later (fulls_seen start) (fulls_seen a) (fulls_seen b) (and_left _ _ cause) (on.counts 2)) (and_right (has_risen (fulls_seen start) (fulls_seen a)) _ cause)
 
 -- CALLS
 
@@ -80,7 +95,9 @@ abbrev at_start : Content → View
 at_start start = without_turn 0 start []
 
 pub session_cause : (end : SessionEnd) (start : Content) (u w : View) → Extends start u.seen → HasDeskCause end u w → SessionCause end start w.seen
-session_cause (ends.HistoryFull entries bytes) start u w on cause = cause_since (ends.HistoryFull entries bytes) (at_start start) u w on cause
+session_cause (ends.HistoryFull entries bytes) start u w on cause =
+    let c = cause_since (ends.HistoryFull entries bytes) (at_start start) u w on cause in
+    and_both _ _ (risen_since (fulls_seen start) (fulls_seen start) (fulls_seen w.seen) (fulls_seen w.seen) (le_refl _) c.0 (le_refl _)) c.1
 session_cause ends.Reopen start u w on cause = tt
 session_cause ends.Ended start u w on cause = tt
 session_cause ends.Closed start u w on cause = tt
@@ -108,5 +125,4 @@ flush_cause faults start u w before after on turn flushed =
     let seen : faults_seen w.seen ≡ faults after.disk = ap faults_seen turn.seen in
     let less = on.counts 0 in
     let more : faults_seen u.seen ≤ faults before.disk = turn.adds.later.counts 0 in
-    let rose = flushed.cause refl in
-    omega (arith, seen, less, more, rose)
+    risen_since (faults_seen start) (faults before.disk) (faults after.disk) (faults_seen w.seen) (omega (arith, less, more)) (flushed.cause refl) (omega (arith, seen))

@@ -1,5 +1,5 @@
 -- Why `serve` ends, and what its end gives back.
-use Rattle.std.specs.Prelude.{◌≡◌, ◌≤◌, ⊤, true, ℕ, List, Option, slice_index}
+use Rattle.std.specs.Prelude.{◌≡◌, ◌≤◌, ◌+◌, ◌-◌, ◌^◌, ⊤, ℕ, List, Option, Bool, true, ◌&&◌, min, nat_le, slice_index}
 use Rattle.cluster_types.specs.Causes.{Rose}
 use Rattle.cluster_core.specs.Size.{is_past}
 use Rattle.cluster_defs.specs.Histories.{is_stopping}
@@ -26,13 +26,20 @@ use Rattle.controller_threads.specs.Ports.{HaveNoLinks}
 abbrev pub faults_seen : Content → ℕ
 faults_seen c = slice_index c.counts 0
 
--- Why a desk halts its controller, by what was seen at the start and what is seen then: a shutdown was asked since the last
--- Open; the disk had more faults; or a step would have passed the limits, which was counted.
+-- a count rose, or stands at the end of its type
+abbrev pub has_risen : ℕ → ℕ → Bool
+has_risen before now = nat_le (min (before + 1) (2 ^ 64 - 1)) now
+
+-- Whether a desk halts its controller so, by what was seen at the start and what is seen then: a shutdown was asked since the
+-- last Open; the disk had more faults; or a step would have passed the limits, which was counted.
+abbrev pub is_halted : Halt → Content → Content → Bool
+is_halted halts.Stopping start seen = is_stopping seen.list
+is_halted halts.DiskFault start seen = has_risen (faults_seen start) (faults_seen seen)
+is_halted (halts.HistoryFull entries bytes) start seen =
+    has_risen (fulls_seen start) (fulls_seen seen) && is_past (limits_seen start) (record { entries = entries; bytes = bytes })
+
 abbrev pub HaltCause : Halt → Content → Content → Type 0
-HaltCause halts.Stopping start seen = is_stopping seen.list ≡ true
-HaltCause halts.DiskFault start seen = Rose (faults_seen start) (faults_seen seen)
-HaltCause (halts.HistoryFull entries bytes) start seen =
-    Rose (fulls_seen start) (fulls_seen seen) × (is_past (limits_seen start) (record { entries = entries; bytes = bytes }) ≡ true)
+HaltCause halt start seen = is_halted halt start seen ≡ true
 
 -- a refusal of the desk that halts the controller has its cause
 abbrev pub RefusalCause : ActError → Content → Content → Type 0

@@ -1,4 +1,3 @@
 pub mod Ends
-pub mod Handed
 pub mod Passes
 pub mod Ports

@@ -1,10 +1,8 @@
 //! The acceptors.
 
-ghost use Rattle.controller_threads.specs.Handed.{Holds};
-
-use crate::handed::{Handed, Link};
+use crate::handed::{Handed, Link, failed_port};
 use crate::naming::Naming;
-use crate::queue::HandedBy;
+use crate::ports::ended_port;
 use crate::shared::Shared;
 use cluster_types::config::Channel;
 use controller_desk::locked::Locked;
@@ -35,9 +33,7 @@ impl<
     R: Wait + Drop,
 > Shared<L, D, C, W, G, N, R> {
     /// Hands over the links of a port, until it ends or fails.
-    fn accept_links(&self, channel: Channel, mut port: L) -> HandedBy<L, Locked<D, C, W>>
-        ensures { Holds N.lock N.start L.links L.faults result }
-    {
+    fn accept_links(&self, channel: Channel, mut port: L) -> Handed<L, Locked<D, C, W>, N> {
         for _ in self.rt.forever() {
             match port.accept(&self.rt) {
                 Accepted::Pair(reader, writer) => self.hand(Handed::Accepted(Link {
@@ -45,8 +41,8 @@ impl<
                     reader,
                     writer,
                 })),
-                Accepted::End => return Handed::PortEnded { channel, port },
-                Accepted::Failed => return Handed::PortFailed { channel, port },
+                Accepted::End => return Handed::PortEnded(channel, ended_port(port)),
+                Accepted::Failed => return Handed::PortFailed(failed_port(channel, port)),
             }
             self.gate.pass(&self.rt, Point::Accepted, 0);
         }

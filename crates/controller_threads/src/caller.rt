@@ -4,16 +4,14 @@ ghost use Rattle.std.specs.Prelude.{◌≡◌, ◌≤◌, ℕ, IsTrue, IfErr, On
 ghost use Rattle.history_lock.specs.declared.known.Content.{Content};
 ghost use Rattle.history_lock.specs.Names.{known, room_of};
 ghost use Rattle.controller_threads.specs.Ends.{HaltCause, StopCause, EndCause};
-ghost use Rattle.controller_threads.specs.Handed.{Holds};
-ghost use Rattle.controller_threads.specs.Passes.{HasSeen, IsSince, IsRested};
-ghost use Rattle.controller_threads.specs.Ports.{AreEnded, AreAll};
+ghost use Rattle.controller_threads.specs.Passes.{IsSince};
+ghost use Rattle.controller_threads.specs.Ports.{AreAll};
 
 use crate::end::{Halt, ServeEnd};
-use crate::handed::Handed;
+use crate::handed::{FailedPort, Handed};
 use crate::naming::Naming;
-use crate::passes::KeptPasses;
-use crate::ports::{Ports, all_ports, have_all_ended, no_ports, put_port};
-use crate::queue::HandedBy;
+use crate::passes::{Halted, NamedPass};
+use crate::ports::{EndedPorts, Ports};
 use crate::shared::Shared;
 use crate::stop::Stop;
 use controller_desk::locked::Locked;
@@ -38,16 +36,15 @@ pub struct Caller<L: Listener, D: Disk, C: Clock, W: Words, G, N: Naming, R> {
     pub shared: Arc<Shared<L, D, C, W, G, N, R>, Global>,
     pub pass: Pass<Locked<D, C, W>>,
     /// The passes of sessions that have ended.
-    pub kept: KeptPasses<Locked<D, C, W>, N>,
-    pub ended: Ports<Option<L>>,
+    pub kept: Vec<NamedPass<Locked<D, C, W>, N>>,
+    pub ended: EndedPorts<L>,
     /// How many greetings run.
     pub greetings: u64,
     /// How many sessions run.
     pub sessions: u64,
     /// How many workers run.
     pub workers: u64,
-    ghost rested: { IsRested N.lock N.start pass },
-    ghost ended_ports: { AreEnded L.links ended },
+    ghost since: { IsSince N.lock N.start pass },
 }
 
 impl<
@@ -64,15 +61,15 @@ impl<
         shared: Arc<Shared<L, D, C, W, G, N, R>, Global>,
         pass: Pass<Locked<D, C, W>>,
     ) -> Caller<L, D, C, W, G, N, R>
-        requires { IsRested N.lock N.start pass }
+        requires { IsSince N.lock N.start pass }
         ensures { room_of result.pass ≡ room_of pass }
     {
-        let kept = KeptPasses::new(shared.alloc);
+        let kept = Vec::new(shared.alloc);
         Caller {
             shared,
             pass,
             kept,
-            ended: no_ports(),
+            ended: Ports::none(),
             greetings: 0,
             sessions: 0,
             workers: 0,
@@ -80,21 +77,28 @@ impl<
     }
 
     /// Keeps the pass of a session that ended, to be used again.
-    fn keep(&mut self, pass: Pass<Locked<D, C, W>>) -> Result<(), Stop<L>>
-        requires { IsSince N.lock N.start pass }
+    fn keep(&mut self, pass: NamedPass<Locked<D, C, W>, N>) -> Result<(), Stop<L>>
         ensures { (before : ℕ) (now : ℕ) (seen : Content) → IfErr result (λ stop. StopCause L.faults N.start seen before now stop) }
     {
         self.sessions = self.sessions.saturating_sub(1);
-        self.kept.put(pass)?;
+        self.kept.push(pass)?;
         Ok(())
     }
 
     /// Takes in the pass of a worker that ended.
-    fn take_in(&mut self, pass: Pass<Locked<D, C, W>>)
-        requires { IsRested N.lock N.start pass }
-        ensures { HasSeen (known pass).seen self.new.pass }
-    {
+    fn end_worker(&mut self, ended: NamedPass<Locked<D, C, W>, N>) {
+        self.workers = self.workers.saturating_sub(1);
+        let NamedPass { pass, of: _ } = ended;
         self.shared.join(&mut self.pass, pass);
+    }
+
+    /// Takes in the pass of a job that met what ends the controller.
+    fn halt(&mut self, halted: Halted<Locked<D, C, W>, N>) -> Halt
+        ensures { HaltCause result N.start (known self.new.pass).seen }
+    {
+        let Halted { halt, pass, of: _ } = halted;
+        self.shared.join(&mut self.pass, pass);
+        halt
     }
 
     /// Does what is to be done about what was handed over.
@@ -102,15 +106,14 @@ impl<
         &mut self,
         spawner: &mut Spawner<H>,
         chooser: &Chooser,
-        handed: HandedBy<L, Locked<D, C, W>>,
+        handed: Handed<L, Locked<D, C, W>, N>,
     ) -> Result<(), Stop<L>>
-        requires { Holds N.lock N.start L.links L.faults handed }
         ensures ok { OnOk result (spawner.new.faults ≡ spawner.old.faults) }
         ensures cause { IfErr result (λ stop. StopCause L.faults N.start (known self.new.pass).seen spawner.old.faults spawner.new.faults stop) }
     {
         match handed {
             Handed::Accepted(link) => self.start_greeting(spawner, link),
-            Handed::Greeted { link, greeted } => {
+            Handed::Greeted(link, greeted) => {
                 self.greetings = self.greetings.saturating_sub(1);
                 self.open(spawner, chooser, link, greeted)
             }
@@ -119,20 +122,19 @@ impl<
                 Ok(())
             }
             Handed::SessionEnded(pass) => self.keep(pass),
-            Handed::PortEnded { channel, port } => {
-                put_port(&mut self.ended, channel, port);
+            Handed::PortEnded(channel, port) => {
+                self.ended.put(channel, port);
                 Ok(())
             }
-            Handed::PortFailed { channel, port } => Err(Stop::PortFailed { channel, port }),
+            Handed::PortFailed(failed) => {
+                let FailedPort { channel, port } = failed;
+                Err(Stop::PortFailed { channel, port })
+            }
             Handed::WorkerEnded(pass) => {
-                self.workers = self.workers.saturating_sub(1);
-                self.take_in(pass);
+                self.end_worker(pass);
                 Ok(())
             }
-            Handed::Halted { halt, pass } => {
-                self.take_in(pass);
-                Err(Stop::Halted(halt))
-            }
+            Handed::Halted(halted) => Err(Stop::Halted(self.halt(halted))),
         }
     }
 
@@ -140,7 +142,7 @@ impl<
     fn has_no_links(&self) -> bool
         ensures { IsTrue result → AreAll self.now.ended }
     {
-        self.greetings == 0 && self.sessions == 0 && have_all_ended(&self.ended)
+        self.greetings == 0 && self.sessions == 0 && self.ended.are_all()
     }
 
     /// Serves until all links have ended, and then the workers.
@@ -189,9 +191,15 @@ impl<
         requires { AreAll self.ended }
         ensures { (before : ℕ) (now : ℕ) → EndCause N.lock N.start L.links L.faults before now result }
     {
-        let Caller { pass, ended, .. } = self;
+        let Caller {
+            shared,
+            mut pass,
+            ended,
+            ..
+        } = self;
+        shared.flush_last(&mut pass);
         ServeEnd::Ended {
-            ports: all_ports(ended),
+            ports: ended.into_ports(),
             pass,
         }
     }
@@ -208,7 +216,12 @@ impl<
         requires { HaltCause halt N.start (known self.pass).seen }
         ensures { (before : ℕ) (now : ℕ) → EndCause N.lock N.start L.links L.faults before now result }
     {
-        let Caller { pass, .. } = self;
+        let Caller {
+            shared,
+            mut pass,
+            ..
+        } = self;
+        shared.flush_last(&mut pass);
         match halt {
             Halt::Stopping => ServeEnd::Stopped(pass),
             Halt::DiskFault => ServeEnd::DiskFault(pass),

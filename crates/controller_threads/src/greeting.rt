@@ -1,10 +1,7 @@
 //! The greetings.
 
-ghost use Rattle.controller_threads.specs.Handed.{Holds};
-
-use crate::handed::{Handed, Link};
+use crate::handed::{Handed, Link, ShortGreeted};
 use crate::naming::Naming;
-use crate::queue::HandedBy;
 use crate::shared::Shared;
 use controller_desk::locked::Locked;
 use disk_model::disk::Disk;
@@ -34,11 +31,9 @@ impl<
     R: Wait + Drop,
 > Shared<L, D, C, W, G, N, R> {
     /// Makes the handshake on a link.
-    fn greet_link(&self, mut link: Link<L::In, L::Out>) -> HandedBy<L, Locked<D, C, W>>
-        ensures { Holds N.lock N.start L.links L.faults result }
-    {
+    fn greet_link(&self, mut link: Link<L::In, L::Out>) -> Handed<L, Locked<D, C, W>, N> {
         match greet(&self.rt, self.alloc, &mut link.reader, &mut link.writer) {
-            Ok(greeted) => Handed::Greeted { link, greeted },
+            Ok(greeted) => Handed::Greeted(link, ShortGreeted::new(greeted)),
             Err(_) => Handed::NotGreeted,
         }
     }

@@ -1,9 +1,15 @@
 //! What threads hand over to the caller of `serve`.
 
-use crate::end::Halt;
+ghost use Rattle.std.specs.Prelude.{◌≤◌, All};
+ghost use Rattle.std.proofs.Props.{props};
+ghost use Rattle.zmtp_peer.specs.Limits.{IsShortMessage, IsShortIdentity};
+
+use crate::naming::Naming;
+use crate::passes::{Halted, NamedPass};
+use crate::ports::EndedPort;
 use cluster_types::config::Channel;
-use history_lock::lock::Pass;
 use session_threads::greeting::Greeted;
+use thread_edges::links::Listener;
 
 /// A link to another machine, and the channel of the port where it was accepted.
 #[derive(Drop)]
@@ -13,23 +19,55 @@ pub struct Link<I, O> {
     pub writer: O,
 }
 
-/// What a thread hands over, where links have readers `I` and writers `O`, ports are `P`, and the desk's lock holds `T`.
+/// What came with a handshake, within the limits.
 #[derive(Drop)]
-pub enum Handed<I, O, P, T> {
+pub struct ShortGreeted {
+    pub greeted: Greeted,
+    ghost identity: { IsShortIdentity greeted.identity },
+    ghost short: { All IsShortMessage greeted.early } by { Prim.hlevel props },
+}
+
+impl ShortGreeted {
+    pub fn new(greeted: Greeted) -> ShortGreeted
+        requires identity { IsShortIdentity greeted.identity }
+        requires short { All IsShortMessage greeted.early }
+    {
+        ShortGreeted { greeted }
+    }
+}
+
+/// A port on which an accept failed.
+#[derive(Drop)]
+pub struct FailedPort<L: Listener> {
+    pub channel: Channel,
+    pub port: L,
+    ghost fault: { 1 ≤ L.faults port },
+}
+
+/// A port whose last accept failed.
+pub fn failed_port<L: Listener>(channel: Channel, port: L) -> FailedPort<L>
+    requires { 1 ≤ L.faults port }
+{
+    FailedPort { channel, port }
+}
+
+/// What a thread hands over, where the desk's lock holds `T`.
+#[derive(Drop)]
+pub enum Handed<L: Listener, T, N: Naming> {
     /// A link was accepted.
-    Accepted(Link<I, O>),
+    Accepted(Link<L::In, L::Out>),
     /// The handshake of a link is done.
-    Greeted { link: Link<I, O>, greeted: Greeted },
+    Greeted(Link<L::In, L::Out>, ShortGreeted),
     /// A link ended before its handshake was done.
     NotGreeted,
     /// A session ended.
-    SessionEnded(Pass<T>),
+    SessionEnded(NamedPass<T, N>),
     /// A port has no further links.
-    PortEnded { channel: Channel, port: P },
+    PortEnded(Channel, EndedPort<L>),
     /// An accept failed.
-    PortFailed { channel: Channel, port: P },
+    PortFailed(FailedPort<L>),
     /// A worker ended, since no links are left.
-    WorkerEnded(Pass<T>),
+    WorkerEnded(NamedPass<T, N>),
     /// A session or a worker met what ends the controller.
-    Halted { halt: Halt, pass: Pass<T> },
+    Halted(Halted<T, N>),
 }

@@ -1,16 +1,15 @@
 //! The jobs that the caller of `serve` starts.
 
-ghost use Rattle.std.specs.Prelude.{◌≡◌, ◌≤◌, ◌<◌, ◌+◌, All, IfErr, OnOk};
+ghost use Rattle.std.specs.Prelude.{◌≡◌, ◌≤◌, ◌<◌, ◌+◌, IfErr, OnOk};
 ghost use Rattle.history_lock.specs.Names.{room_of};
-ghost use Rattle.zmtp_peer.specs.Limits.{IsShortMessage};
 ghost use Rattle.controller_threads.specs.Ends.{StopsAtStart};
-ghost use Rattle.controller_threads.specs.Passes.{IsSince};
 
 use crate::accepting::Accepting;
 use crate::caller::Caller;
 use crate::greeting::Greeting;
-use crate::handed::Link;
+use crate::handed::{Link, ShortGreeted};
 use crate::naming::Naming;
+use crate::passes::NamedPass;
 use crate::ports::Ports;
 use crate::sessions::{Reading, Writing};
 use crate::starting::{start, start_choosing};
@@ -19,7 +18,6 @@ use crate::workers::{Flushing, Recurring, Rhythm};
 use cluster_types::config::Channel;
 use controller_desk::locked::Locked;
 use disk_model::disk::Disk;
-use history_lock::lock::Pass;
 use session_threads::connection::Connection;
 use std::sync::{Arc, Wait};
 use std::thread::Threads;
@@ -28,8 +26,6 @@ use thread_edges::gate::Gate;
 use thread_edges::links::Listener;
 use thread_edges::spawner::Spawner;
 use thread_edges::words::Words;
-use zmtp_peer::peer::Peer;
-use zmtp_peer::phase::FramesList;
 
 /// How many workers there are: for beats, for time and for flushes.
 const WORKERS: u64 = 3;
@@ -86,9 +82,8 @@ impl<
         &self,
         spawner: &mut Spawner<H>,
         rhythm: Rhythm,
-        pass: Pass<Locked<D, C, W>>,
+        pass: NamedPass<Locked<D, C, W>, N>,
     ) -> Result<(), Stop<L>>
-        requires { IsSince N.lock N.start pass }
         ensures ok { OnOk result (spawner.new.faults ≡ spawner.old.faults) }
         ensures err { IfErr result (λ stop. StopsAtStart spawner.old.faults spawner.new.faults stop) }
     {
@@ -104,9 +99,8 @@ impl<
     fn start_flushing<H: Threads + Drop>(
         &self,
         spawner: &mut Spawner<H>,
-        pass: Pass<Locked<D, C, W>>,
+        pass: NamedPass<Locked<D, C, W>, N>,
     ) -> Result<(), Stop<L>>
-        requires { IsSince N.lock N.start pass }
         ensures ok { OnOk result (spawner.new.faults ≡ spawner.old.faults) }
         ensures err { IfErr result (λ stop. StopsAtStart spawner.old.faults spawner.new.faults stop) }
     {
@@ -115,10 +109,9 @@ impl<
     }
 
     /// A pass for a worker.
-    fn worker_pass(&mut self) -> Pass<Locked<D, C, W>>
+    fn worker_pass(&mut self) -> NamedPass<Locked<D, C, W>, N>
         requires { 0 < room_of self.old.pass }
-        ensures room { room_of self.new.pass + 1 ≡ room_of self.old.pass }
-        ensures since { IsSince N.lock N.start result }
+        ensures { room_of self.new.pass + 1 ≡ room_of self.old.pass }
     {
         match self.shared.split(&mut self.pass) {
             Some(pass) => pass,
@@ -165,13 +158,10 @@ impl<
         &mut self,
         spawner: &mut Spawner<H>,
         reader: L::In,
-        peer: Peer,
-        early: FramesList,
+        greeted: ShortGreeted,
         connection: Connection,
-        pass: Pass<Locked<D, C, W>>,
+        pass: NamedPass<Locked<D, C, W>, N>,
     ) -> Result<(), Stop<L>>
-        requires since { IsSince N.lock N.start pass }
-        requires short { All IsShortMessage early }
         ensures ok { OnOk result (spawner.new.faults ≡ spawner.old.faults) }
         ensures err { IfErr result (λ stop. StopsAtStart spawner.old.faults spawner.new.faults stop) }
     {
@@ -179,8 +169,7 @@ impl<
         let session = Reading {
             shared,
             reader,
-            peer,
-            early,
+            greeted,
             connection,
             pass,
         };
@@ -195,9 +184,8 @@ impl<
         spawner: &mut Spawner<H>,
         writer: L::Out,
         conn: u32,
-        pass: Pass<Locked<D, C, W>>,
+        pass: NamedPass<Locked<D, C, W>, N>,
     ) -> Result<(), Stop<L>>
-        requires { IsSince N.lock N.start pass }
         ensures ok { OnOk result (spawner.new.faults ≡ spawner.old.faults) }
         ensures err { IfErr result (λ stop. StopsAtStart spawner.old.faults spawner.new.faults stop) }
     {

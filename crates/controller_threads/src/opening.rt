@@ -1,26 +1,24 @@
 //! Links whose handshake is done.
 
-ghost use Rattle.std.specs.Prelude.{◌≡◌, ℕ, All, IfOk, IfErr, IfSome, OnOk};
+ghost use Rattle.std.specs.Prelude.{◌≡◌, ℕ, IfErr, OnOk};
 ghost use Rattle.history_lock.specs.Names.{known};
-ghost use Rattle.zmtp_peer.specs.Limits.{IsShortMessage, IsShortIdentity};
+ghost use Rattle.zmtp_peer.specs.Limits.{IsShortIdentity};
 ghost use Rattle.controller_threads.specs.Ends.{AdmitCause, StopCause};
-ghost use Rattle.controller_threads.specs.Passes.{IsSince};
 
 use crate::caller::Caller;
 use crate::end::Halt;
-use crate::handed::Link;
+use crate::handed::{Link, ShortGreeted};
 use crate::naming::Naming;
+use crate::passes::NamedPass;
 use crate::stop::Stop;
 use cluster_types::config::Channel;
 use controller_desk::fault::ActError;
 use controller_desk::locked::Locked;
 use disk_model::disk::Disk;
 use edges::sink::{Sink, write_all};
-use history_lock::lock::Pass;
 use load_schemes::chooser::Chooser;
-use session_threads::admission::{AdmitEnd, Admitted};
+use session_threads::admission::AdmitEnd;
 use session_threads::connection::Connection;
-use session_threads::greeting::Greeted;
 use std::alloc::Global;
 use std::sync::Wait;
 use std::thread::Threads;
@@ -30,6 +28,13 @@ use thread_edges::links::Listener;
 use thread_edges::spawner::Spawner;
 use thread_edges::words::Words;
 use zmtp_peer::writing::error_octets;
+
+/// The passes of the two sessions of a link.
+#[derive(Drop)]
+struct SessionPasses<T, N: Naming> {
+    reading: NamedPass<T, N>,
+    writing: NamedPass<T, N>,
+}
 
 /// Tells the other side of a link that there is no room for it, where memory and link let it.
 fn tell_busy<K: Sink>(alloc: Global, writer: &mut K) {
@@ -48,55 +53,47 @@ impl<
     R: Wait + Drop + Copy + Send + Sync + 'static,
 > Caller<L, D, C, W, G, N, R> {
     /// A pass for a session: the last one that is kept, or else one of the caller's own.
-    fn session_pass(&mut self) -> Option<Pass<Locked<D, C, W>>>
-        ensures { IfSome result (λ pass. IsSince N.lock N.start pass) }
-    {
-        match self.kept.take() {
+    fn session_pass(&mut self) -> Option<NamedPass<Locked<D, C, W>, N>> {
+        match self.kept.pop() {
             Some(pass) => Some(pass),
             None => self.shared.split(&mut self.pass),
         }
     }
 
     /// Passes for the two sessions of a link.
-    fn session_passes(&mut self) -> Option<(Pass<Locked<D, C, W>>, Pass<Locked<D, C, W>>)>
-        ensures { IfSome result (λ two. IsSince N.lock N.start two.0 × IsSince N.lock N.start two.1) }
-    {
+    fn session_passes(&mut self) -> Option<SessionPasses<Locked<D, C, W>, N>> {
         let reading = self.session_pass()?;
         match self.session_pass() {
-            Some(writing) => Some((reading, writing)),
+            Some(writing) => Some(SessionPasses { reading, writing }),
             None => {
-                let _ = self.kept.put(reading);
+                let _ = self.kept.push(reading);
                 None
             }
         }
     }
 
-    /// Takes passes for the sessions of a link, and brings its connection up.
+    /// Brings the connection of a link up, and takes passes for its sessions.
     fn admit(
         &mut self,
         chooser: &Chooser,
         channel: Channel,
         identity: &[u8],
-    ) -> Result<Admitted<Locked<D, C, W>>, AdmitEnd>
+    ) -> Result<(u32, SessionPasses<Locked<D, C, W>, N>), AdmitEnd>
         requires { IsShortIdentity identity.now }
-        ensures ok { IfOk result (λ a. IsSince N.lock N.start a.reading × IsSince N.lock N.start a.writing) }
-        ensures cause { IfErr result (λ end. AdmitCause end N.start (known self.new.pass).seen) }
+        ensures { IfErr result (λ end. AdmitCause end N.start (known self.new.pass).seen) }
     {
-        let Some((reading, writing)) = self.session_passes() else {
+        let Some(passes) = self.session_passes() else {
             return Err(AdmitEnd::NoPass);
         };
         match self
             .shared
             .open_conn(&mut self.pass, chooser, channel, identity)
         {
-            Ok(conn) => Ok(Admitted {
-                conn,
-                reading,
-                writing,
-            }),
+            Ok(conn) => Ok((conn, passes)),
             Err(error) => {
-                let _ = self.kept.put(reading);
-                let _ = self.kept.put(writing);
+                let SessionPasses { reading, writing } = passes;
+                let _ = self.kept.push(reading);
+                let _ = self.kept.push(writing);
                 Err(AdmitEnd::Act(error))
             }
         }
@@ -125,10 +122,8 @@ impl<
         spawner: &mut Spawner<H>,
         chooser: &Chooser,
         link: Link<L::In, L::Out>,
-        greeted: Greeted,
+        greeted: ShortGreeted,
     ) -> Result<(), Stop<L>>
-        requires identity { IsShortIdentity greeted.identity }
-        requires short { All IsShortMessage greeted.early }
         ensures ok { OnOk result (spawner.new.faults ≡ spawner.old.faults) }
         ensures cause { IfErr result (λ stop. StopCause L.faults N.start (known self.new.pass).seen spawner.old.faults spawner.new.faults stop) }
     {
@@ -137,21 +132,14 @@ impl<
             reader,
             writer,
         } = link;
-        let Greeted {
-            peer,
-            identity,
-            early,
-        } = greeted;
-        let Admitted {
-            conn: number,
-            reading,
-            writing,
-        } = match self.admit(chooser, channel, identity.as_slice()) {
-            Ok(admitted) => admitted,
-            Err(end) => return self.refuse(end, writer),
-        };
-        let connection = Connection { number, channel };
-        self.start_reading(spawner, reader, peer, early, connection, reading)?;
-        self.start_writing(spawner, writer, number, writing)
+        match self.admit(chooser, channel, greeted.greeted.identity.as_slice()) {
+            Ok((number, passes)) => {
+                let SessionPasses { reading, writing } = passes;
+                let connection = Connection { number, channel };
+                self.start_reading(spawner, reader, greeted, connection, reading)?;
+                self.start_writing(spawner, writer, number, writing)
+            }
+            Err(end) => self.refuse(end, writer),
+        }
     }
 }

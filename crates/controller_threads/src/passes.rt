@@ -1,57 +1,53 @@
-//! Passes of sessions that have ended, to be used again.
+//! Passes that threads hand over, with what is known of them.
 
-ghost use Rattle.std.specs.Prelude.{IfSome};
+ghost use Rattle.std.specs.Prelude.{◌≡◌, IfSome};
+ghost use Rattle.history_lock.specs.Names.{known};
+ghost use Rattle.controller_threads.specs.Ends.{HaltCause};
 ghost use Rattle.controller_threads.specs.Passes.{IsSince};
 
+use crate::end::Halt;
 use crate::naming::Naming;
 use history_lock::lock::Pass;
-use std::alloc::{AllocError, Global};
 use std::marker::PhantomData;
 
 /// A pass of the lock, which has seen what was seen at the start.
 #[derive(Drop)]
-struct Kept<T, N: Naming> {
-    pass: Pass<T>,
-    of: PhantomData<N>,
+pub struct NamedPass<T, N: Naming> {
+    pub pass: Pass<T>,
+    pub of: PhantomData<N>,
     ghost since: { IsSince N.lock N.start pass },
 }
 
-/// Passes that are kept.
-#[derive(Drop)]
-pub struct KeptPasses<T, N: Naming> {
-    passes: Vec<Kept<T, N>>,
-}
-
-/// What is known of a pass goes with it.
-fn keep<T, N: Naming>(pass: Pass<T>) -> Kept<T, N>
-    requires { IsSince N.lock N.start pass }
-{
-    Kept {
-        pass,
-        of: PhantomData,
-    }
-}
-
-impl<T, N: Naming> KeptPasses<T, N> {
-    /// None yet. Takes no memory.
-    pub fn new(alloc: Global) -> KeptPasses<T, N> {
-        KeptPasses {
-            passes: Vec::new(alloc),
-        }
-    }
-
-    /// Keeps a pass. It is dropped where there is no memory.
-    pub fn put(&mut self, pass: Pass<T>) -> Result<(), AllocError>
+impl<T, N: Naming> NamedPass<T, N> {
+    pub fn new(pass: Pass<T>) -> NamedPass<T, N>
         requires { IsSince N.lock N.start pass }
     {
-        self.passes.push(keep(pass))
+        NamedPass {
+            pass,
+            of: PhantomData,
+        }
     }
+}
 
-    /// The pass that was kept last.
-    pub fn take(&mut self) -> Option<Pass<T>>
-        ensures { IfSome result (λ pass. IsSince N.lock N.start pass) }
+/// Why a desk halts its controller, with a pass that has seen it.
+#[derive(Drop)]
+pub struct Halted<T, N: Naming> {
+    pub halt: Halt,
+    pub pass: Pass<T>,
+    pub of: PhantomData<N>,
+    ghost since: { IsSince N.lock N.start pass },
+    ghost cause: { HaltCause halt N.start (known pass).seen },
+}
+
+impl<T, N: Naming> Halted<T, N> {
+    pub fn new(halt: Halt, pass: Pass<T>) -> Halted<T, N>
+        requires since { IsSince N.lock N.start pass }
+        requires cause { HaltCause halt N.start (known pass).seen }
     {
-        let Kept { pass, of: _ } = self.passes.pop()?;
-        Some(pass)
+        Halted {
+            halt,
+            pass,
+            of: PhantomData,
+        }
     }
 }

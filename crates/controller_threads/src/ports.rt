@@ -1,7 +1,7 @@
 //! The four ports of a controller.
 
-ghost use Rattle.std.specs.Prelude.{IsTrue, IsSome, IfSome};
-ghost use Rattle.controller_threads.specs.Ports.{HasNoLink, HaveNoLinks, AreEnded, AreAll};
+ghost use Rattle.std.specs.Prelude.{IsTrue, IsSome};
+ghost use Rattle.controller_threads.specs.Ports.{HasNoLink, HaveNoLinks, AreAll};
 
 use cluster_types::config::Channel;
 use thread_edges::links::Listener;
@@ -15,67 +15,78 @@ pub struct Ports<P> {
     pub engine: P,
 }
 
-/// No ports yet.
-pub fn no_ports<L: Listener>() -> Ports<Option<L>>
-    ensures { AreEnded L.links result }
-{
-    Ports {
-        hub: None,
-        task: None,
-        mux: None,
-        engine: None,
-    }
-}
-
-/// Puts a port to those that have ended.
-pub fn put_port<L: Listener + Drop>(ended: &mut Ports<Option<L>>, channel: Channel, port: L)
-    requires ended { AreEnded L.links ended.old }
-    requires port { HasNoLink L.links port }
-    ensures { AreEnded L.links ended.new }
-{
-    match channel {
-        Channel::Hub => ended.hub = Some(port),
-        Channel::Task => ended.task = Some(port),
-        Channel::Mux => ended.mux = Some(port),
-        Channel::Engine => ended.engine = Some(port),
-    }
-}
-
-/// Whether all four have ended.
-pub fn have_all_ended<L: Listener>(ended: &Ports<Option<L>>) -> bool
-    ensures { IsTrue result → AreAll ended.now }
-{
-    ended.hub.is_some() && ended.task.is_some() && ended.mux.is_some() && ended.engine.is_some()
+/// A port of which no link is left.
+#[derive(Drop)]
+pub struct EndedPort<L: Listener> {
+    pub port: L,
+    ghost no_link: { HasNoLink L.links port },
 }
 
 /// A port that has ended.
-fn ended_port<L: Listener>(port: Option<L>) -> L
-    requires ended { IfSome port (λ p. HasNoLink L.links p) }
-    requires some { IsSome port }
-    ensures { HasNoLink L.links result }
+pub fn ended_port<L: Listener>(port: L) -> EndedPort<L>
+    requires { HasNoLink L.links port }
 {
-    match port {
-        Some(port) => port,
-        None => unreachable!(),
+    EndedPort { port }
+}
+
+/// The ports that have ended.
+pub type EndedPorts<L> = Ports<Option<EndedPort<L>>>;
+
+impl<L: Listener + Drop> Ports<Option<EndedPort<L>>> {
+    /// None yet.
+    pub fn none() -> EndedPorts<L> {
+        Ports {
+            hub: None,
+            task: None,
+            mux: None,
+            engine: None,
+        }
+    }
+
+    /// Puts a port to those that have ended.
+    pub fn put(&mut self, channel: Channel, port: EndedPort<L>) {
+        match channel {
+            Channel::Hub => self.hub = Some(port),
+            Channel::Task => self.task = Some(port),
+            Channel::Mux => self.mux = Some(port),
+            Channel::Engine => self.engine = Some(port),
+        }
+    }
+
+    /// Whether all four have ended.
+    pub fn are_all(&self) -> bool
+        ensures { IsTrue result → AreAll self.now }
+    {
+        self.hub.is_some() && self.task.is_some() && self.mux.is_some() && self.engine.is_some()
+    }
+
+    /// The four ports, once all have ended.
+    pub fn into_ports(self) -> Ports<L>
+        requires { AreAll self }
+        ensures { HaveNoLinks L.links result }
+    {
+        let Ports {
+            hub,
+            task,
+            mux,
+            engine,
+        } = self;
+        Ports {
+            hub: port_of(hub),
+            task: port_of(task),
+            mux: port_of(mux),
+            engine: port_of(engine),
+        }
     }
 }
 
-/// The four ports, once all have ended.
-pub fn all_ports<L: Listener>(ended: Ports<Option<L>>) -> Ports<L>
-    requires ended { AreEnded L.links ended }
-    requires all { AreAll ended }
-    ensures { HaveNoLinks L.links result }
+/// A port that has ended.
+fn port_of<L: Listener>(ended: Option<EndedPort<L>>) -> L
+    requires { IsSome ended }
+    ensures { HasNoLink L.links result }
 {
-    let Ports {
-        hub,
-        task,
-        mux,
-        engine,
-    } = ended;
-    Ports {
-        hub: ended_port::<L>(hub),
-        task: ended_port::<L>(task),
-        mux: ended_port::<L>(mux),
-        engine: ended_port::<L>(engine),
+    match ended {
+        Some(EndedPort { port }) => port,
+        None => unreachable!(),
     }
 }

@@ -3,9 +3,8 @@
 ghost use Rattle.std.specs.Prelude.{◌≡◌, ◌≤◌};
 ghost use Rattle.std.specs.Arc.{arc_value};
 ghost use Rattle.history_lock.specs.Names.{known, room_of, lock_id, IsIdle};
-ghost use Rattle.session_threads.specs.Passes.{Rests};
 ghost use Rattle.controller_threads.specs.Ends.{EndCause};
-ghost use Rattle.controller_threads.specs.Passes.{IsRested};
+ghost use Rattle.controller_threads.specs.Passes.{IsSince};
 
 use crate::caller::Caller;
 use crate::end::ServeEnd;
@@ -89,7 +88,7 @@ fn serve_named<
     gate: Arc<G, Global>,
 ) -> ServeEnd<L, Locked<D, C, W>>
     requires named { lock_id (arc_value desk).lock ≡ N.lock }
-    requires rested { IsRested N.lock N.start pass }
+    requires since { IsSince N.lock N.start pass }
     requires room { 3 ≤ room_of pass }
     ensures { EndCause N.lock N.start L.links L.faults spawner.old.faults spawner.new.faults result }
 {
@@ -132,7 +131,6 @@ pub fn serve<
     gate: Arc<G, Global>,
 ) -> ServeEnd<L, Locked<D, C, W>>
     requires idle { IsIdle (lock_id (arc_value desk).lock) pass }
-    requires rests { Rests (known pass).seen }
     requires room { 3 ≤ room_of pass }
     ensures { EndCause (lock_id (arc_value desk).lock) (known pass).seen L.links L.faults spawner.old.faults spawner.new.faults result }
 {

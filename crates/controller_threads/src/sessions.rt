@@ -4,13 +4,12 @@ ghost use Rattle.std.specs.Prelude.{All};
 ghost use Rattle.history_lock.specs.Names.{known};
 ghost use Rattle.zmtp_peer.specs.Limits.{IsShortMessage};
 ghost use Rattle.controller_threads.specs.Ends.{SessionCause};
-ghost use Rattle.controller_threads.specs.Handed.{Holds};
-ghost use Rattle.controller_threads.specs.Passes.{IsSince, IsRested};
+ghost use Rattle.controller_threads.specs.Passes.{IsSince};
 
 use crate::end::Halt;
-use crate::handed::Handed;
+use crate::handed::{Handed, ShortGreeted};
 use crate::naming::Naming;
-use crate::queue::HandedBy;
+use crate::passes::{Halted, NamedPass};
 use crate::shared::Shared;
 use crate::starting::ChoosingJob;
 use controller_desk::locked::Locked;
@@ -19,6 +18,7 @@ use history_lock::lock::Pass;
 use load_schemes::chooser::Chooser;
 use session_threads::connection::Connection;
 use session_threads::end::SessionEnd;
+use session_threads::greeting::Greeted;
 use session_threads::reading::read_session;
 use session_threads::writing::write_session;
 use std::alloc::Global;
@@ -36,12 +36,9 @@ use zmtp_peer::phase::FramesList;
 pub struct Reading<L: Listener, D: Disk, C: Clock, W: Words, G, N: Naming, R> {
     pub shared: Arc<Shared<L, D, C, W, G, N, R>, Global>,
     pub reader: L::In,
-    pub peer: Peer,
-    pub early: FramesList,
+    pub greeted: ShortGreeted,
     pub connection: Connection,
-    pub pass: Pass<Locked<D, C, W>>,
-    ghost short: { All IsShortMessage early },
-    ghost since: { IsSince N.lock N.start pass },
+    pub pass: NamedPass<Locked<D, C, W>, N>,
 }
 
 /// Writes to a link.
@@ -50,8 +47,7 @@ pub struct Writing<L: Listener, D: Disk, C: Clock, W: Words, G, N: Naming, R> {
     pub shared: Arc<Shared<L, D, C, W, G, N, R>, Global>,
     pub writer: L::Out,
     pub conn: u32,
-    pub pass: Pass<Locked<D, C, W>>,
-    ghost since: { IsSince N.lock N.start pass },
+    pub pass: NamedPass<Locked<D, C, W>, N>,
 }
 
 impl<
@@ -75,7 +71,7 @@ impl<
     ) -> SessionEnd
         requires since { IsSince N.lock N.start pass.old }
         requires short { All IsShortMessage early }
-        ensures rested { IsRested N.lock N.start pass.new }
+        ensures since { IsSince N.lock N.start pass.new }
         ensures cause { SessionCause result N.start (known pass.new).seen }
     {
         read_session(
@@ -96,7 +92,7 @@ impl<
     /// Writes to a link until its connection isn't live.
     fn write_link(&self, writer: &mut L::Out, conn: u32, pass: &mut Pass<Locked<D, C, W>>)
         requires since { IsSince N.lock N.start pass.old }
-        ensures rested { IsRested N.lock N.start pass.new }
+        ensures since { IsSince N.lock N.start pass.new }
     {
         let _end = write_session(
             &self.rt,
@@ -112,15 +108,14 @@ impl<
 
     /// Hands over the pass of a session that ended.
     fn hand_session(&self, end: SessionEnd, pass: Pass<Locked<D, C, W>>)
-        requires rested { IsRested N.lock N.start pass }
+        requires since { IsSince N.lock N.start pass }
         requires cause { SessionCause end N.start (known pass).seen }
     {
         let handed = match end {
-            SessionEnd::HistoryFull { entries, bytes } => Handed::Halted {
-                halt: Halt::HistoryFull { entries, bytes },
-                pass,
-            },
-            _ => Handed::SessionEnded(pass),
+            SessionEnd::HistoryFull { entries, bytes } => {
+                Handed::Halted(Halted::new(Halt::HistoryFull { entries, bytes }, pass))
+            }
+            _ => Handed::SessionEnded(NamedPass::new(pass)),
         };
         self.hand(handed);
     }
@@ -139,11 +134,13 @@ impl<
         let Reading {
             shared,
             mut reader,
-            peer,
-            early,
+            greeted,
             connection,
-            mut pass,
+            pass,
         } = self;
+        let ShortGreeted { greeted } = greeted;
+        let Greeted { peer, early, .. } = greeted;
+        let NamedPass { mut pass, of: _ } = pass;
         let end = shared.read_link(chooser, &mut reader, peer, early, connection, &mut pass);
         drop(reader);
         shared.hand_session(end, pass);
@@ -164,11 +161,12 @@ impl<
             shared,
             mut writer,
             conn,
-            mut pass,
+            pass,
         } = self;
+        let NamedPass { mut pass, of: _ } = pass;
         shared.write_link(&mut writer, conn, &mut pass);
         drop(writer);
         shared.writers.remove(&shared.rt, conn);
-        shared.hand(Handed::SessionEnded(pass));
+        shared.hand(Handed::SessionEnded(NamedPass::new(pass)));
     }
 }

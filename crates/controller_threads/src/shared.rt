@@ -2,13 +2,15 @@
 
 ghost use Rattle.std.specs.Prelude.{◌≡◌, ◌<◌, ◌+◌, ◌↔◌, IfErr, IfSome, IsSome, length};
 ghost use Rattle.std.specs.Arc.{arc_value};
+ghost use Rattle.history_lock.specs.History.{Extends};
 ghost use Rattle.history_lock.specs.Names.{known, room_of, lock_id};
 ghost use Rattle.controller_threads.specs.Ends.{RefusalCause};
-ghost use Rattle.controller_threads.specs.Handed.{Holds};
-ghost use Rattle.controller_threads.specs.Passes.{HasSeen, IsSince, IsRested};
+ghost use Rattle.controller_threads.specs.Passes.{IsSince, IsRested};
 
+use crate::handed::Handed;
 use crate::naming::Naming;
-use crate::queue::{HandedBy, Queue};
+use crate::passes::NamedPass;
+use crate::queue::Queue;
 use crate::writers::Writers;
 use cluster_types::config::Channel;
 use controller_desk::desk::Desk;
@@ -51,9 +53,7 @@ impl<
     R: Wait + Drop,
 > Shared<L, D, C, W, G, N, R> {
     /// Hands over to the caller of `serve`.
-    pub fn hand(&self, handed: HandedBy<L, Locked<D, C, W>>)
-        requires { Holds N.lock N.start L.links L.faults handed }
-    {
+    pub fn hand(&self, handed: Handed<L, Locked<D, C, W>, N>) {
         self.queue.put(&self.rt, handed);
     }
 
@@ -69,25 +69,24 @@ impl<
     }
 
     /// A pass of its own for a job. `None` where no more may come from this one.
-    pub fn split(&self, pass: &mut Pass<Locked<D, C, W>>) -> Option<Pass<Locked<D, C, W>>>
-        requires rested { IsRested N.lock N.start pass.old }
-        ensures rested { IsRested N.lock N.start pass.new }
+    pub fn split(&self, pass: &mut Pass<Locked<D, C, W>>) -> Option<NamedPass<Locked<D, C, W>, N>>
+        requires since { IsSince N.lock N.start pass.old }
+        ensures since { IsSince N.lock N.start pass.new }
         ensures exact { IsSome result ↔ (0 < room_of pass.old) }
         ensures room { IfSome result (λ _. room_of pass.new + 1 ≡ room_of pass.old) }
-        ensures given { IfSome result (λ other. IsSince N.lock N.start other) }
     {
         match self.desk.split(pass, 0) {
-            Ok(other) => Some(other),
+            Ok(other) => Some(NamedPass::new(other)),
             Err(_) => None,
         }
     }
 
     /// Takes in a pass that was handed over.
     pub fn join(&self, pass: &mut Pass<Locked<D, C, W>>, other: Pass<Locked<D, C, W>>)
-        requires rested { IsRested N.lock N.start pass.old }
-        requires other { IsRested N.lock N.start other }
-        ensures rested { IsRested N.lock N.start pass.new }
-        ensures later { HasSeen (known other).seen pass.new }
+        requires since { IsSince N.lock N.start pass.old }
+        requires other { IsSince N.lock N.start other }
+        ensures since { IsSince N.lock N.start pass.new }
+        ensures later { Extends (known other).seen (known pass.new).seen }
     {
         self.desk.join(pass, other);
     }
@@ -100,12 +99,21 @@ impl<
         channel: Channel,
         identity: &[u8],
     ) -> Result<u32, ActError>
-        requires rested { IsRested N.lock N.start pass.old }
+        requires since { IsSince N.lock N.start pass.old }
         requires identity { length identity.now < 256 }
-        ensures rested { IsRested N.lock N.start pass.new }
+        ensures since { IsSince N.lock N.start pass.new }
         ensures cause { IfErr result (λ e. RefusalCause e N.start (known pass.new).seen) }
     {
         self.desk
             .open_conn(&self.rt, pass, chooser, channel, identity)
+    }
+
+    /// Flushes what is entered, before the controller ends. Where that fails what wasn't flushed is as if it never came.
+    pub fn flush_last(&self, pass: &mut Pass<Locked<D, C, W>>)
+        requires since { IsSince N.lock N.start pass.old }
+        ensures rested { IsRested N.lock N.start pass.new }
+        ensures later { Extends (known pass.old).seen (known pass.new).seen }
+    {
+        let _flushed = self.desk.flush(&self.rt, pass);
     }
 }

@@ -6,7 +6,7 @@ ghost use Rattle.controller_threads.specs.Ends.{StopsAtStart};
 
 use crate::stop::Stop;
 use cluster_types::config::Scheme;
-use load_schemes::chooser::{Choose, Chooser};
+use load_schemes::chooser::Chooser;
 use load_schemes::place::place_of;
 use std::alloc::Global;
 use std::thread::Threads;
@@ -55,13 +55,15 @@ pub fn start_choosing<P, H: Threads + Drop, J: ChoosingJob + Drop + Send + 'stat
     ensures ok { OnOk result (spawner.new.faults ≡ spawner.old.faults) }
     ensures err { IfErr result (λ stop. StopsAtStart spawner.old.faults spawner.new.faults stop) }
 {
-    let choose: Choose = Box::new(
+    let Ok(choose) = Box::new(
         alloc,
         |scheme: Scheme, loads: &[u32], word: u64| -> usize
             requires { 0 < length loads.now }
             ensures { result ≡ pick scheme loads.now word }
         { place_of(scheme, loads, word) },
-    )?;
+    ) else {
+        return Err(Stop::OutOfMemory);
+    };
     let chooser = Chooser::new(choose);
     start(spawner, Choosing { job, chooser })
 }

@@ -3,13 +3,12 @@
 ghost use Rattle.std.specs.Prelude.{IfSome};
 ghost use Rattle.history_lock.specs.Names.{known};
 ghost use Rattle.controller_threads.specs.Ends.{HaltCause};
-ghost use Rattle.controller_threads.specs.Handed.{Holds};
-ghost use Rattle.controller_threads.specs.Passes.{IsSince, IsRested};
+ghost use Rattle.controller_threads.specs.Passes.{IsSince};
 
 use crate::end::Halt;
 use crate::handed::Handed;
 use crate::naming::Naming;
-use crate::queue::HandedBy;
+use crate::passes::{Halted, NamedPass};
 use crate::shared::Shared;
 use crate::starting::ChoosingJob;
 use controller_desk::fault::ActError;
@@ -40,16 +39,14 @@ pub enum Rhythm {
 pub struct Recurring<L: Listener, D: Disk, C: Clock, W: Words, G, N: Naming, R> {
     pub shared: Arc<Shared<L, D, C, W, G, N, R>, Global>,
     pub rhythm: Rhythm,
-    pub pass: Pass<Locked<D, C, W>>,
-    ghost since: { IsSince N.lock N.start pass },
+    pub pass: NamedPass<Locked<D, C, W>, N>,
 }
 
 /// Flushes what is entered.
 #[derive(Drop)]
 pub struct Flushing<L: Listener, D: Disk, C: Clock, W: Words, G, N: Naming, R> {
     pub shared: Arc<Shared<L, D, C, W, G, N, R>, Global>,
-    pub pass: Pass<Locked<D, C, W>>,
-    ghost since: { IsSince N.lock N.start pass },
+    pub pass: NamedPass<Locked<D, C, W>, N>,
 }
 
 impl<
@@ -64,7 +61,7 @@ impl<
     /// Sends heartbeats once. It goes on after want of memory, and after a call of the disk that failed.
     fn beat(&self, pass: &mut Pass<Locked<D, C, W>>, chooser: &Chooser) -> Option<Halt>
         requires since { IsSince N.lock N.start pass.old }
-        ensures rested { IsRested N.lock N.start pass.new }
+        ensures since { IsSince N.lock N.start pass.new }
         ensures cause { IfSome result (λ halt. HaltCause halt N.start (known pass.new).seen) }
     {
         match self.desk.beat(&self.rt, pass, chooser) {
@@ -78,7 +75,7 @@ impl<
     /// Looks at the timeouts once. It goes on after want of memory, and after a call of the disk that failed.
     fn time(&self, pass: &mut Pass<Locked<D, C, W>>, chooser: &Chooser) -> Option<Halt>
         requires since { IsSince N.lock N.start pass.old }
-        ensures rested { IsRested N.lock N.start pass.new }
+        ensures since { IsSince N.lock N.start pass.new }
         ensures cause { IfSome result (λ halt. HaltCause halt N.start (known pass.new).seen) }
     {
         match self.desk.time(&self.rt, pass, chooser) {
@@ -97,7 +94,7 @@ impl<
         rhythm: Rhythm,
     ) -> Option<Halt>
         requires since { IsSince N.lock N.start pass.old }
-        ensures rested { IsRested N.lock N.start pass.new }
+        ensures since { IsSince N.lock N.start pass.new }
         ensures cause { IfSome result (λ halt. HaltCause halt N.start (known pass.new).seen) }
     {
         match rhythm {
@@ -118,16 +115,15 @@ impl<
         mut pass: Pass<Locked<D, C, W>>,
         chooser: &Chooser,
         rhythm: Rhythm,
-    ) -> HandedBy<L, Locked<D, C, W>>
+    ) -> Handed<L, Locked<D, C, W>, N>
         requires { IsSince N.lock N.start pass }
-        ensures { Holds N.lock N.start L.links L.faults result }
     {
         for _ in self.rt.forever() {
             if let Some(halt) = self.recur(&mut pass, chooser, rhythm) {
-                return Handed::Halted { halt, pass };
+                return Handed::Halted(Halted::new(halt, pass));
             }
             if self.is_ending() {
-                return Handed::WorkerEnded(pass);
+                return Handed::WorkerEnded(NamedPass::new(pass));
             }
         }
         unreachable!()
@@ -136,7 +132,7 @@ impl<
     /// Flushes once, and wakes the writers. What was entered before a shutdown is then flushed too.
     fn flush(&self, pass: &mut Pass<Locked<D, C, W>>) -> Option<Halt>
         requires since { IsSince N.lock N.start pass.old }
-        ensures rested { IsRested N.lock N.start pass.new }
+        ensures since { IsSince N.lock N.start pass.new }
         ensures cause { IfSome result (λ halt. HaltCause halt N.start (known pass.new).seen) }
     {
         let is_stopping = self.desk.stopping(&self.rt, pass);
@@ -151,18 +147,17 @@ impl<
     }
 
     /// Flushes until no links are left, and once more.
-    fn keep_flushing(&self, mut pass: Pass<Locked<D, C, W>>) -> HandedBy<L, Locked<D, C, W>>
+    fn keep_flushing(&self, mut pass: Pass<Locked<D, C, W>>) -> Handed<L, Locked<D, C, W>, N>
         requires { IsSince N.lock N.start pass }
-        ensures { Holds N.lock N.start L.links L.faults result }
     {
         for _ in self.rt.forever() {
             self.gate.pass(&self.rt, Point::Flush, 0);
             let is_last = self.is_ending();
             if let Some(halt) = self.flush(&mut pass) {
-                return Handed::Halted { halt, pass };
+                return Handed::Halted(Halted::new(halt, pass));
             }
             if is_last {
-                return Handed::WorkerEnded(pass);
+                return Handed::WorkerEnded(NamedPass::new(pass));
             }
         }
         unreachable!()
@@ -184,6 +179,7 @@ impl<
             rhythm,
             pass,
         } = self;
+        let NamedPass { pass, of: _ } = pass;
         let handed = shared.keep_rhythm(pass, chooser, rhythm);
         shared.hand(handed);
     }
@@ -200,6 +196,7 @@ impl<
 > Job for Flushing<L, D, C, W, G, N, R> {
     fn run(self) {
         let Flushing { shared, pass } = self;
+        let NamedPass { pass, of: _ } = pass;
         let handed = shared.keep_flushing(pass);
         shared.hand(handed);
     }

@@ -19,7 +19,8 @@ impl Writers {
     }
 
     pub fn add<R: Wait>(&self, rt: &R, conn: u32) -> Result<(), AllocError> {
-        self.conns.lock(rt).push(conn)
+        self.conns.lock(rt).push(conn)?;
+        Ok(())
     }
 
     pub fn remove<R: Wait>(&self, rt: &R, conn: u32) {
