@@ -2,6 +2,7 @@
 
 use crate::handed::{Handed, Link, failed_port};
 use crate::naming::Naming;
+use crate::port::Port;
 use crate::ports::ended_port;
 use crate::shared::Shared;
 use cluster_types::config::Channel;
@@ -11,29 +12,29 @@ use std::alloc::Global;
 use std::sync::{Arc, Wait};
 use thread_edges::clock::Clock;
 use thread_edges::gate::{Gate, Point};
-use thread_edges::links::{Accepted, Listener};
+use thread_edges::links::Accepted;
 use thread_edges::spawner::Job;
 use thread_edges::words::Words;
 
 /// Accepts the links of a port.
 #[derive(Drop)]
-pub struct Accepting<L: Listener, D: Disk, C: Clock, W: Words, G, N: Naming, R> {
-    pub shared: Arc<Shared<L, D, C, W, G, N, R>, Global>,
+pub struct Accepting<P: Port, D: Disk, C: Clock, W: Words, G, N: Naming, R> {
+    pub shared: Arc<Shared<P, D, C, W, G, N, R>, Global>,
     pub channel: Channel,
-    pub port: L,
+    pub port: P,
 }
 
 impl<
-    L: Listener + Drop,
+    P: Port + Drop,
     D: Disk + Drop,
     C: Clock + Drop,
     W: Words + Drop,
     G: Gate + Drop,
     N: Naming,
     R: Wait + Drop,
-> Shared<L, D, C, W, G, N, R> {
+> Shared<P, D, C, W, G, N, R> {
     /// Hands over the links of a port, until it ends or fails.
-    fn accept_links(&self, channel: Channel, mut port: L) -> Handed<L, Locked<D, C, W>, N> {
+    fn accept_links(&self, channel: Channel, mut port: P) -> Handed<P, Locked<D, C, W>, N> {
         for _ in self.rt.forever() {
             match port.accept(&self.rt) {
                 Accepted::Pair(reader, writer) => self.hand(Handed::Accepted(Link {
@@ -51,14 +52,14 @@ impl<
 }
 
 impl<
-    L: Listener + Drop,
+    P: Port + Drop,
     D: Disk + Drop,
     C: Clock + Drop,
     W: Words + Drop,
     G: Gate + Drop,
     N: Naming,
     R: Wait + Drop,
-> Job for Accepting<L, D, C, W, G, N, R> {
+> Job for Accepting<P, D, C, W, G, N, R> {
     fn run(self) {
         let Accepting {
             shared,

@@ -11,6 +11,7 @@ use crate::end::{Halt, ServeEnd};
 use crate::handed::{FailedPort, Handed};
 use crate::naming::Naming;
 use crate::passes::{Halted, NamedPass};
+use crate::port::Port;
 use crate::ports::{EndedPorts, Ports};
 use crate::shared::Shared;
 use crate::stop::Stop;
@@ -23,7 +24,6 @@ use std::sync::{Arc, Wait};
 use std::thread::Threads;
 use thread_edges::clock::Clock;
 use thread_edges::gate::{Gate, Point};
-use thread_edges::links::Listener;
 use thread_edges::spawner::Spawner;
 use thread_edges::words::Words;
 
@@ -32,12 +32,12 @@ const LAST_TURNS: u32 = 40;
 
 /// What the caller of `serve` has.
 #[derive(Drop)]
-pub struct Caller<L: Listener, D: Disk, C: Clock, W: Words, G, N: Naming, R> {
-    pub shared: Arc<Shared<L, D, C, W, G, N, R>, Global>,
+pub struct Caller<P: Port, D: Disk, C: Clock, W: Words, G, N: Naming, R> {
+    pub shared: Arc<Shared<P, D, C, W, G, N, R>, Global>,
     pub pass: Pass<Locked<D, C, W>>,
     /// The passes of sessions that have ended.
     pub kept: Vec<NamedPass<Locked<D, C, W>, N>>,
-    pub ended: EndedPorts<L>,
+    pub ended: EndedPorts<P>,
     /// How many greetings run.
     pub greetings: u64,
     /// How many sessions run.
@@ -48,19 +48,19 @@ pub struct Caller<L: Listener, D: Disk, C: Clock, W: Words, G, N: Naming, R> {
 }
 
 impl<
-    L: Listener + Drop + Send + 'static,
+    P: Port + Drop + Send + 'static,
     D: Disk + Drop + Send + Sync + 'static,
     C: Clock + Drop + Send + Sync + 'static,
     W: Words + Drop + Send + Sync + 'static,
     G: Gate + Drop + Send + Sync + 'static,
     N: Naming + Send + Sync + 'static,
     R: Wait + Drop + Copy + Send + Sync + 'static,
-> Caller<L, D, C, W, G, N, R> {
+> Caller<P, D, C, W, G, N, R> {
     /// A caller that has started nothing yet.
     pub fn new(
-        shared: Arc<Shared<L, D, C, W, G, N, R>, Global>,
+        shared: Arc<Shared<P, D, C, W, G, N, R>, Global>,
         pass: Pass<Locked<D, C, W>>,
-    ) -> Caller<L, D, C, W, G, N, R>
+    ) -> Caller<P, D, C, W, G, N, R>
         requires { IsSince N.lock N.start pass }
         ensures { room_of result.pass ≡ room_of pass }
     {
@@ -77,12 +77,14 @@ impl<
     }
 
     /// Keeps the pass of a session that ended, to be used again.
-    fn keep(&mut self, pass: NamedPass<Locked<D, C, W>, N>) -> Result<(), Stop<L>>
-        ensures { (before : ℕ) (now : ℕ) (seen : Content) → IfErr result (λ stop. StopCause L.faults N.start seen before now stop) }
+    fn keep(&mut self, pass: NamedPass<Locked<D, C, W>, N>) -> Result<(), Stop<P>>
+        ensures { (before : ℕ) (now : ℕ) (seen : Content) → IfErr result (λ stop. StopCause P.faults N.start seen before now stop) }
     {
         self.sessions = self.sessions.saturating_sub(1);
-        self.kept.push(pass)?;
-        Ok(())
+        match self.kept.push(pass) {
+            Ok(()) => Ok(()),
+            Err(_) => Err(Stop::OutOfMemory),
+        }
     }
 
     /// Takes in the pass of a worker that ended.
@@ -106,10 +108,10 @@ impl<
         &mut self,
         spawner: &mut Spawner<H>,
         chooser: &Chooser,
-        handed: Handed<L, Locked<D, C, W>, N>,
-    ) -> Result<(), Stop<L>>
+        handed: Handed<P, Locked<D, C, W>, N>,
+    ) -> Result<(), Stop<P>>
         ensures ok { OnOk result (spawner.new.faults ≡ spawner.old.faults) }
-        ensures cause { IfErr result (λ stop. StopCause L.faults N.start (known self.new.pass).seen spawner.old.faults spawner.new.faults stop) }
+        ensures cause { IfErr result (λ stop. StopCause P.faults N.start (known self.new.pass).seen spawner.old.faults spawner.new.faults stop) }
     {
         match handed {
             Handed::Accepted(link) => self.start_greeting(spawner, link),
@@ -150,9 +152,9 @@ impl<
         &mut self,
         spawner: &mut Spawner<H>,
         chooser: &Chooser,
-    ) -> Result<(), Stop<L>>
+    ) -> Result<(), Stop<P>>
         ensures ok { OnOk result (AreAll self.new.ended) }
-        ensures cause { IfErr result (λ stop. StopCause L.faults N.start (known self.new.pass).seen spawner.old.faults spawner.new.faults stop) }
+        ensures cause { IfErr result (λ stop. StopCause P.faults N.start (known self.new.pass).seen spawner.old.faults spawner.new.faults stop) }
     {
         let rt = self.shared.rt;
         for _ in rt.forever() {
@@ -175,11 +177,11 @@ impl<
         &mut self,
         spawner: &mut Spawner<H>,
         chooser: &Chooser,
-        ports: Ports<L>,
-    ) -> Result<(), Stop<L>>
+        ports: Ports<P>,
+    ) -> Result<(), Stop<P>>
         requires { 3 ≤ room_of self.old.pass }
         ensures ok { OnOk result (AreAll self.new.ended) }
-        ensures cause { IfErr result (λ stop. StopCause L.faults N.start (known self.new.pass).seen spawner.old.faults spawner.new.faults stop) }
+        ensures cause { IfErr result (λ stop. StopCause P.faults N.start (known self.new.pass).seen spawner.old.faults spawner.new.faults stop) }
     {
         self.start_workers(spawner)?;
         self.start_acceptors(spawner, ports)?;
@@ -187,9 +189,9 @@ impl<
     }
 
     /// The end where all links have ended.
-    pub fn ended(self) -> ServeEnd<L, Locked<D, C, W>>
+    pub fn ended(self) -> ServeEnd<P, Locked<D, C, W>>
         requires { AreAll self.ended }
-        ensures { (before : ℕ) (now : ℕ) → EndCause N.lock N.start L.links L.faults before now result }
+        ensures { (before : ℕ) (now : ℕ) → EndCause N.lock N.start P.links P.faults before now result }
     {
         let Caller {
             shared,
@@ -212,9 +214,9 @@ impl<
     }
 
     /// The end where the desk halts the controller.
-    fn halted(self, halt: Halt) -> ServeEnd<L, Locked<D, C, W>>
+    fn halted(self, halt: Halt) -> ServeEnd<P, Locked<D, C, W>>
         requires { HaltCause halt N.start (known self.pass).seen }
-        ensures { (before : ℕ) (now : ℕ) → EndCause N.lock N.start L.links L.faults before now result }
+        ensures { (before : ℕ) (now : ℕ) → EndCause N.lock N.start P.links P.faults before now result }
     {
         let Caller {
             shared,
@@ -234,8 +236,8 @@ impl<
     }
 
     /// The end where it stops before. The workers end, and nobody waits for them.
-    pub fn stopped(self, stop: Stop<L>) -> ServeEnd<L, Locked<D, C, W>>
-        ensures { (before : ℕ) (now : ℕ) → StopCause L.faults N.start (known self.pass).seen before now stop → EndCause N.lock N.start L.links L.faults before now result }
+    pub fn stopped(self, stop: Stop<P>) -> ServeEnd<P, Locked<D, C, W>>
+        ensures { (before : ℕ) (now : ℕ) → StopCause P.faults N.start (known self.pass).seen before now stop → EndCause N.lock N.start P.links P.faults before now result }
     {
         self.shared.end_workers();
         match stop {

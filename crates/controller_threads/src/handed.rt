@@ -6,10 +6,10 @@ ghost use Rattle.zmtp_peer.specs.Limits.{IsShortMessage, IsShortIdentity};
 
 use crate::naming::Naming;
 use crate::passes::{Halted, NamedPass};
+use crate::port::Port;
 use crate::ports::EndedPort;
 use cluster_types::config::Channel;
 use session_threads::greeting::Greeted;
-use thread_edges::links::Listener;
 
 /// A link to another machine, and the channel of the port where it was accepted.
 #[derive(Drop)]
@@ -38,34 +38,34 @@ impl ShortGreeted {
 
 /// A port on which an accept failed.
 #[derive(Drop)]
-pub struct FailedPort<L: Listener> {
+pub struct FailedPort<P: Port> {
     pub channel: Channel,
-    pub port: L,
-    ghost fault: { 1 ≤ L.faults port },
+    pub port: P,
+    ghost fault: { 1 ≤ P.faults port },
 }
 
 /// A port whose last accept failed.
-pub fn failed_port<L: Listener>(channel: Channel, port: L) -> FailedPort<L>
-    requires { 1 ≤ L.faults port }
+pub fn failed_port<P: Port>(channel: Channel, port: P) -> FailedPort<P>
+    requires { 1 ≤ P.faults port }
 {
     FailedPort { channel, port }
 }
 
 /// What a thread hands over, where the desk's lock holds `T`.
 #[derive(Drop)]
-pub enum Handed<L: Listener, T, N: Naming> {
+pub enum Handed<P: Port, T, N: Naming> {
     /// A link was accepted.
-    Accepted(Link<L::In, L::Out>),
+    Accepted(Link<P::In, P::Out>),
     /// The handshake of a link is done.
-    Greeted(Link<L::In, L::Out>, ShortGreeted),
+    Greeted(Link<P::In, P::Out>, ShortGreeted),
     /// A link ended before its handshake was done.
     NotGreeted,
     /// A session ended.
     SessionEnded(NamedPass<T, N>),
     /// A port has no further links.
-    PortEnded(Channel, EndedPort<L>),
+    PortEnded(Channel, EndedPort<P>),
     /// An accept failed.
-    PortFailed(FailedPort<L>),
+    PortFailed(FailedPort<P>),
     /// A worker ended, since no links are left.
     WorkerEnded(NamedPass<T, N>),
     /// A session or a worker met what ends the controller.

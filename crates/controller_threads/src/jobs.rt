@@ -10,6 +10,7 @@ use crate::greeting::Greeting;
 use crate::handed::{Link, ShortGreeted};
 use crate::naming::Naming;
 use crate::passes::NamedPass;
+use crate::port::Port;
 use crate::ports::Ports;
 use crate::sessions::{Reading, Writing};
 use crate::starting::{start, start_choosing};
@@ -23,7 +24,6 @@ use std::sync::{Arc, Wait};
 use std::thread::Threads;
 use thread_edges::clock::Clock;
 use thread_edges::gate::Gate;
-use thread_edges::links::Listener;
 use thread_edges::spawner::Spawner;
 use thread_edges::words::Words;
 
@@ -31,20 +31,20 @@ use thread_edges::words::Words;
 const WORKERS: u64 = 3;
 
 impl<
-    L: Listener + Drop + Send + 'static,
+    P: Port + Drop + Send + 'static,
     D: Disk + Drop + Send + Sync + 'static,
     C: Clock + Drop + Send + Sync + 'static,
     W: Words + Drop + Send + Sync + 'static,
     G: Gate + Drop + Send + Sync + 'static,
     N: Naming + Send + Sync + 'static,
     R: Wait + Drop + Copy + Send + Sync + 'static,
-> Caller<L, D, C, W, G, N, R> {
+> Caller<P, D, C, W, G, N, R> {
     fn start_acceptor<H: Threads + Drop>(
         &self,
         spawner: &mut Spawner<H>,
         channel: Channel,
-        port: L,
-    ) -> Result<(), Stop<L>>
+        port: P,
+    ) -> Result<(), Stop<P>>
         ensures ok { OnOk result (spawner.new.faults ≡ spawner.old.faults) }
         ensures err { IfErr result (λ stop. StopsAtStart spawner.old.faults spawner.new.faults stop) }
     {
@@ -61,8 +61,8 @@ impl<
     pub fn start_acceptors<H: Threads + Drop>(
         &self,
         spawner: &mut Spawner<H>,
-        ports: Ports<L>,
-    ) -> Result<(), Stop<L>>
+        ports: Ports<P>,
+    ) -> Result<(), Stop<P>>
         ensures ok { OnOk result (spawner.new.faults ≡ spawner.old.faults) }
         ensures err { IfErr result (λ stop. StopsAtStart spawner.old.faults spawner.new.faults stop) }
     {
@@ -83,7 +83,7 @@ impl<
         spawner: &mut Spawner<H>,
         rhythm: Rhythm,
         pass: NamedPass<Locked<D, C, W>, N>,
-    ) -> Result<(), Stop<L>>
+    ) -> Result<(), Stop<P>>
         ensures ok { OnOk result (spawner.new.faults ≡ spawner.old.faults) }
         ensures err { IfErr result (λ stop. StopsAtStart spawner.old.faults spawner.new.faults stop) }
     {
@@ -100,7 +100,7 @@ impl<
         &self,
         spawner: &mut Spawner<H>,
         pass: NamedPass<Locked<D, C, W>, N>,
-    ) -> Result<(), Stop<L>>
+    ) -> Result<(), Stop<P>>
         ensures ok { OnOk result (spawner.new.faults ≡ spawner.old.faults) }
         ensures err { IfErr result (λ stop. StopsAtStart spawner.old.faults spawner.new.faults stop) }
     {
@@ -123,7 +123,7 @@ impl<
     pub fn start_workers<H: Threads + Drop>(
         &mut self,
         spawner: &mut Spawner<H>,
-    ) -> Result<(), Stop<L>>
+    ) -> Result<(), Stop<P>>
         requires { 3 ≤ room_of self.old.pass }
         ensures ok { OnOk result (spawner.new.faults ≡ spawner.old.faults) }
         ensures err { IfErr result (λ stop. StopsAtStart spawner.old.faults spawner.new.faults stop) }
@@ -142,8 +142,8 @@ impl<
     pub fn start_greeting<H: Threads + Drop>(
         &mut self,
         spawner: &mut Spawner<H>,
-        link: Link<L::In, L::Out>,
-    ) -> Result<(), Stop<L>>
+        link: Link<P::In, P::Out>,
+    ) -> Result<(), Stop<P>>
         ensures ok { OnOk result (spawner.new.faults ≡ spawner.old.faults) }
         ensures err { IfErr result (λ stop. StopsAtStart spawner.old.faults spawner.new.faults stop) }
     {
@@ -157,11 +157,11 @@ impl<
     pub fn start_reading<H: Threads + Drop>(
         &mut self,
         spawner: &mut Spawner<H>,
-        reader: L::In,
+        reader: P::In,
         greeted: ShortGreeted,
         connection: Connection,
         pass: NamedPass<Locked<D, C, W>, N>,
-    ) -> Result<(), Stop<L>>
+    ) -> Result<(), Stop<P>>
         ensures ok { OnOk result (spawner.new.faults ≡ spawner.old.faults) }
         ensures err { IfErr result (λ stop. StopsAtStart spawner.old.faults spawner.new.faults stop) }
     {
@@ -182,10 +182,10 @@ impl<
     pub fn start_writing<H: Threads + Drop>(
         &mut self,
         spawner: &mut Spawner<H>,
-        writer: L::Out,
+        writer: P::Out,
         conn: u32,
         pass: NamedPass<Locked<D, C, W>, N>,
-    ) -> Result<(), Stop<L>>
+    ) -> Result<(), Stop<P>>
         ensures ok { OnOk result (spawner.new.faults ≡ spawner.old.faults) }
         ensures err { IfErr result (λ stop. StopsAtStart spawner.old.faults spawner.new.faults stop) }
     {

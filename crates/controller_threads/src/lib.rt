@@ -10,6 +10,7 @@ mod jobs;
 mod naming;
 mod opening;
 mod passes;
+mod port;
 pub mod ports;
 mod queue;
 pub mod serving;

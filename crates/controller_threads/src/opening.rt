@@ -10,6 +10,7 @@ use crate::end::Halt;
 use crate::handed::{Link, ShortGreeted};
 use crate::naming::Naming;
 use crate::passes::NamedPass;
+use crate::port::Port;
 use crate::stop::Stop;
 use cluster_types::config::Channel;
 use controller_desk::fault::ActError;
@@ -24,7 +25,6 @@ use std::sync::Wait;
 use std::thread::Threads;
 use thread_edges::clock::Clock;
 use thread_edges::gate::Gate;
-use thread_edges::links::Listener;
 use thread_edges::spawner::Spawner;
 use thread_edges::words::Words;
 use zmtp_peer::writing::error_octets;
@@ -44,14 +44,14 @@ fn tell_busy<K: Sink>(alloc: Global, writer: &mut K) {
 }
 
 impl<
-    L: Listener + Drop + Send + 'static,
+    P: Port + Drop + Send + 'static,
     D: Disk + Drop + Send + Sync + 'static,
     C: Clock + Drop + Send + Sync + 'static,
     W: Words + Drop + Send + Sync + 'static,
     G: Gate + Drop + Send + Sync + 'static,
     N: Naming + Send + Sync + 'static,
     R: Wait + Drop + Copy + Send + Sync + 'static,
-> Caller<L, D, C, W, G, N, R> {
+> Caller<P, D, C, W, G, N, R> {
     /// A pass for a session: the last one that is kept, or else one of the caller's own.
     fn session_pass(&mut self) -> Option<NamedPass<Locked<D, C, W>, N>> {
         match self.kept.pop() {
@@ -100,9 +100,9 @@ impl<
     }
 
     /// Refuses a link: where the history is full the controller is halted.
-    fn refuse(&self, end: AdmitEnd, mut writer: L::Out) -> Result<(), Stop<L>>
+    fn refuse(&self, end: AdmitEnd, mut writer: P::Out) -> Result<(), Stop<P>>
         requires { AdmitCause end N.start (known self.now.pass).seen }
-        ensures { (before : ℕ) (now : ℕ) → IfErr result (λ stop. StopCause L.faults N.start (known self.now.pass).seen before now stop) }
+        ensures { (before : ℕ) (now : ℕ) → IfErr result (λ stop. StopCause P.faults N.start (known self.now.pass).seen before now stop) }
     {
         match end {
             AdmitEnd::NoPass | AdmitEnd::Act(ActError::TooManyConnections) => {
@@ -121,11 +121,11 @@ impl<
         &mut self,
         spawner: &mut Spawner<H>,
         chooser: &Chooser,
-        link: Link<L::In, L::Out>,
+        link: Link<P::In, P::Out>,
         greeted: ShortGreeted,
-    ) -> Result<(), Stop<L>>
+    ) -> Result<(), Stop<P>>
         ensures ok { OnOk result (spawner.new.faults ≡ spawner.old.faults) }
-        ensures cause { IfErr result (λ stop. StopCause L.faults N.start (known self.new.pass).seen spawner.old.faults spawner.new.faults stop) }
+        ensures cause { IfErr result (λ stop. StopCause P.faults N.start (known self.new.pass).seen spawner.old.faults spawner.new.faults stop) }
     {
         let Link {
             channel,

@@ -3,8 +3,8 @@
 ghost use Rattle.std.specs.Prelude.{IsTrue, IsSome};
 ghost use Rattle.controller_threads.specs.Ports.{HasNoLink, HaveNoLinks, AreAll};
 
+use crate::port::Port;
 use cluster_types::config::Channel;
-use thread_edges::links::Listener;
 
 /// One for each channel.
 #[derive(Drop)]
@@ -17,24 +17,24 @@ pub struct Ports<P> {
 
 /// A port of which no link is left.
 #[derive(Drop)]
-pub struct EndedPort<L: Listener> {
-    pub port: L,
-    ghost no_link: { HasNoLink L.links port },
+pub struct EndedPort<P: Port> {
+    pub port: P,
+    ghost no_link: { HasNoLink P.links port },
 }
 
 /// A port that has ended.
-pub fn ended_port<L: Listener>(port: L) -> EndedPort<L>
-    requires { HasNoLink L.links port }
+pub fn ended_port<P: Port>(port: P) -> EndedPort<P>
+    requires { HasNoLink P.links port }
 {
     EndedPort { port }
 }
 
 /// The ports that have ended.
-pub type EndedPorts<L> = Ports<Option<EndedPort<L>>>;
+pub type EndedPorts<P> = Ports<Option<EndedPort<P>>>;
 
-impl<L: Listener + Drop> Ports<Option<EndedPort<L>>> {
+impl<P: Port + Drop> Ports<Option<EndedPort<P>>> {
     /// None yet.
-    pub fn none() -> EndedPorts<L> {
+    pub fn none() -> EndedPorts<P> {
         Ports {
             hub: None,
             task: None,
@@ -44,7 +44,7 @@ impl<L: Listener + Drop> Ports<Option<EndedPort<L>>> {
     }
 
     /// Puts a port to those that have ended.
-    pub fn put(&mut self, channel: Channel, port: EndedPort<L>) {
+    pub fn put(&mut self, channel: Channel, port: EndedPort<P>) {
         match channel {
             Channel::Hub => self.hub = Some(port),
             Channel::Task => self.task = Some(port),
@@ -61,9 +61,9 @@ impl<L: Listener + Drop> Ports<Option<EndedPort<L>>> {
     }
 
     /// The four ports, once all have ended.
-    pub fn into_ports(self) -> Ports<L>
+    pub fn into_ports(self) -> Ports<P>
         requires { AreAll self }
-        ensures { HaveNoLinks L.links result }
+        ensures { HaveNoLinks P.links result }
     {
         let Ports {
             hub,
@@ -81,9 +81,9 @@ impl<L: Listener + Drop> Ports<Option<EndedPort<L>>> {
 }
 
 /// A port that has ended.
-fn port_of<L: Listener>(ended: Option<EndedPort<L>>) -> L
+fn port_of<P: Port>(ended: Option<EndedPort<P>>) -> P
     requires { IsSome ended }
-    ensures { HasNoLink L.links result }
+    ensures { HasNoLink P.links result }
 {
     match ended {
         Some(EndedPort { port }) => port,

@@ -2,41 +2,37 @@
 
 use crate::handed::Handed;
 use crate::naming::Naming;
+use crate::port::Port;
 use std::alloc::Global;
 use std::collections::VecDeque;
 use std::sync::{Condvar, Mutex, Wait};
-use thread_edges::links::Listener;
 
 /// What was handed over and isn't taken yet.
 #[derive(Drop)]
-struct Waiting<L: Listener, T, N: Naming> {
-    items: VecDeque<Handed<L, T, N>>,
+struct Waiting<P: Port, T, N: Naming> {
+    items: VecDeque<Handed<P, T, N>>,
     /// There was no memory to keep one more.
     lost: bool,
 }
 
-impl<L: Listener + Drop, T, N: Naming> Waiting<L, T, N> {
-    fn add(&mut self, item: Handed<L, T, N>) {
+impl<P: Port + Drop, T, N: Naming> Waiting<P, T, N> {
+    fn add(&mut self, item: Handed<P, T, N>) {
         if self.items.push_back(item).is_err() {
             self.lost = true;
         }
-    }
-
-    fn has_nothing(&self) -> bool {
-        self.items.is_empty() && !self.lost
     }
 }
 
 /// What threads hand over, in its order.
 #[derive(Drop)]
-pub struct Queue<L: Listener, T, N: Naming> {
-    waiting: Mutex<Waiting<L, T, N>>,
+pub struct Queue<P: Port, T, N: Naming> {
+    waiting: Mutex<Waiting<P, T, N>>,
     added: Condvar,
 }
 
-impl<L: Listener + Drop, T, N: Naming> Queue<L, T, N> {
+impl<P: Port + Drop, T, N: Naming> Queue<P, T, N> {
     /// Nothing was handed over yet. Takes no memory.
-    pub fn new(alloc: Global) -> Queue<L, T, N> {
+    pub fn new(alloc: Global) -> Queue<P, T, N> {
         Queue {
             waiting: Mutex::new(Waiting {
                 items: VecDeque::new(alloc),
@@ -47,17 +43,17 @@ impl<L: Listener + Drop, T, N: Naming> Queue<L, T, N> {
     }
 
     /// Hands over. Where there is no memory it is lost, and `take` says so.
-    pub fn put<R: Wait>(&self, rt: &R, handed: Handed<L, T, N>) {
+    pub fn put<R: Wait>(&self, rt: &R, handed: Handed<P, T, N>) {
         self.waiting.lock(rt).add(handed);
         self.added.notify_one();
     }
 
     /// Waits for what is handed over. `None` where one was lost.
-    pub fn take<R: Wait>(&self, rt: &R) -> Option<Handed<L, T, N>> {
+    pub fn take<R: Wait>(&self, rt: &R) -> Option<Handed<P, T, N>> {
         let waiting = self.waiting.lock(rt);
-        let mut waiting = self
-            .added
-            .wait_while(rt, waiting, |waiting| waiting.has_nothing());
+        let mut waiting = self.added.wait_while(rt, waiting, |waiting| {
+            waiting.items.is_empty() && !waiting.lost
+        });
         waiting.items.pop_front()
     }
 }

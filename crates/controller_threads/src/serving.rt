@@ -9,6 +9,7 @@ ghost use Rattle.controller_threads.specs.Passes.{IsSince};
 use crate::caller::Caller;
 use crate::end::ServeEnd;
 use crate::naming::Naming;
+use crate::port::Port;
 use crate::ports::Ports;
 use crate::queue::Queue;
 use crate::shared::Shared;
@@ -32,7 +33,7 @@ use thread_edges::words::Words;
 
 /// What the threads are to share.
 fn new_shared<
-    L: Listener + Drop,
+    P: Port + Drop,
     D: Disk + Drop,
     C: Clock + Drop,
     W: Words + Drop,
@@ -45,30 +46,26 @@ fn new_shared<
     desk: Arc<Desk<D, C, W>, Global>,
     key: Key,
     gate: Arc<G, Global>,
-) -> Result<Arc<Shared<L, D, C, W, G, N, R>, Global>, AllocError>
+) -> Result<Arc<Shared<P, D, C, W, G, N, R>, Global>, AllocError>
     requires { lock_id (arc_value desk).lock ≡ N.lock }
 {
-    let queue = Queue::new(alloc);
-    let writers = Writers::new(alloc);
-    let ending = AtomicU64::new(0);
-    Arc::new(
+    let shared = Shared {
+        rt,
         alloc,
-        Shared {
-            rt,
-            alloc,
-            desk,
-            gate,
-            key,
-            queue,
-            writers,
-            ending,
-        },
-    )
+        desk,
+        gate,
+        key,
+        queue: Queue::new(alloc),
+        writers: Writers::new(alloc),
+        ending: AtomicU64::new(0),
+    };
+    let shared = Arc::new(alloc, shared)?;
+    Ok(shared)
 }
 
 /// Serves, with a name for the lock of the desk and for what the pass has seen.
 fn serve_named<
-    L: Listener + Drop + Send + 'static,
+    P: Port + Drop + Send + 'static,
     D: Disk + Drop + Send + Sync + 'static,
     C: Clock + Drop + Send + Sync + 'static,
     W: Words + Drop + Send + Sync + 'static,
@@ -79,20 +76,23 @@ fn serve_named<
 >(
     rt: R,
     alloc: Global,
-    ports: Ports<L>,
+    ports: Ports<P>,
     desk: Arc<Desk<D, C, W>, Global>,
     pass: Pass<Locked<D, C, W>>,
     chooser: &Chooser,
     key: Key,
     spawner: &mut Spawner<H>,
     gate: Arc<G, Global>,
-) -> ServeEnd<L, Locked<D, C, W>>
+) -> ServeEnd<P, Locked<D, C, W>>
+where
+    P::In: Send + 'static,
+    P::Out: Send + 'static,
     requires named { lock_id (arc_value desk).lock ≡ N.lock }
     requires since { IsSince N.lock N.start pass }
     requires room { 3 ≤ room_of pass }
-    ensures { EndCause N.lock N.start L.links L.faults spawner.old.faults spawner.new.faults result }
+    ensures { EndCause N.lock N.start P.links P.faults spawner.old.faults spawner.new.faults result }
 {
-    let Ok(shared) = new_shared::<L, D, C, W, G, N, R>(rt, alloc, desk, key, gate) else {
+    let Ok(shared) = new_shared::<P, D, C, W, G, N, R>(rt, alloc, desk, key, gate) else {
         return ServeEnd::OutOfMemory;
     };
     let mut caller = Caller::new(shared, pass);

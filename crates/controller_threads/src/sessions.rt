@@ -10,6 +10,7 @@ use crate::end::Halt;
 use crate::handed::{Handed, ShortGreeted};
 use crate::naming::Naming;
 use crate::passes::{Halted, NamedPass};
+use crate::port::Port;
 use crate::shared::Shared;
 use crate::starting::ChoosingJob;
 use controller_desk::locked::Locked;
@@ -25,7 +26,6 @@ use std::alloc::Global;
 use std::sync::{Arc, Wait};
 use thread_edges::clock::Clock;
 use thread_edges::gate::Gate;
-use thread_edges::links::Listener;
 use thread_edges::spawner::Job;
 use thread_edges::words::Words;
 use zmtp_peer::peer::Peer;
@@ -33,9 +33,9 @@ use zmtp_peer::phase::FramesList;
 
 /// Reads a link whose handshake is done.
 #[derive(Drop)]
-pub struct Reading<L: Listener, D: Disk, C: Clock, W: Words, G, N: Naming, R> {
-    pub shared: Arc<Shared<L, D, C, W, G, N, R>, Global>,
-    pub reader: L::In,
+pub struct Reading<P: Port, D: Disk, C: Clock, W: Words, G, N: Naming, R> {
+    pub shared: Arc<Shared<P, D, C, W, G, N, R>, Global>,
+    pub reader: P::In,
     pub greeted: ShortGreeted,
     pub connection: Connection,
     pub pass: NamedPass<Locked<D, C, W>, N>,
@@ -43,27 +43,27 @@ pub struct Reading<L: Listener, D: Disk, C: Clock, W: Words, G, N: Naming, R> {
 
 /// Writes to a link.
 #[derive(Drop)]
-pub struct Writing<L: Listener, D: Disk, C: Clock, W: Words, G, N: Naming, R> {
-    pub shared: Arc<Shared<L, D, C, W, G, N, R>, Global>,
-    pub writer: L::Out,
+pub struct Writing<P: Port, D: Disk, C: Clock, W: Words, G, N: Naming, R> {
+    pub shared: Arc<Shared<P, D, C, W, G, N, R>, Global>,
+    pub writer: P::Out,
     pub conn: u32,
     pub pass: NamedPass<Locked<D, C, W>, N>,
 }
 
 impl<
-    L: Listener + Drop,
+    P: Port + Drop,
     D: Disk + Drop,
     C: Clock + Drop,
     W: Words + Drop,
     G: Gate + Drop,
     N: Naming,
     R: Wait + Drop,
-> Shared<L, D, C, W, G, N, R> {
+> Shared<P, D, C, W, G, N, R> {
     /// Reads a link to its end.
     fn read_link(
         &self,
         chooser: &Chooser,
-        reader: &mut L::In,
+        reader: &mut P::In,
         peer: Peer,
         early: FramesList,
         connection: Connection,
@@ -90,7 +90,7 @@ impl<
     }
 
     /// Writes to a link until its connection isn't live.
-    fn write_link(&self, writer: &mut L::Out, conn: u32, pass: &mut Pass<Locked<D, C, W>>)
+    fn write_link(&self, writer: &mut P::Out, conn: u32, pass: &mut Pass<Locked<D, C, W>>)
         requires since { IsSince N.lock N.start pass.old }
         ensures since { IsSince N.lock N.start pass.new }
     {
@@ -122,14 +122,14 @@ impl<
 }
 
 impl<
-    L: Listener + Drop,
+    P: Port + Drop,
     D: Disk + Drop,
     C: Clock + Drop,
     W: Words + Drop,
     G: Gate + Drop,
     N: Naming,
     R: Wait + Drop,
-> ChoosingJob for Reading<L, D, C, W, G, N, R> {
+> ChoosingJob for Reading<P, D, C, W, G, N, R> {
     fn run(self, chooser: &Chooser) {
         let Reading {
             shared,
@@ -148,14 +148,14 @@ impl<
 }
 
 impl<
-    L: Listener + Drop,
+    P: Port + Drop,
     D: Disk + Drop,
     C: Clock + Drop,
     W: Words + Drop,
     G: Gate + Drop,
     N: Naming,
     R: Wait + Drop,
-> Job for Writing<L, D, C, W, G, N, R> {
+> Job for Writing<P, D, C, W, G, N, R> {
     fn run(self) {
         let Writing {
             shared,

@@ -10,6 +10,7 @@ ghost use Rattle.controller_threads.specs.Passes.{IsSince, IsRested};
 use crate::handed::Handed;
 use crate::naming::Naming;
 use crate::passes::NamedPass;
+use crate::port::Port;
 use crate::queue::Queue;
 use crate::writers::Writers;
 use cluster_types::config::Channel;
@@ -25,18 +26,17 @@ use std::sync::atomic::{AtomicU64, Ordering};
 use std::sync::{Arc, Wait};
 use thread_edges::clock::Clock;
 use thread_edges::gate::{Gate, Point};
-use thread_edges::links::Listener;
 use thread_edges::words::Words;
 
 /// What the threads of a controller share: the desk, the key, and the ways by which they wait for one another.
 #[derive(Drop)]
-pub struct Shared<L: Listener, D: Disk, C: Clock, W: Words, G, N: Naming, R> {
+pub struct Shared<P: Port, D: Disk, C: Clock, W: Words, G, N: Naming, R> {
     pub rt: R,
     pub alloc: Global,
     pub desk: Arc<Desk<D, C, W>, Global>,
     pub gate: Arc<G, Global>,
     pub key: Key,
-    pub queue: Queue<L, Locked<D, C, W>, N>,
+    pub queue: Queue<P, Locked<D, C, W>, N>,
     pub writers: Writers,
     /// Not 0 once no links are left.
     pub ending: AtomicU64,
@@ -44,16 +44,16 @@ pub struct Shared<L: Listener, D: Disk, C: Clock, W: Words, G, N: Naming, R> {
 }
 
 impl<
-    L: Listener + Drop,
+    P: Port + Drop,
     D: Disk + Drop,
     C: Clock + Drop,
     W: Words + Drop,
     G: Gate + Drop,
     N: Naming,
     R: Wait + Drop,
-> Shared<L, D, C, W, G, N, R> {
+> Shared<P, D, C, W, G, N, R> {
     /// Hands over to the caller of `serve`.
-    pub fn hand(&self, handed: Handed<L, Locked<D, C, W>, N>) {
+    pub fn hand(&self, handed: Handed<P, Locked<D, C, W>, N>) {
         self.queue.put(&self.rt, handed);
     }
 

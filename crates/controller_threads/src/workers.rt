@@ -9,6 +9,7 @@ use crate::end::Halt;
 use crate::handed::Handed;
 use crate::naming::Naming;
 use crate::passes::{Halted, NamedPass};
+use crate::port::Port;
 use crate::shared::Shared;
 use crate::starting::ChoosingJob;
 use controller_desk::fault::ActError;
@@ -21,7 +22,6 @@ use std::sync::{Arc, Wait};
 use task_journal::fault::AppendFault;
 use thread_edges::clock::Clock;
 use thread_edges::gate::{Gate, Point};
-use thread_edges::links::Listener;
 use thread_edges::spawner::Job;
 use thread_edges::words::Words;
 
@@ -36,28 +36,28 @@ pub enum Rhythm {
 
 /// Does the same again and again.
 #[derive(Drop)]
-pub struct Recurring<L: Listener, D: Disk, C: Clock, W: Words, G, N: Naming, R> {
-    pub shared: Arc<Shared<L, D, C, W, G, N, R>, Global>,
+pub struct Recurring<P: Port, D: Disk, C: Clock, W: Words, G, N: Naming, R> {
+    pub shared: Arc<Shared<P, D, C, W, G, N, R>, Global>,
     pub rhythm: Rhythm,
     pub pass: NamedPass<Locked<D, C, W>, N>,
 }
 
 /// Flushes what is entered.
 #[derive(Drop)]
-pub struct Flushing<L: Listener, D: Disk, C: Clock, W: Words, G, N: Naming, R> {
-    pub shared: Arc<Shared<L, D, C, W, G, N, R>, Global>,
+pub struct Flushing<P: Port, D: Disk, C: Clock, W: Words, G, N: Naming, R> {
+    pub shared: Arc<Shared<P, D, C, W, G, N, R>, Global>,
     pub pass: NamedPass<Locked<D, C, W>, N>,
 }
 
 impl<
-    L: Listener + Drop,
+    P: Port + Drop,
     D: Disk + Drop,
     C: Clock + Drop,
     W: Words + Drop,
     G: Gate + Drop,
     N: Naming,
     R: Wait + Drop,
-> Shared<L, D, C, W, G, N, R> {
+> Shared<P, D, C, W, G, N, R> {
     /// Sends heartbeats once. It goes on after want of memory, and after a call of the disk that failed.
     fn beat(&self, pass: &mut Pass<Locked<D, C, W>>, chooser: &Chooser) -> Option<Halt>
         requires since { IsSince N.lock N.start pass.old }
@@ -115,7 +115,7 @@ impl<
         mut pass: Pass<Locked<D, C, W>>,
         chooser: &Chooser,
         rhythm: Rhythm,
-    ) -> Handed<L, Locked<D, C, W>, N>
+    ) -> Handed<P, Locked<D, C, W>, N>
         requires { IsSince N.lock N.start pass }
     {
         for _ in self.rt.forever() {
@@ -147,7 +147,7 @@ impl<
     }
 
     /// Flushes until no links are left, and once more.
-    fn keep_flushing(&self, mut pass: Pass<Locked<D, C, W>>) -> Handed<L, Locked<D, C, W>, N>
+    fn keep_flushing(&self, mut pass: Pass<Locked<D, C, W>>) -> Handed<P, Locked<D, C, W>, N>
         requires { IsSince N.lock N.start pass }
     {
         for _ in self.rt.forever() {
@@ -165,14 +165,14 @@ impl<
 }
 
 impl<
-    L: Listener + Drop,
+    P: Port + Drop,
     D: Disk + Drop,
     C: Clock + Drop,
     W: Words + Drop,
     G: Gate + Drop,
     N: Naming,
     R: Wait + Drop,
-> ChoosingJob for Recurring<L, D, C, W, G, N, R> {
+> ChoosingJob for Recurring<P, D, C, W, G, N, R> {
     fn run(self, chooser: &Chooser) {
         let Recurring {
             shared,
@@ -186,14 +186,14 @@ impl<
 }
 
 impl<
-    L: Listener + Drop,
+    P: Port + Drop,
     D: Disk + Drop,
     C: Clock + Drop,
     W: Words + Drop,
     G: Gate + Drop,
     N: Naming,
     R: Wait + Drop,
-> Job for Flushing<L, D, C, W, G, N, R> {
+> Job for Flushing<P, D, C, W, G, N, R> {
     fn run(self) {
         let Flushing { shared, pass } = self;
         let NamedPass { pass, of: _ } = pass;

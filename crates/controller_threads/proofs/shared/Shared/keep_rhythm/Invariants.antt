@@ -1,5 +1,5 @@
 use Rattle.controller_threads.specs.Passes.{IsSince}
-use Rattle.controller_threads.proofs.workers.Shared.keep_rhythm.Given as goal
+use Rattle.controller_threads.proofs.shared.Shared.keep_rhythm.Given as goal
 
 -- the pass is one of the lock
 abbrev pub invariant-loop : goal.invariant-loop
