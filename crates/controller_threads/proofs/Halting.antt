@@ -1,6 +1,7 @@
 -- Why a desk halts its controller.
-use Rattle.std.proofs.Common.{◌≡◌, ℕ, suc, ◌≤◌, List, [], ◌∷◌, ◌++◌, Bool, true, false, ◌||◌, ◌&&◌, Err, refl, sym, ap, ◌∙◌, subst, arith, le_refl}
+use Rattle.std.proofs.Common.{◌≡◌, ℕ, suc, ◌≤◌, List, [], ◌∷◌, ◌++◌, Bool, true, false, ◌||◌, ◌&&◌, Result, Ok, Err, refl, sym, ap, ◌∙◌, subst, arith, le_refl}
 use Rattle.std.proofs.lemmas.Bool.Decides.{nat_tests}
+use Rattle.std.specs.Prelude.{IfErr}
 use Rattle.std.specs.List.{list_any}
 use Rattle.cluster_types.specs.Causes.{Rose}
 use Rattle.cluster_types.specs.declared.config.Channel.{Channel}
@@ -12,7 +13,7 @@ use Rattle.cluster_defs.specs.Histories.{History, is_stopping}
 use Rattle.cluster_store.specs.Stores.{StoreView}
 use Rattle.controller_desk.specs.declared.fault.ActError.{ActError}
 use Rattle.controller_desk.specs.declared.fault.ActError.TheVariants as refusals
-use Rattle.controller_desk.specs.Calls.{IsRefusedAs, HasOpened, HasFlushed}
+use Rattle.controller_desk.specs.Calls.{IsRefusedAs, HasTried, HasOpened, HasFlushed}
 use Rattle.controller_desk.specs.Contents.{content_of}
 use Rattle.controller_desk.specs.Turns.{InTurn}
 use Rattle.controller_desk.specs.Ups.{ups, up_of}
@@ -20,6 +21,7 @@ use Rattle.history_lock.specs.declared.known.Content.{Content}
 use Rattle.history_lock.specs.declared.known.View.{View}
 use Rattle.history_lock.specs.History.{is_open_entry, Extends}
 use Rattle.history_lock.specs.Rule.{without_turn}
+use Rattle.task_journal.specs.declared.fault.AppendFault.{AppendFault}
 use Rattle.task_journal.specs.declared.fault.AppendFault.TheVariants as appends
 use Rattle.session_threads.specs.declared.end.SessionEnd.{SessionEnd}
 use Rattle.session_threads.specs.declared.end.SessionEnd.TheVariants as ends
@@ -120,9 +122,20 @@ opening_cause faults start u w before after moment word channel identity refusal
 opening_cause faults start u w before after moment word channel identity refusals.Reopen on turn opened = tt
 opening_cause faults start u w before after moment word channel identity refusals.OutOfMemory on turn opened = tt
 
-pub flush_cause : {A D : Type 0} (faults : D → ℕ) (start : Content) (u w : View) (before after : StoreView D) → Extends start u.seen → InTurn faults u before after w → HasFlushed {A} faults before (Err appends.DiskFault) after → HaltCause halts.DiskFault start w.seen
-flush_cause faults start u w before after on turn flushed =
+pub tried_cause : {A D : Type 0} (faults : D → ℕ) (start : Content) (u w : View) (before after : StoreView D) (input : InputType) (tried : Result A ActError) → Extends start u.seen → InTurn faults u before after w → HasTried before input tried after
+    → IfErr tried (λ e. RefusalCause e start w.seen)
+tried_cause faults start u w before after input (Ok x) on turn t = tt
+tried_cause faults start u w before after input (Err e) on turn t = refusal_cause faults start u w before after input e on turn t
+
+pub opened_cause : {D : Type 0} (faults : D → ℕ) (start : Content) (u w : View) (before after : StoreView D) (moment word : ℕ) (channel : Channel) (identity : List ℕ) (opened : Result ℕ ActError) → Extends start u.seen → InTurn faults u before after w
+    → HasOpened before moment word channel identity opened after → IfErr opened (λ e. RefusalCause e start w.seen)
+opened_cause faults start u w before after moment word channel identity (Ok x) on turn t = tt
+opened_cause faults start u w before after moment word channel identity (Err e) on turn t = opening_cause faults start u w before after moment word channel identity e on turn t
+
+pub flush_cause : {A D : Type 0} (faults : D → ℕ) (start : Content) (u w : View) (before after : StoreView D) (flushed : Result A AppendFault) → Extends start u.seen → InTurn faults u before after w → HasFlushed faults before flushed after
+    → flushed ≡ Err appends.DiskFault → HaltCause halts.DiskFault start w.seen
+flush_cause faults start u w before after flushed on turn f is =
     let seen : faults_seen w.seen ≡ faults after.disk = ap faults_seen turn.seen in
     let less = on.counts 0 in
     let more : faults_seen u.seen ≤ faults before.disk = turn.adds.later.counts 0 in
-    risen_since (faults_seen start) (faults before.disk) (faults after.disk) (faults_seen w.seen) (omega (arith, less, more)) (flushed.cause refl) (omega (arith, seen))
+    risen_since (faults_seen start) (faults before.disk) (faults after.disk) (faults_seen w.seen) (omega (arith, less, more)) (f.cause is) (omega (arith, seen))

@@ -55,7 +55,11 @@ impl<
     G: Gate + Drop + Send + Sync + 'static,
     N: Naming + Send + Sync + 'static,
     R: Wait + Drop + Copy + Send + Sync + 'static,
-> Caller<P, D, C, W, G, N, R> {
+> Caller<P, D, C, W, G, N, R>
+where
+    P::In: Send + 'static,
+    P::Out: Send + 'static,
+{
     /// A caller that has started nothing yet.
     pub fn new(
         shared: Arc<Shared<P, D, C, W, G, N, R>, Global>,

@@ -38,7 +38,11 @@ impl<
     G: Gate + Drop + Send + Sync + 'static,
     N: Naming + Send + Sync + 'static,
     R: Wait + Drop + Copy + Send + Sync + 'static,
-> Caller<P, D, C, W, G, N, R> {
+> Caller<P, D, C, W, G, N, R>
+where
+    P::In: Send + 'static,
+    P::Out: Send + 'static,
+{
     fn start_acceptor<H: Threads + Drop>(
         &self,
         spawner: &mut Spawner<H>,

@@ -51,7 +51,11 @@ impl<
     G: Gate + Drop + Send + Sync + 'static,
     N: Naming + Send + Sync + 'static,
     R: Wait + Drop + Copy + Send + Sync + 'static,
-> Caller<P, D, C, W, G, N, R> {
+> Caller<P, D, C, W, G, N, R>
+where
+    P::In: Send + 'static,
+    P::Out: Send + 'static,
+{
     /// A pass for a session: the last one that is kept, or else one of the caller's own.
     fn session_pass(&mut self) -> Option<NamedPass<Locked<D, C, W>, N>> {
         match self.kept.pop() {

@@ -94,7 +94,7 @@ impl<
         requires since { IsSince N.lock N.start pass.old }
         ensures since { IsSince N.lock N.start pass.new }
     {
-        let _end = write_session(
+        let _ = write_session(
             &self.rt,
             self.alloc,
             writer,

@@ -114,6 +114,6 @@ impl<
         ensures rested { IsRested N.lock N.start pass.new }
         ensures later { Extends (known pass.old).seen (known pass.new).seen }
     {
-        let _flushed = self.desk.flush(&self.rt, pass);
+        let _ = self.desk.flush(&self.rt, pass);
     }
 }

@@ -1,8 +1,9 @@
 //! The workers: beats, time and flushes.
 
-ghost use Rattle.std.specs.Prelude.{IfSome};
+ghost use Rattle.std.specs.Prelude.{◌≡◌, true, Err, IfErr, IfSome};
+ghost use Rattle.history_lock.specs.declared.known.Content.{Content};
 ghost use Rattle.history_lock.specs.Names.{known};
-ghost use Rattle.controller_threads.specs.Ends.{HaltCause};
+ghost use Rattle.controller_threads.specs.Ends.{HaltCause, RefusalCause};
 ghost use Rattle.controller_threads.specs.Passes.{IsSince};
 
 use crate::end::Halt;
@@ -49,6 +50,28 @@ pub struct Flushing<P: Port, D: Disk, C: Clock, W: Words, G, N: Naming, R> {
     pub pass: NamedPass<Locked<D, C, W>, N>,
 }
 
+/// Whether a step that was tried ends the controller.
+fn halt_of(tried: Result<(), ActError>) -> Option<Halt>
+    ensures { (start : Content) (seen : Content) → IfErr tried (λ e. RefusalCause e start seen) → IfSome result (λ halt. HaltCause halt start seen) }
+{
+    match tried {
+        Err(ActError::HistoryFull { entries, bytes }) => Some(Halt::HistoryFull { entries, bytes }),
+        _ => None,
+    }
+}
+
+/// Whether a flush ends the controller: where it failed, and where a shutdown was asked before it.
+fn halt_after(flushed: Result<(), AppendFault>, is_stopping: bool) -> Option<Halt>
+    ensures { (start : Content) (seen : Content) → (flushed ≡ Err AppendFault.DiskFault → HaltCause Halt.DiskFault start seen) → (is_stopping ≡ true → HaltCause Halt.Stopping start seen) → IfSome result (λ halt. HaltCause halt start seen) }
+{
+    match flushed {
+        Err(AppendFault::DiskFault) => Some(Halt::DiskFault),
+        Err(AppendFault::Reopen) => None,
+        Ok(()) if is_stopping => Some(Halt::Stopping),
+        Ok(()) => None,
+    }
+}
+
 impl<
     P: Port + Drop,
     D: Disk + Drop,
@@ -64,12 +87,8 @@ impl<
         ensures since { IsSince N.lock N.start pass.new }
         ensures cause { IfSome result (λ halt. HaltCause halt N.start (known pass.new).seen) }
     {
-        match self.desk.beat(&self.rt, pass, chooser) {
-            Err(ActError::HistoryFull { entries, bytes }) => {
-                Some(Halt::HistoryFull { entries, bytes })
-            }
-            _ => None,
-        }
+        let tried = self.desk.beat(&self.rt, pass, chooser);
+        halt_of(tried)
     }
 
     /// Looks at the timeouts once. It goes on after want of memory, and after a call of the disk that failed.
@@ -78,12 +97,8 @@ impl<
         ensures since { IsSince N.lock N.start pass.new }
         ensures cause { IfSome result (λ halt. HaltCause halt N.start (known pass.new).seen) }
     {
-        match self.desk.time(&self.rt, pass, chooser) {
-            Err(ActError::HistoryFull { entries, bytes }) => {
-                Some(Halt::HistoryFull { entries, bytes })
-            }
-            _ => None,
-        }
+        let tried = self.desk.time(&self.rt, pass, chooser);
+        halt_of(tried)
     }
 
     /// Waits for its turn, and does once what recurs.
@@ -138,12 +153,7 @@ impl<
         let is_stopping = self.desk.stopping(&self.rt, pass);
         let flushed = self.desk.flush(&self.rt, pass);
         self.writers.wake_all(&self.rt, &*self.gate);
-        match flushed {
-            Err(AppendFault::DiskFault) => Some(Halt::DiskFault),
-            Err(AppendFault::Reopen) => None,
-            Ok(()) if is_stopping => Some(Halt::Stopping),
-            Ok(()) => None,
-        }
+        halt_after(flushed, is_stopping)
     }
 
     /// Flushes until no links are left, and once more.
