@@ -9,7 +9,8 @@ use Rattle.cluster_types.specs.declared.entry.Input.{Input as InputType}
 use Rattle.cluster_types.specs.declared.entry.Input.TheVariants.{Open, Up, Down, In, Beat, Time}
 use Rattle.cluster_types.specs.declared.entry.Entry.{Entry}
 use Rattle.cluster_types.specs.declared.entry.Entry.TheVariants.{Input, Hand, Settle, Lose}
-use Rattle.cluster_defs.specs.Histories.{History, is_stopping}
+use Rattle.cluster_defs.specs.Facts.{event_in}
+use Rattle.cluster_defs.specs.Histories.{History, facts, asks_shutdown, is_stopping}
 use Rattle.cluster_store.specs.Stores.{StoreView}
 use Rattle.controller_desk.specs.declared.fault.ActError.{ActError}
 use Rattle.controller_desk.specs.declared.fault.ActError.TheVariants as refusals
@@ -48,14 +49,14 @@ second_is false b is = is
 
 entry_keeps : (e : Entry) (older : History) → is_open_entry e ≡ false → is_stopping older ≡ true → is_stopping (e ∷ older) ≡ true
 entry_keeps (Input (Open moment scheme hwm misses)) older off is = cc
-entry_keeps (Input (Up conn channel moment word identity)) older off is = either_is _ (is_stopping older) is
-entry_keeps (Input (Down conn moment word)) older off is = either_is _ (is_stopping older) is
-entry_keeps (Input (In conn moment word m)) older off is = either_is _ (is_stopping older) is
-entry_keeps (Input (Beat moment word)) older off is = either_is _ (is_stopping older) is
-entry_keeps (Input (Time moment word)) older off is = either_is _ (is_stopping older) is
-entry_keeps (Hand id n) older off is = either_is _ (is_stopping older) is
-entry_keeps (Settle id v c) older off is = either_is _ (is_stopping older) is
-entry_keeps (Lose n) older off is = either_is _ (is_stopping older) is
+entry_keeps (Input (Up conn channel moment word identity)) older off is = either_is (asks_shutdown (event_in (facts older) (Input (Up conn channel moment word identity)))) (is_stopping older) is
+entry_keeps (Input (Down conn moment word)) older off is = either_is (asks_shutdown (event_in (facts older) (Input (Down conn moment word)))) (is_stopping older) is
+entry_keeps (Input (In conn moment word m)) older off is = either_is (asks_shutdown (event_in (facts older) (Input (In conn moment word m)))) (is_stopping older) is
+entry_keeps (Input (Beat moment word)) older off is = either_is (asks_shutdown (event_in (facts older) (Input (Beat moment word)))) (is_stopping older) is
+entry_keeps (Input (Time moment word)) older off is = either_is (asks_shutdown (event_in (facts older) (Input (Time moment word)))) (is_stopping older) is
+entry_keeps (Hand id n) older off is = either_is (asks_shutdown (event_in (facts older) (Hand id n))) (is_stopping older) is
+entry_keeps (Settle id v c) older off is = either_is (asks_shutdown (event_in (facts older) (Settle id v c))) (is_stopping older) is
+entry_keeps (Lose n) older off is = either_is (asks_shutdown (event_in (facts older) (Lose n))) (is_stopping older) is
 
 entries_keep : (es old : History) → list_any is_open_entry es ≡ false → is_stopping old ≡ true → is_stopping (es ++ old) ≡ true
 entries_keep [] old off is = is

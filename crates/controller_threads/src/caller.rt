@@ -3,6 +3,7 @@
 ghost use Rattle.std.specs.Prelude.{◌≡◌, ◌≤◌, ℕ, IsTrue, IfErr, OnOk};
 ghost use Rattle.history_lock.specs.declared.known.Content.{Content};
 ghost use Rattle.history_lock.specs.Names.{known, room_of};
+ghost use Rattle.controller_threads.specs.declared.end.Halt.{Halt as HaltType};
 ghost use Rattle.controller_threads.specs.Ends.{HaltCause, StopCause, EndCause};
 ghost use Rattle.controller_threads.specs.Passes.{IsSince};
 ghost use Rattle.controller_threads.specs.Ports.{AreAll};
@@ -210,10 +211,12 @@ where
         }
     }
 
-    /// Lets the writers write what was flushed.
-    fn give_writers_turns(&self) {
-        for _ in 0..LAST_TURNS {
-            self.shared.gate.pass(&self.shared.rt, Point::Idle, 0);
+    /// Lets the writers write what was flushed before a shutdown.
+    fn give_writers_turns(&self, halt: Halt) {
+        if halt == Halt::Stopping {
+            for _ in 0..LAST_TURNS {
+                self.shared.gate.pass(&self.shared.rt, Point::Idle, 0);
+            }
         }
     }
 
@@ -222,6 +225,7 @@ where
         requires { HaltCause halt N.start (known self.pass).seen }
         ensures { (before : ℕ) (now : ℕ) → EndCause N.lock N.start P.links P.faults before now result }
     {
+        self.give_writers_turns(halt);
         let Caller {
             shared,
             mut pass,
@@ -241,16 +245,12 @@ where
 
     /// The end where it stops before. The workers end, and nobody waits for them.
     pub fn stopped(self, stop: Stop<P>) -> ServeEnd<P, Locked<D, C, W>>
+        requires { (halt : HaltType) → stop ≡ Stop.Halted halt → HaltCause halt N.start (known self.pass).seen }
         ensures { (before : ℕ) (now : ℕ) → StopCause P.faults N.start (known self.pass).seen before now stop → EndCause N.lock N.start P.links P.faults before now result }
     {
         self.shared.end_workers();
         match stop {
-            Stop::Halted(halt) => {
-                if halt == Halt::Stopping {
-                    self.give_writers_turns();
-                }
-                self.halted(halt)
-            }
+            Stop::Halted(halt) => self.halted(halt),
             Stop::PortFailed { channel, port } => ServeEnd::ListenerFault { channel, port },
             Stop::NotStarted => ServeEnd::SpawnFault,
             Stop::OutOfMemory => ServeEnd::OutOfMemory,
