@@ -31,7 +31,8 @@ use Rattle.session_threads.specs.Passes.{fulls_seen}
 use Rattle.session_threads.proofs.Causes.{cause_since, refused_cause}
 use Rattle.controller_threads.specs.declared.end.Halt.{Halt}
 use Rattle.controller_threads.specs.declared.end.Halt.TheVariants as halts
-use Rattle.controller_threads.specs.Ends.{faults_seen, has_risen, HaltCause, RefusalCause, SessionCause}
+use Rattle.controller_threads.specs.declared.stop.Stop.{Stop}
+use Rattle.controller_threads.specs.Ends.{faults_seen, has_risen, HaltCause, RefusalCause, SessionCause, StopCause, StopsAtStart}
 
 -- A SHUTDOWN STAYS ASKED
 
@@ -140,3 +141,9 @@ flush_cause faults start u w before after flushed on turn f is =
     let less = on.counts 0 in
     let more : faults_seen u.seen ≤ faults before.disk = turn.adds.later.counts 0 in
     risen_since (faults_seen start) (faults before.disk) (faults after.disk) (faults_seen w.seen) (omega (arith, less, more)) (f.cause is) (omega (arith, seen))
+
+-- STARTS
+
+pub stops_at_start : {A P : Type 0} (result : Result A (Stop P)) (faults : P → ℕ) (start seen : Content) (before now : ℕ) → IfErr result (λ stop. StopsAtStart before now stop) → IfErr result (λ stop. StopCause faults start seen before now stop)
+stops_at_start (Ok x) faults start seen before now all = tt
+stops_at_start (Err stop) faults start seen before now all = all faults start seen

@@ -188,9 +188,10 @@ where
         ensures ok { OnOk result (AreAll self.new.ended) }
         ensures cause { IfErr result (λ stop. StopCause P.faults N.start (known self.new.pass).seen spawner.old.faults spawner.new.faults stop) }
     {
-        self.start_workers(spawner)?;
-        self.start_acceptors(spawner, ports)?;
-        self.serve_links(spawner, chooser)
+        match self.start(spawner, ports) {
+            Ok(()) => self.serve_links(spawner, chooser),
+            Err(stop) => Err(stop),
+        }
     }
 
     /// The end where all links have ended.

@@ -1,6 +1,6 @@
 //! The jobs that the caller of `serve` starts.
 
-ghost use Rattle.std.specs.Prelude.{◌≡◌, ◌≤◌, ◌<◌, ◌+◌, IfErr, OnOk};
+ghost use Rattle.std.specs.Prelude.{◌≡◌, ◌≤◌, ◌<◌, ◌+◌, ℕ, IfErr, OnOk};
 ghost use Rattle.history_lock.specs.Names.{room_of};
 ghost use Rattle.controller_threads.specs.Ends.{StopsAtStart};
 
@@ -9,6 +9,7 @@ use crate::caller::Caller;
 use crate::greeting::Greeting;
 use crate::handed::{Link, ShortGreeted};
 use crate::naming::Naming;
+use crate::opening::SessionPasses;
 use crate::passes::NamedPass;
 use crate::port::Port;
 use crate::ports::Ports;
@@ -62,7 +63,7 @@ where
     }
 
     /// Starts an acceptor for each port.
-    pub fn start_acceptors<H: Threads + Drop>(
+    fn start_acceptors<H: Threads + Drop>(
         &self,
         spawner: &mut Spawner<H>,
         ports: Ports<P>,
@@ -124,10 +125,7 @@ where
     }
 
     /// Starts the workers, each with a pass.
-    pub fn start_workers<H: Threads + Drop>(
-        &mut self,
-        spawner: &mut Spawner<H>,
-    ) -> Result<(), Stop<P>>
+    fn start_workers<H: Threads + Drop>(&mut self, spawner: &mut Spawner<H>) -> Result<(), Stop<P>>
         requires { 3 ≤ room_of self.old.pass }
         ensures ok { OnOk result (spawner.new.faults ≡ spawner.old.faults) }
         ensures err { IfErr result (λ stop. StopsAtStart spawner.old.faults spawner.new.faults stop) }
@@ -140,6 +138,20 @@ where
         self.start_flushing(spawner, flushing)?;
         self.workers = WORKERS;
         Ok(())
+    }
+
+    /// Starts the workers, and an acceptor for each port.
+    pub fn start<H: Threads + Drop>(
+        &mut self,
+        spawner: &mut Spawner<H>,
+        ports: Ports<P>,
+    ) -> Result<(), Stop<P>>
+        requires { 3 ≤ room_of self.old.pass }
+        ensures ok { OnOk result (spawner.new.faults ≡ spawner.old.faults) }
+        ensures err { IfErr result (λ stop. StopsAtStart spawner.old.faults spawner.new.faults stop) }
+    {
+        self.start_workers(spawner)?;
+        self.start_acceptors(spawner, ports)
     }
 
     /// Starts the greeting of a link.
@@ -158,7 +170,7 @@ where
     }
 
     /// Starts the session that reads a link.
-    pub fn start_reading<H: Threads + Drop>(
+    fn start_reading<H: Threads + Drop>(
         &mut self,
         spawner: &mut Spawner<H>,
         reader: P::In,
@@ -183,7 +195,7 @@ where
     }
 
     /// Starts the session that writes to a link.
-    pub fn start_writing<H: Threads + Drop>(
+    fn start_writing<H: Threads + Drop>(
         &mut self,
         spawner: &mut Spawner<H>,
         writer: P::Out,
@@ -194,7 +206,6 @@ where
         ensures err { IfErr result (λ stop. StopsAtStart spawner.old.faults spawner.new.faults stop) }
     {
         let shared = Arc::try_clone(&self.shared)?;
-        self.shared.writers.add(&self.shared.rt, conn)?;
         let session = Writing {
             shared,
             writer,
@@ -204,5 +215,39 @@ where
         start(spawner, session)?;
         self.sessions = self.sessions.saturating_add(1);
         Ok(())
+    }
+
+    /// Writes down that a connection has a writer.
+    fn note_writer(&self, conn: u32) -> Result<(), Stop<P>>
+        ensures { (before : ℕ) (now : ℕ) → IfErr result (λ stop. StopsAtStart before now stop) }
+    {
+        match self.shared.writers.add(&self.shared.rt, conn) {
+            Ok(()) => Ok(()),
+            Err(_) => Err(Stop::OutOfMemory),
+        }
+    }
+
+    /// Starts the two sessions of a link that was admitted.
+    pub fn start_sessions<H: Threads + Drop>(
+        &mut self,
+        spawner: &mut Spawner<H>,
+        link: Link<P::In, P::Out>,
+        greeted: ShortGreeted,
+        number: u32,
+        passes: SessionPasses<Locked<D, C, W>, N>,
+    ) -> Result<(), Stop<P>>
+        ensures ok { OnOk result (spawner.new.faults ≡ spawner.old.faults) }
+        ensures err { IfErr result (λ stop. StopsAtStart spawner.old.faults spawner.new.faults stop) }
+    {
+        let Link {
+            channel,
+            reader,
+            writer,
+        } = link;
+        let SessionPasses { reading, writing } = passes;
+        let connection = Connection { number, channel };
+        self.start_reading(spawner, reader, greeted, connection, reading)?;
+        self.note_writer(number)?;
+        self.start_writing(spawner, writer, number, writing)
     }
 }

@@ -19,7 +19,6 @@ use disk_model::disk::Disk;
 use edges::sink::{Sink, write_all};
 use load_schemes::chooser::Chooser;
 use session_threads::admission::AdmitEnd;
-use session_threads::connection::Connection;
 use std::alloc::Global;
 use std::sync::Wait;
 use std::thread::Threads;
@@ -31,9 +30,9 @@ use zmtp_peer::writing::error_octets;
 
 /// The passes of the two sessions of a link.
 #[derive(Drop)]
-struct SessionPasses<T, N: Naming> {
-    reading: NamedPass<T, N>,
-    writing: NamedPass<T, N>,
+pub struct SessionPasses<T, N: Naming> {
+    pub reading: NamedPass<T, N>,
+    pub writing: NamedPass<T, N>,
 }
 
 /// Tells the other side of a link that there is no room for it, where memory and link let it.
@@ -104,10 +103,11 @@ where
     }
 
     /// Refuses a link: where the history is full the controller is halted.
-    fn refuse(&self, end: AdmitEnd, mut writer: P::Out) -> Result<(), Stop<P>>
+    fn refuse(&self, end: AdmitEnd, link: Link<P::In, P::Out>) -> Result<(), Stop<P>>
         requires { AdmitCause end N.start (known self.now.pass).seen }
         ensures { (before : ℕ) (now : ℕ) → IfErr result (λ stop. StopCause P.faults N.start (known self.now.pass).seen before now stop) }
     {
+        let Link { mut writer, .. } = link;
         match end {
             AdmitEnd::NoPass | AdmitEnd::Act(ActError::TooManyConnections) => {
                 tell_busy(self.shared.alloc, &mut writer);
@@ -131,19 +131,9 @@ where
         ensures ok { OnOk result (spawner.new.faults ≡ spawner.old.faults) }
         ensures cause { IfErr result (λ stop. StopCause P.faults N.start (known self.new.pass).seen spawner.old.faults spawner.new.faults stop) }
     {
-        let Link {
-            channel,
-            reader,
-            writer,
-        } = link;
-        match self.admit(chooser, channel, greeted.greeted.identity.as_slice()) {
-            Ok((number, passes)) => {
-                let SessionPasses { reading, writing } = passes;
-                let connection = Connection { number, channel };
-                self.start_reading(spawner, reader, greeted, connection, reading)?;
-                self.start_writing(spawner, writer, number, writing)
-            }
-            Err(end) => self.refuse(end, writer),
+        match self.admit(chooser, link.channel, greeted.greeted.identity.as_slice()) {
+            Ok((number, passes)) => { self.start_sessions(spawner, link, greeted, number, passes) }
+            Err(end) => self.refuse(end, link),
         }
     }
 }

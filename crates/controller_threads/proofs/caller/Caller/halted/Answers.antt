@@ -15,7 +15,7 @@ returns-in-DiskFault g c =
     let on = halt_later c.args.halt g.N.Naming.start (known c.args.self.pass).seen (known c.flush_last.new.pass).seen c.requires c.flush_last.ensures.later in
     λ before now. (c.flush_last.ensures.rested, subst (λ (h : Halt). HaltCause h g.N.Naming.start (known c.flush_last.new.pass).seen) c.in-DiskFault.is on)
 
-pub returns-in-HistoryFull : goal.returns-in-HistoryFull
-returns-in-HistoryFull g c =
+pub returns : goal.returns
+returns g c =
     let on = halt_later c.args.halt g.N.Naming.start (known c.args.self.pass).seen (known c.flush_last.new.pass).seen c.requires c.flush_last.ensures.later in
     λ before now. (c.flush_last.ensures.rested, subst (λ (h : Halt). HaltCause h g.N.Naming.start (known c.flush_last.new.pass).seen) c.in-HistoryFull.is on)
