@@ -2,8 +2,7 @@
 ghost use Rattle.std.specs.Prelude.{◌≡◌, ◌<◌, ◌≤◌, ◌+◌, [], All, length};
 ghost use Rattle.std.specs.Vec.{vec_len, vec_capacity};
 ghost use Rattle.cluster_defs.specs.Scheduling.{pick};
-ghost use Rattle.history_lock.specs.Names.{IsIdle, known, lock_id, room_of};
-ghost use Rattle.session_threads.specs.Passes.{Rests};
+ghost use Rattle.history_lock.specs.Names.{IsIdle, lock_id, room_of};
 ghost use Rattle.zmtp_peer.specs.Limits.{IsShortMessage, IsShortIdentity};
 
 use cluster_store::store::Store;
@@ -65,14 +64,12 @@ pub fn new_chooser<R: Abort>(rt: &R, alloc: Global) -> Chooser {
 /// A desk over an empty disk, and its first pass.
 pub fn new_desk<R: Abort>(rt: &R, alloc: Global, chooser: &Chooser) -> (Desked, Pass<Held>)
     ensures idle { IsIdle (lock_id result.0.lock) result.1 }
-    ensures rests { Rests (known result.1).seen }
     ensures room { 3 ≤ room_of result.1 }
 {
     let disk = MemDisk::new(alloc, b"").expect(rt, "memory is ample");
     let Ok(store) = Store::open(alloc, disk, CONFIG, chooser, 0) else {
         panic!(rt; "no store opens");
     };
-    store.history();
     let clock = ListClock::new(alloc, &[7]).expect(rt, "memory is ample");
     let words = ListWords::new(alloc, &[1]).expect(rt, "memory is ample");
     Desk::new(alloc, store, clock, words).expect(rt, "memory is ample")
