@@ -1,5 +1,5 @@
 -- Why a desk halts its controller.
-use Rattle.std.proofs.Common.{◌≡◌, ℕ, suc, ◌≤◌, List, [], ◌∷◌, ◌++◌, Bool, true, false, ◌||◌, ◌&&◌, Result, Ok, Err, refl, sym, ap, ◌∙◌, subst, arith, le_refl}
+use Rattle.std.proofs.Common.{◌≡◌, ℕ, suc, ◌≤◌, List, [], ◌∷◌, ◌++◌, Bool, true, false, ◌||◌, ◌&&◌, Result, Ok, Err, refl, sym, ap, subst, arith, le_refl}
 use Rattle.std.proofs.lemmas.Bool.Decides.{nat_tests}
 use Rattle.std.specs.Prelude.{IfErr}
 use Rattle.std.specs.List.{list_any}
@@ -15,7 +15,6 @@ use Rattle.cluster_store.specs.Stores.{StoreView}
 use Rattle.controller_desk.specs.declared.fault.ActError.{ActError}
 use Rattle.controller_desk.specs.declared.fault.ActError.TheVariants as refusals
 use Rattle.controller_desk.specs.Calls.{IsRefusedAs, HasTried, HasOpened, HasFlushed}
-use Rattle.controller_desk.specs.Contents.{content_of}
 use Rattle.controller_desk.specs.Turns.{InTurn}
 use Rattle.controller_desk.specs.Ups.{ups, up_of}
 use Rattle.history_lock.specs.declared.known.Content.{Content}

@@ -1,12 +1,12 @@
 -- What passes have seen.
-use Rattle.std.proofs.Common.{◌≡◌, ℕ, ◌+◌, ◌-◌, List, [], ◌∷◌, ◌++◌, length, take, Bool, false, refl, sym, ap, ◌∙◌, subst, arith, length-append}
+use Rattle.std.proofs.Common.{◌≡◌, ℕ, ◌-◌, List, [], ◌∷◌, ◌++◌, length, take, false, refl, sym, ap, ◌∙◌, subst, arith, length-append}
 use Rattle.std.specs.List.{list_any}
 use Rattle.cluster_types.specs.declared.entry.Entry.{Entry}
 use Rattle.controller_desk.specs.declared.desk.Desk.{Desk}
 use Rattle.controller_desk.specs.Turns.{beyond}
 use Rattle.history_lock.specs.declared.known.Content.{Content}
 use Rattle.history_lock.specs.declared.lock.Pass.{Pass}
-use Rattle.history_lock.specs.History.{is_open_entry, Rises, Extends}
+use Rattle.history_lock.specs.History.{is_open_entry, Extends}
 use Rattle.history_lock.specs.Names.{LockId, known, lock_id, IsIdle}
 use Rattle.history_lock.proofs.Growing.{extends_self, extends_on}
 use Rattle.session_threads.specs.Passes.{Rests}

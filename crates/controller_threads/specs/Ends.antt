@@ -6,7 +6,6 @@ use Rattle.cluster_defs.specs.Histories.{is_stopping}
 use Rattle.controller_desk.specs.declared.fault.ActError.{ActError}
 use Rattle.controller_desk.specs.declared.fault.ActError.TheVariants as refusals
 use Rattle.history_lock.specs.declared.known.Content.{Content}
-use Rattle.history_lock.specs.declared.lock.Pass.{Pass}
 use Rattle.history_lock.specs.Names.{LockId, known}
 use Rattle.session_threads.specs.declared.admission.AdmitEnd.{AdmitEnd}
 use Rattle.session_threads.specs.declared.admission.AdmitEnd.TheVariants.{NoPass, Act}
