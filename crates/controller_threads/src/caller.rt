@@ -1,0 +1,260 @@
+//! The caller of `serve`, which alone starts jobs.
+
+ghost use Rattle.std.specs.Prelude.{◌≡◌, ◌≤◌, ℕ, IsTrue, IfErr, OnOk};
+ghost use Rattle.history_lock.specs.declared.known.Content.{Content};
+ghost use Rattle.history_lock.specs.Names.{known, room_of};
+ghost use Rattle.controller_threads.specs.declared.end.Halt.{Halt as HaltType};
+ghost use Rattle.controller_threads.specs.Ends.{HaltCause, StopCause, EndCause};
+ghost use Rattle.controller_threads.specs.Passes.{IsSince};
+ghost use Rattle.controller_threads.specs.Ports.{AreAll};
+
+use crate::end::{Halt, ServeEnd};
+use crate::handed::{FailedPort, Handed};
+use crate::naming::Naming;
+use crate::passes::{Halted, NamedPass};
+use crate::port::Port;
+use crate::ports::{EndedPorts, Ports};
+use crate::shared::Shared;
+use crate::stop::Stop;
+use controller_desk::locked::Locked;
+use disk_model::disk::Disk;
+use history_lock::lock::Pass;
+use load_schemes::chooser::Chooser;
+use std::alloc::Global;
+use std::sync::{Arc, Wait};
+use std::thread::Threads;
+use thread_edges::clock::Clock;
+use thread_edges::gate::{Gate, Point};
+use thread_edges::spawner::Spawner;
+use thread_edges::words::Words;
+
+/// How often the gate is passed before a controller stops, so that the writers come to write.
+const LAST_TURNS: u32 = 40;
+
+/// What the caller of `serve` has.
+#[derive(Drop)]
+pub struct Caller<P: Port, D: Disk, C: Clock, W: Words, G, N: Naming, R> {
+    pub shared: Arc<Shared<P, D, C, W, G, N, R>, Global>,
+    pub pass: Pass<Locked<D, C, W>>,
+    /// The passes of sessions that have ended.
+    pub kept: Vec<NamedPass<Locked<D, C, W>, N>>,
+    pub ended: EndedPorts<P>,
+    /// How many greetings run.
+    pub greetings: u64,
+    /// How many sessions run.
+    pub sessions: u64,
+    /// How many workers run.
+    pub workers: u64,
+    ghost since: { IsSince N.lock N.start pass },
+}
+
+impl<
+    P: Port + Drop + Send + 'static,
+    D: Disk + Drop + Send + Sync + 'static,
+    C: Clock + Drop + Send + Sync + 'static,
+    W: Words + Drop + Send + Sync + 'static,
+    G: Gate + Drop + Send + Sync + 'static,
+    N: Naming + Send + Sync + 'static,
+    R: Wait + Drop + Copy + Send + Sync + 'static,
+> Caller<P, D, C, W, G, N, R>
+where
+    P::In: Send + 'static,
+    P::Out: Send + 'static,
+{
+    /// A caller that has started nothing yet.
+    pub fn new(
+        shared: Arc<Shared<P, D, C, W, G, N, R>, Global>,
+        pass: Pass<Locked<D, C, W>>,
+    ) -> Caller<P, D, C, W, G, N, R>
+        requires { IsSince N.lock N.start pass }
+        ensures { room_of result.pass ≡ room_of pass }
+    {
+        let kept = Vec::new(shared.alloc);
+        Caller {
+            shared,
+            pass,
+            kept,
+            ended: Ports::none(),
+            greetings: 0,
+            sessions: 0,
+            workers: 0,
+        }
+    }
+
+    /// Keeps the pass of a session that ended, to be used again.
+    fn keep(&mut self, pass: NamedPass<Locked<D, C, W>, N>) -> Result<(), Stop<P>>
+        ensures { (before : ℕ) (now : ℕ) (seen : Content) → IfErr result (λ stop. StopCause P.faults N.start seen before now stop) }
+    {
+        self.sessions = self.sessions.saturating_sub(1);
+        match self.kept.push(pass) {
+            Ok(()) => Ok(()),
+            Err(_) => Err(Stop::OutOfMemory),
+        }
+    }
+
+    /// Takes in the pass of a worker that ended.
+    fn end_worker(&mut self, ended: NamedPass<Locked<D, C, W>, N>) {
+        self.workers = self.workers.saturating_sub(1);
+        let NamedPass { pass, of: _ } = ended;
+        self.shared.join(&mut self.pass, pass);
+    }
+
+    /// Takes in the pass of a job that met what ends the controller.
+    fn halt(&mut self, halted: Halted<Locked<D, C, W>, N>) -> Halt
+        ensures { HaltCause result N.start (known self.new.pass).seen }
+    {
+        let Halted { halt, pass, of: _ } = halted;
+        self.shared.join(&mut self.pass, pass);
+        halt
+    }
+
+    /// Does what is to be done about what was handed over.
+    fn answer<H: Threads + Drop>(
+        &mut self,
+        spawner: &mut Spawner<H>,
+        chooser: &Chooser,
+        handed: Handed<P, Locked<D, C, W>, N>,
+    ) -> Result<(), Stop<P>>
+        ensures ok { OnOk result (spawner.new.faults ≡ spawner.old.faults) }
+        ensures cause { IfErr result (λ stop. StopCause P.faults N.start (known self.new.pass).seen spawner.old.faults spawner.new.faults stop) }
+    {
+        match handed {
+            Handed::Accepted(link) => self.start_greeting(spawner, link),
+            Handed::Greeted(link, greeted) => {
+                self.greetings = self.greetings.saturating_sub(1);
+                self.open(spawner, chooser, link, greeted)
+            }
+            Handed::NotGreeted => {
+                self.greetings = self.greetings.saturating_sub(1);
+                Ok(())
+            }
+            Handed::SessionEnded(pass) => self.keep(pass),
+            Handed::PortEnded(channel, port) => {
+                self.ended.put(channel, port);
+                Ok(())
+            }
+            Handed::PortFailed(failed) => {
+                let FailedPort { channel, port } = failed;
+                Err(Stop::PortFailed { channel, port })
+            }
+            Handed::WorkerEnded(pass) => {
+                self.end_worker(pass);
+                Ok(())
+            }
+            Handed::Halted(halted) => Err(Stop::Halted(self.halt(halted))),
+        }
+    }
+
+    /// Whether all links have ended, and no more come.
+    fn has_no_links(&self) -> bool
+        ensures { IsTrue result → AreAll self.now.ended }
+    {
+        self.greetings == 0 && self.sessions == 0 && self.ended.are_all()
+    }
+
+    /// Serves until all links have ended, and then the workers.
+    fn serve_links<H: Threads + Drop>(
+        &mut self,
+        spawner: &mut Spawner<H>,
+        chooser: &Chooser,
+    ) -> Result<(), Stop<P>>
+        ensures ok { OnOk result (AreAll self.new.ended) }
+        ensures cause { IfErr result (λ stop. StopCause P.faults N.start (known self.new.pass).seen spawner.old.faults spawner.new.faults stop) }
+    {
+        let rt = self.shared.rt;
+        for _ in rt.forever() {
+            if self.has_no_links() {
+                if self.workers == 0 {
+                    return Ok(());
+                }
+                self.shared.end_workers();
+            }
+            match self.shared.queue.take(&rt) {
+                Some(handed) => self.answer(spawner, chooser, handed)?,
+                None => return Err(Stop::OutOfMemory),
+            }
+        }
+        unreachable!()
+    }
+
+    /// Serves the links of these ports.
+    pub fn serve<H: Threads + Drop>(
+        &mut self,
+        spawner: &mut Spawner<H>,
+        chooser: &Chooser,
+        ports: Ports<P>,
+    ) -> Result<(), Stop<P>>
+        requires { 3 ≤ room_of self.old.pass }
+        ensures ok { OnOk result (AreAll self.new.ended) }
+        ensures cause { IfErr result (λ stop. StopCause P.faults N.start (known self.new.pass).seen spawner.old.faults spawner.new.faults stop) }
+    {
+        match self.start(spawner, ports) {
+            Ok(()) => self.serve_links(spawner, chooser),
+            Err(stop) => Err(stop),
+        }
+    }
+
+    /// The end where all links have ended.
+    pub fn ended(self) -> ServeEnd<P, Locked<D, C, W>>
+        requires { AreAll self.ended }
+        ensures { (before : ℕ) (now : ℕ) → EndCause N.lock N.start P.links P.faults before now result }
+    {
+        let Caller {
+            shared,
+            mut pass,
+            ended,
+            ..
+        } = self;
+        shared.flush_last(&mut pass);
+        ServeEnd::Ended {
+            ports: ended.into_ports(),
+            pass,
+        }
+    }
+
+    /// Lets the writers write what was flushed before a shutdown.
+    fn give_writers_turns(&self, halt: Halt) {
+        if halt == Halt::Stopping {
+            for _ in 0..LAST_TURNS {
+                self.shared.gate.pass(&self.shared.rt, Point::Idle, 0);
+            }
+        }
+    }
+
+    /// The end where the desk halts the controller.
+    fn halted(self, halt: Halt) -> ServeEnd<P, Locked<D, C, W>>
+        requires { HaltCause halt N.start (known self.pass).seen }
+        ensures { (before : ℕ) (now : ℕ) → EndCause N.lock N.start P.links P.faults before now result }
+    {
+        self.give_writers_turns(halt);
+        let Caller {
+            shared,
+            mut pass,
+            ..
+        } = self;
+        shared.flush_last(&mut pass);
+        match halt {
+            Halt::Stopping => ServeEnd::Stopped(pass),
+            Halt::DiskFault => ServeEnd::DiskFault(pass),
+            Halt::HistoryFull { entries, bytes } => ServeEnd::HistoryFull {
+                entries,
+                bytes,
+                pass,
+            },
+        }
+    }
+
+    /// The end where it stops before. The workers end, and nobody waits for them.
+    pub fn stopped(self, stop: Stop<P>) -> ServeEnd<P, Locked<D, C, W>>
+        requires { (halt : HaltType) → stop ≡ Stop.Halted halt → HaltCause halt N.start (known self.pass).seen }
+        ensures { (before : ℕ) (now : ℕ) → StopCause P.faults N.start (known self.pass).seen before now stop → EndCause N.lock N.start P.links P.faults before now result }
+    {
+        self.shared.end_workers();
+        match stop {
+            Stop::Halted(halt) => self.halted(halt),
+            Stop::PortFailed { channel, port } => ServeEnd::ListenerFault { channel, port },
+            Stop::NotStarted => ServeEnd::SpawnFault,
+            Stop::OutOfMemory => ServeEnd::OutOfMemory,
+        }
+    }
+}

@@ -1,0 +1,73 @@
+//! What threads hand over to the caller of `serve`.
+
+ghost use Rattle.std.specs.Prelude.{◌≤◌, All};
+ghost use Rattle.std.proofs.Props.{props};
+ghost use Rattle.zmtp_peer.specs.Limits.{IsShortMessage, IsShortIdentity};
+
+use crate::naming::Naming;
+use crate::passes::{Halted, NamedPass};
+use crate::port::Port;
+use crate::ports::EndedPort;
+use cluster_types::config::Channel;
+use session_threads::greeting::Greeted;
+
+/// A link to another machine, and the channel of the port where it was accepted.
+#[derive(Drop)]
+pub struct Link<I, O> {
+    pub channel: Channel,
+    pub reader: I,
+    pub writer: O,
+}
+
+/// What came with a handshake, within the limits.
+#[derive(Drop)]
+pub struct ShortGreeted {
+    pub greeted: Greeted,
+    ghost identity: { IsShortIdentity greeted.identity },
+    ghost short: { All IsShortMessage greeted.early } by { Prim.hlevel props },
+}
+
+impl ShortGreeted {
+    pub fn new(greeted: Greeted) -> ShortGreeted
+        requires identity { IsShortIdentity greeted.identity }
+        requires short { All IsShortMessage greeted.early }
+    {
+        ShortGreeted { greeted }
+    }
+}
+
+/// A port on which an accept failed.
+#[derive(Drop)]
+pub struct FailedPort<P: Port> {
+    pub channel: Channel,
+    pub port: P,
+    ghost fault: { 1 ≤ P.faults port },
+}
+
+/// A port whose last accept failed.
+pub fn failed_port<P: Port>(channel: Channel, port: P) -> FailedPort<P>
+    requires { 1 ≤ P.faults port }
+{
+    FailedPort { channel, port }
+}
+
+/// What a thread hands over, where the desk's lock holds `T`.
+#[derive(Drop)]
+pub enum Handed<P: Port, T, N: Naming> {
+    /// A link was accepted.
+    Accepted(Link<P::In, P::Out>),
+    /// The handshake of a link is done.
+    Greeted(Link<P::In, P::Out>, ShortGreeted),
+    /// A link ended before its handshake was done.
+    NotGreeted,
+    /// A session ended.
+    SessionEnded(NamedPass<T, N>),
+    /// A port has no further links.
+    PortEnded(Channel, EndedPort<P>),
+    /// An accept failed.
+    PortFailed(FailedPort<P>),
+    /// A worker ended, since no links are left.
+    WorkerEnded(NamedPass<T, N>),
+    /// A session or a worker met what ends the controller.
+    Halted(Halted<T, N>),
+}

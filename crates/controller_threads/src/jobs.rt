@@ -1,0 +1,253 @@
+//! The jobs that the caller of `serve` starts.
+
+ghost use Rattle.std.specs.Prelude.{◌≡◌, ◌≤◌, ◌<◌, ◌+◌, ℕ, IfErr, OnOk};
+ghost use Rattle.history_lock.specs.Names.{room_of};
+ghost use Rattle.controller_threads.specs.Ends.{StopsAtStart};
+
+use crate::accepting::Accepting;
+use crate::caller::Caller;
+use crate::greeting::Greeting;
+use crate::handed::{Link, ShortGreeted};
+use crate::naming::Naming;
+use crate::opening::SessionPasses;
+use crate::passes::NamedPass;
+use crate::port::Port;
+use crate::ports::Ports;
+use crate::sessions::{Reading, Writing};
+use crate::starting::{start, start_choosing};
+use crate::stop::Stop;
+use crate::workers::{Flushing, Recurring, Rhythm};
+use cluster_types::config::Channel;
+use controller_desk::locked::Locked;
+use disk_model::disk::Disk;
+use session_threads::connection::Connection;
+use std::sync::{Arc, Wait};
+use std::thread::Threads;
+use thread_edges::clock::Clock;
+use thread_edges::gate::Gate;
+use thread_edges::spawner::Spawner;
+use thread_edges::words::Words;
+
+/// How many workers there are: for beats, for time and for flushes.
+const WORKERS: u64 = 3;
+
+impl<
+    P: Port + Drop + Send + 'static,
+    D: Disk + Drop + Send + Sync + 'static,
+    C: Clock + Drop + Send + Sync + 'static,
+    W: Words + Drop + Send + Sync + 'static,
+    G: Gate + Drop + Send + Sync + 'static,
+    N: Naming + Send + Sync + 'static,
+    R: Wait + Drop + Copy + Send + Sync + 'static,
+> Caller<P, D, C, W, G, N, R>
+where
+    P::In: Send + 'static,
+    P::Out: Send + 'static,
+{
+    fn start_acceptor<H: Threads + Drop>(
+        &self,
+        spawner: &mut Spawner<H>,
+        channel: Channel,
+        port: P,
+    ) -> Result<(), Stop<P>>
+        ensures ok { OnOk result (spawner.new.faults ≡ spawner.old.faults) }
+        ensures err { IfErr result (λ stop. StopsAtStart spawner.old.faults spawner.new.faults stop) }
+    {
+        let shared = Arc::try_clone(&self.shared)?;
+        let acceptor = Accepting {
+            shared,
+            channel,
+            port,
+        };
+        start(spawner, acceptor)
+    }
+
+    /// Starts an acceptor for each port.
+    fn start_acceptors<H: Threads + Drop>(
+        &self,
+        spawner: &mut Spawner<H>,
+        ports: Ports<P>,
+    ) -> Result<(), Stop<P>>
+        ensures ok { OnOk result (spawner.new.faults ≡ spawner.old.faults) }
+        ensures err { IfErr result (λ stop. StopsAtStart spawner.old.faults spawner.new.faults stop) }
+    {
+        let Ports {
+            hub,
+            task,
+            mux,
+            engine,
+        } = ports;
+        self.start_acceptor(spawner, Channel::Hub, hub)?;
+        self.start_acceptor(spawner, Channel::Task, task)?;
+        self.start_acceptor(spawner, Channel::Mux, mux)?;
+        self.start_acceptor(spawner, Channel::Engine, engine)
+    }
+
+    fn start_recurring<H: Threads + Drop>(
+        &self,
+        spawner: &mut Spawner<H>,
+        rhythm: Rhythm,
+        pass: NamedPass<Locked<D, C, W>, N>,
+    ) -> Result<(), Stop<P>>
+        ensures ok { OnOk result (spawner.new.faults ≡ spawner.old.faults) }
+        ensures err { IfErr result (λ stop. StopsAtStart spawner.old.faults spawner.new.faults stop) }
+    {
+        let shared = Arc::try_clone(&self.shared)?;
+        let worker = Recurring {
+            shared,
+            rhythm,
+            pass,
+        };
+        start_choosing(self.shared.alloc, spawner, worker)
+    }
+
+    fn start_flushing<H: Threads + Drop>(
+        &self,
+        spawner: &mut Spawner<H>,
+        pass: NamedPass<Locked<D, C, W>, N>,
+    ) -> Result<(), Stop<P>>
+        ensures ok { OnOk result (spawner.new.faults ≡ spawner.old.faults) }
+        ensures err { IfErr result (λ stop. StopsAtStart spawner.old.faults spawner.new.faults stop) }
+    {
+        let shared = Arc::try_clone(&self.shared)?;
+        start(spawner, Flushing { shared, pass })
+    }
+
+    /// A pass for a worker.
+    fn worker_pass(&mut self) -> NamedPass<Locked<D, C, W>, N>
+        requires { 0 < room_of self.old.pass }
+        ensures { room_of self.new.pass + 1 ≡ room_of self.old.pass }
+    {
+        match self.shared.split(&mut self.pass) {
+            Some(pass) => pass,
+            None => unreachable!(),
+        }
+    }
+
+    /// Starts the workers, each with a pass.
+    fn start_workers<H: Threads + Drop>(&mut self, spawner: &mut Spawner<H>) -> Result<(), Stop<P>>
+        requires { 3 ≤ room_of self.old.pass }
+        ensures ok { OnOk result (spawner.new.faults ≡ spawner.old.faults) }
+        ensures err { IfErr result (λ stop. StopsAtStart spawner.old.faults spawner.new.faults stop) }
+    {
+        let beating = self.worker_pass();
+        let timing = self.worker_pass();
+        let flushing = self.worker_pass();
+        self.start_recurring(spawner, Rhythm::Beat, beating)?;
+        self.start_recurring(spawner, Rhythm::Time, timing)?;
+        self.start_flushing(spawner, flushing)?;
+        self.workers = WORKERS;
+        Ok(())
+    }
+
+    /// Starts the workers, and an acceptor for each port.
+    pub fn start<H: Threads + Drop>(
+        &mut self,
+        spawner: &mut Spawner<H>,
+        ports: Ports<P>,
+    ) -> Result<(), Stop<P>>
+        requires { 3 ≤ room_of self.old.pass }
+        ensures ok { OnOk result (spawner.new.faults ≡ spawner.old.faults) }
+        ensures err { IfErr result (λ stop. StopsAtStart spawner.old.faults spawner.new.faults stop) }
+    {
+        self.start_workers(spawner)?;
+        self.start_acceptors(spawner, ports)
+    }
+
+    /// Starts the greeting of a link.
+    pub fn start_greeting<H: Threads + Drop>(
+        &mut self,
+        spawner: &mut Spawner<H>,
+        link: Link<P::In, P::Out>,
+    ) -> Result<(), Stop<P>>
+        ensures ok { OnOk result (spawner.new.faults ≡ spawner.old.faults) }
+        ensures err { IfErr result (λ stop. StopsAtStart spawner.old.faults spawner.new.faults stop) }
+    {
+        let shared = Arc::try_clone(&self.shared)?;
+        start(spawner, Greeting { shared, link })?;
+        self.greetings = self.greetings.saturating_add(1);
+        Ok(())
+    }
+
+    /// Starts the session that reads a link.
+    fn start_reading<H: Threads + Drop>(
+        &mut self,
+        spawner: &mut Spawner<H>,
+        reader: P::In,
+        greeted: ShortGreeted,
+        connection: Connection,
+        pass: NamedPass<Locked<D, C, W>, N>,
+    ) -> Result<(), Stop<P>>
+        ensures ok { OnOk result (spawner.new.faults ≡ spawner.old.faults) }
+        ensures err { IfErr result (λ stop. StopsAtStart spawner.old.faults spawner.new.faults stop) }
+    {
+        let shared = Arc::try_clone(&self.shared)?;
+        let session = Reading {
+            shared,
+            reader,
+            greeted,
+            connection,
+            pass,
+        };
+        start_choosing(self.shared.alloc, spawner, session)?;
+        self.sessions = self.sessions.saturating_add(1);
+        Ok(())
+    }
+
+    /// Starts the session that writes to a link.
+    fn start_writing<H: Threads + Drop>(
+        &mut self,
+        spawner: &mut Spawner<H>,
+        writer: P::Out,
+        conn: u32,
+        pass: NamedPass<Locked<D, C, W>, N>,
+    ) -> Result<(), Stop<P>>
+        ensures ok { OnOk result (spawner.new.faults ≡ spawner.old.faults) }
+        ensures err { IfErr result (λ stop. StopsAtStart spawner.old.faults spawner.new.faults stop) }
+    {
+        let shared = Arc::try_clone(&self.shared)?;
+        let session = Writing {
+            shared,
+            writer,
+            conn,
+            pass,
+        };
+        start(spawner, session)?;
+        self.sessions = self.sessions.saturating_add(1);
+        Ok(())
+    }
+
+    /// Writes down that a connection has a writer.
+    fn note_writer(&self, conn: u32) -> Result<(), Stop<P>>
+        ensures { (before : ℕ) (now : ℕ) → IfErr result (λ stop. StopsAtStart before now stop) }
+    {
+        match self.shared.writers.add(&self.shared.rt, conn) {
+            Ok(()) => Ok(()),
+            Err(_) => Err(Stop::OutOfMemory),
+        }
+    }
+
+    /// Starts the two sessions of a link that was admitted.
+    pub fn start_sessions<H: Threads + Drop>(
+        &mut self,
+        spawner: &mut Spawner<H>,
+        link: Link<P::In, P::Out>,
+        greeted: ShortGreeted,
+        number: u32,
+        passes: SessionPasses<Locked<D, C, W>, N>,
+    ) -> Result<(), Stop<P>>
+        ensures ok { OnOk result (spawner.new.faults ≡ spawner.old.faults) }
+        ensures err { IfErr result (λ stop. StopsAtStart spawner.old.faults spawner.new.faults stop) }
+    {
+        let Link {
+            channel,
+            reader,
+            writer,
+        } = link;
+        let SessionPasses { reading, writing } = passes;
+        let connection = Connection { number, channel };
+        self.start_reading(spawner, reader, greeted, connection, reading)?;
+        self.note_writer(number)?;
+        self.start_writing(spawner, writer, number, writing)
+    }
+}

@@ -1,0 +1,172 @@
+//! The two sessions of a link.
+
+ghost use Rattle.std.specs.Prelude.{All};
+ghost use Rattle.history_lock.specs.Names.{known};
+ghost use Rattle.zmtp_peer.specs.Limits.{IsShortMessage};
+ghost use Rattle.controller_threads.specs.Ends.{SessionCause};
+ghost use Rattle.controller_threads.specs.Passes.{IsSince};
+
+use crate::end::Halt;
+use crate::handed::{Handed, ShortGreeted};
+use crate::naming::Naming;
+use crate::passes::{Halted, NamedPass};
+use crate::port::Port;
+use crate::shared::Shared;
+use crate::starting::ChoosingJob;
+use controller_desk::locked::Locked;
+use disk_model::disk::Disk;
+use history_lock::lock::Pass;
+use load_schemes::chooser::Chooser;
+use session_threads::connection::Connection;
+use session_threads::end::SessionEnd;
+use session_threads::greeting::Greeted;
+use session_threads::reading::read_session;
+use session_threads::writing::write_session;
+use std::alloc::Global;
+use std::sync::{Arc, Wait};
+use thread_edges::clock::Clock;
+use thread_edges::gate::Gate;
+use thread_edges::spawner::Job;
+use thread_edges::words::Words;
+use zmtp_peer::peer::Peer;
+use zmtp_peer::phase::FramesList;
+
+/// Reads a link whose handshake is done.
+#[derive(Drop)]
+pub struct Reading<P: Port, D: Disk, C: Clock, W: Words, G, N: Naming, R> {
+    pub shared: Arc<Shared<P, D, C, W, G, N, R>, Global>,
+    pub reader: P::In,
+    pub greeted: ShortGreeted,
+    pub connection: Connection,
+    pub pass: NamedPass<Locked<D, C, W>, N>,
+}
+
+/// Writes to a link.
+#[derive(Drop)]
+pub struct Writing<P: Port, D: Disk, C: Clock, W: Words, G, N: Naming, R> {
+    pub shared: Arc<Shared<P, D, C, W, G, N, R>, Global>,
+    pub writer: P::Out,
+    pub conn: u32,
+    pub pass: NamedPass<Locked<D, C, W>, N>,
+}
+
+impl<
+    P: Port + Drop,
+    D: Disk + Drop,
+    C: Clock + Drop,
+    W: Words + Drop,
+    G: Gate + Drop,
+    N: Naming,
+    R: Wait + Drop,
+> Shared<P, D, C, W, G, N, R> {
+    /// Reads a link to its end.
+    fn read_link(
+        &self,
+        chooser: &Chooser,
+        reader: &mut P::In,
+        peer: Peer,
+        early: FramesList,
+        connection: Connection,
+        pass: &mut Pass<Locked<D, C, W>>,
+    ) -> SessionEnd
+        requires since { IsSince N.lock N.start pass.old }
+        requires short { All IsShortMessage early }
+        ensures since { IsSince N.lock N.start pass.new }
+        ensures cause { SessionCause result N.start (known pass.new).seen }
+    {
+        read_session(
+            &self.rt,
+            self.alloc,
+            reader,
+            peer,
+            early,
+            &self.desk,
+            pass,
+            chooser,
+            connection,
+            &self.key,
+            &*self.gate,
+        )
+    }
+
+    /// Writes to a link until its connection isn't live.
+    fn write_link(&self, writer: &mut P::Out, conn: u32, pass: &mut Pass<Locked<D, C, W>>)
+        requires since { IsSince N.lock N.start pass.old }
+        ensures since { IsSince N.lock N.start pass.new }
+    {
+        let _ = write_session(
+            &self.rt,
+            self.alloc,
+            writer,
+            &self.desk,
+            pass,
+            conn,
+            &self.key,
+            &*self.gate,
+        );
+    }
+
+    /// Hands over the pass of a session that ended.
+    fn hand_session(&self, end: SessionEnd, pass: Pass<Locked<D, C, W>>)
+        requires since { IsSince N.lock N.start pass }
+        requires cause { SessionCause end N.start (known pass).seen }
+    {
+        let handed = match end {
+            SessionEnd::HistoryFull { entries, bytes } => {
+                Handed::Halted(Halted::new(Halt::HistoryFull { entries, bytes }, pass))
+            }
+            _ => Handed::SessionEnded(NamedPass::new(pass)),
+        };
+        self.hand(handed);
+    }
+}
+
+impl<
+    P: Port + Drop,
+    D: Disk + Drop,
+    C: Clock + Drop,
+    W: Words + Drop,
+    G: Gate + Drop,
+    N: Naming,
+    R: Wait + Drop,
+> ChoosingJob for Reading<P, D, C, W, G, N, R> {
+    fn run(self, chooser: &Chooser) {
+        let Reading {
+            shared,
+            mut reader,
+            greeted,
+            connection,
+            pass,
+        } = self;
+        let ShortGreeted { greeted } = greeted;
+        let Greeted { peer, early, .. } = greeted;
+        let NamedPass { mut pass, of: _ } = pass;
+        let end = shared.read_link(chooser, &mut reader, peer, early, connection, &mut pass);
+        drop(reader);
+        shared.hand_session(end, pass);
+    }
+}
+
+impl<
+    P: Port + Drop,
+    D: Disk + Drop,
+    C: Clock + Drop,
+    W: Words + Drop,
+    G: Gate + Drop,
+    N: Naming,
+    R: Wait + Drop,
+> Job for Writing<P, D, C, W, G, N, R> {
+    fn run(self) {
+        let Writing {
+            shared,
+            mut writer,
+            conn,
+            pass,
+        } = self;
+        let NamedPass { mut pass, of: _ } = pass;
+        shared.write_link(&mut writer, conn, &mut pass);
+        drop(writer);
+        shared.writers.remove(&shared.rt, conn);
+        shared.hand(Handed::SessionEnded(NamedPass::new(pass)));
+    }
+}
