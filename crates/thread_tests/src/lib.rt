@@ -1,4 +1,4 @@
-//! Tests of the lock of a history, of the edges that threads share, of the sessions of a link, and of a controller. They stand in a crate
+//! Tests of the lock of a history, of the edges that threads share, and of the sessions of a link. They stand in a crate
 //! of their own since a crate that has tests is proved twice.
 #![tactic(auto)]
 
@@ -6,7 +6,5 @@
 mod links;
 #[cfg(test)]
 mod locks;
-#[cfg(test)]
-mod serving;
 #[cfg(test)]
 mod sessions;

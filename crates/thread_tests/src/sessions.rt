@@ -2,7 +2,7 @@
 ghost use Rattle.std.specs.Prelude.{◌≡◌, ◌<◌, ◌≤◌, ◌+◌, [], All, length};
 ghost use Rattle.std.specs.Vec.{vec_len, vec_capacity};
 ghost use Rattle.cluster_defs.specs.Scheduling.{pick};
-ghost use Rattle.history_lock.specs.Names.{IsIdle, lock_id, room_of};
+ghost use Rattle.history_lock.specs.Names.{IsIdle, lock_id};
 ghost use Rattle.zmtp_peer.specs.Limits.{IsShortMessage, IsShortIdentity};
 
 use cluster_store::store::Store;
@@ -28,12 +28,12 @@ use thread_edges::clock::ListClock;
 use thread_edges::gate::OpenGate;
 use thread_edges::words::ListWords;
 
-pub type Desked = Desk<MemDisk, ListClock, ListWords>;
+type Desked = Desk<MemDisk, ListClock, ListWords>;
 
-pub type Held = Locked<MemDisk, ListClock, ListWords>;
+type Held = Locked<MemDisk, ListClock, ListWords>;
 
 /// The greeting and the READY that both sides send.
-pub const OWN: &[u8] =
+const OWN: &[u8] =
     b"\xff\0\0\0\0\0\0\0\0\x7f\x03\0NULL\0\0\0\0\0\0\0\0\0\0\0\0\0\0\0\0\0\0\0\0\0\0\0\0\0\0\0\0\0\0\0\0\0\0\0\0\0\0\0\0\0\0\0\0\0\0\0\0\x04\x1c\x05READY\x0bSocket-Type\0\0\0\x06ROUTER";
 
 /// The registration of the engine `e0`, signed under the key `k`.
@@ -44,12 +44,12 @@ const CONFIG: Config = Config {
     scheme: Scheme::LeastLoad,
     hwm: 1,
     misses: 10,
-    entries: 100_000,
-    bytes: 10_000_000,
+    entries: 1000,
+    bytes: 1_000_000,
 };
 
 /// A chooser that places tasks as a controller does.
-pub fn new_chooser<R: Abort>(rt: &R, alloc: Global) -> Chooser {
+fn new_chooser<R: Abort>(rt: &R, alloc: Global) -> Chooser {
     let choose: Choose = Box::new(
         alloc,
         |scheme: Scheme, loads: &[u32], word: u64| -> usize
@@ -62,9 +62,8 @@ pub fn new_chooser<R: Abort>(rt: &R, alloc: Global) -> Chooser {
 }
 
 /// A desk over an empty disk, and its first pass.
-pub fn new_desk<R: Abort>(rt: &R, alloc: Global, chooser: &Chooser) -> (Desked, Pass<Held>)
-    ensures idle { IsIdle (lock_id result.0.lock) result.1 }
-    ensures room { 3 ≤ room_of result.1 }
+fn new_desk<R: Abort>(rt: &R, alloc: Global, chooser: &Chooser) -> (Desked, Pass<Held>)
+    ensures { IsIdle (lock_id result.0.lock) result.1 }
 {
     let disk = MemDisk::new(alloc, b"").expect(rt, "memory is ample");
     let Ok(store) = Store::open(alloc, disk, CONFIG, chooser, 0) else {
