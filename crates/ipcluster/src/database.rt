@@ -22,7 +22,7 @@ fn sync_folder(rt: &HostRuntime, path: &str) -> io::Result<()> {
 }
 
 /// Opens the file of a database for changes, and makes it where it isn't there. No other process may have it open.
-fn open_for_changes(rt: &HostRuntime, path: &str) -> io::Result<File> {
+pub fn open_for_changes(rt: &HostRuntime, path: &str) -> io::Result<File> {
     let file = match open(rt, path, true, false) {
         Err(error) if error.kind() == io::ErrorKind::NotFound => open(rt, path, true, true)?,
         opened => opened?,

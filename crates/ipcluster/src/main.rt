@@ -1,16 +1,19 @@
-//! A cluster controller: it serves tapes of recorded connections over a database.
+//! A cluster controller: it serves the engines and clients of a cluster over a database, or tapes of recorded connections.
 #![tactic(auto)]
 
+mod cluster;
 mod database;
 
 ghost use Rattle.std.specs.Prelude.{◌≡◌, ◌<◌, length};
 ghost use Rattle.cluster_defs.specs.Scheduling.{pick};
 
+use cluster::run_cluster;
 use cluster_types::config::Scheme;
 use cluster_types::message::WordList;
 use cluster_types::text::Text;
 use command_words::command::{Command, CommandError, command_of};
-use command_words::ending::Ending;
+use command_words::ending::{Ending, StandingEnding};
+use command_words::standing::standing_command_of;
 use database::open_database;
 use disk_model::disk::Disk;
 use disk_model::file::FileDisk;
@@ -19,10 +22,12 @@ use edges::sink::Sink;
 use edges::standard::{StdSink, StdSource};
 use load_schemes::chooser::Chooser;
 use load_schemes::place::place_of;
-use quick_commands::errors::tell;
 use quick_commands::quick::quick;
+use standing_commands::errors::tell;
 use std::alloc::AllocError;
 use std::process::ExitCode;
+use std::sync::Wait;
+use std::thread::Threads;
 use std::{env, io};
 
 /// Why there are no words.
@@ -66,12 +71,11 @@ fn ending_of(error: &WordsError) -> Ending {
     }
 }
 
-/// What the words ask for, or how the program ends where they have no reading.
-fn read(rt: &HostRuntime, words: &WordList) -> Result<Command, Ending> {
-    match command_of(rt.alloc(), words) {
-        Ok(command) => Ok(command),
-        Err(CommandError::Usage) => Err(Ending::Usage),
-        Err(CommandError::OutOfMemory) => Err(Ending::OutOfMemory),
+/// How the program ends where the words have no reading, or aren't read.
+fn ending_unread(error: CommandError) -> Ending {
+    match error {
+        CommandError::Usage => Ending::Usage,
+        CommandError::OutOfMemory => Ending::OutOfMemory,
     }
 }
 
@@ -105,26 +109,51 @@ fn run_over<E: Sink, D: Disk + Drop>(
     Ok(status)
 }
 
-/// Does what the words ask for, over the database that they name, or over a disk in memory where they name none.
-fn run<E: Sink>(rt: &HostRuntime, errors: &mut E) -> Result<u8, Ending> {
-    let words = match words_of(rt) {
-        Ok(words) => words,
-        Err(error) => return Err(ending_of(&error)),
-    };
-    let command = read(rt, &words)?;
-    match open_database(rt, &command) {
-        Ok(Some(file)) => run_over(rt, &words, errors, FileDisk::new(file)),
+/// Does what a command asks for that ends by itself, over the database that it names, or over a disk in memory where it
+/// names none.
+fn run_quick<E: Sink>(
+    rt: &HostRuntime,
+    words: &WordList,
+    command: &Command,
+    errors: &mut E,
+) -> Result<u8, Ending> {
+    match open_database(rt, command) {
+        Ok(Some(file)) => run_over(rt, words, errors, FileDisk::new(file)),
         Ok(None) => match MemDisk::new(rt.alloc(), b"") {
-            Ok(disk) => run_over(rt, &words, errors, disk),
+            Ok(disk) => run_over(rt, words, errors, disk),
             Err(_) => Err(Ending::OutOfMemory),
         },
         Err(_) => Err(Ending::DiskFault),
     }
 }
 
+/// Does what the words ask for.
+fn run<H: Threads + Wait + Drop + Copy + Send + Sync + 'static, E: Sink>(
+    rt: HostRuntime,
+    handle: H,
+    errors: &mut E,
+) -> Result<u8, StandingEnding> {
+    let words = match words_of(&rt) {
+        Ok(words) => words,
+        Err(error) => return Err(StandingEnding::Plain(ending_of(&error))),
+    };
+    let status = match command_of(rt.alloc(), &words) {
+        Ok(command) => run_quick(&rt, &words, &command, errors),
+        Err(CommandError::Usage) => match standing_command_of(rt.alloc(), &words) {
+            Ok(command) => return run_cluster(rt, handle, &words, &command, errors),
+            Err(error) => Err(ending_unread(error)),
+        },
+        Err(error) => Err(ending_unread(error)),
+    };
+    match status {
+        Ok(status) => Ok(status),
+        Err(ending) => Err(StandingEnding::Plain(ending)),
+    }
+}
+
 fn main(rt: HostRuntime) -> ExitCode {
     let mut errors = StdSink::new(rt.stderr());
-    match run(&rt, &mut errors) {
+    match run(rt, rt, &mut errors) {
         Ok(status) => ExitCode::from(status),
         Err(ending) => ExitCode::from(tell(&mut errors, ending)),
     }

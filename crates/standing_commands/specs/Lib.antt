@@ -1,0 +1,3 @@
+pub mod Commands
+pub mod Links
+pub mod Serving
