@@ -62,6 +62,12 @@ abbrev pub answer : Bool → ℕ → Option Sending → Taken
 answer live mark (Some s) = if nat_le (kept_end s.0) mark then Hands s.1 else NothingYet
 answer live mark None = if live then NothingYet else Closed
 
+-- a take answers anything but that there is none yet
+abbrev pub is_news : Taken → Bool
+is_news (Hands out) = true
+is_news NothingYet = false
+is_news Closed = true
+
 abbrev pub one_more : Taken → ℕ → ℕ
 one_more (Hands out) told = suc told
 one_more NothingYet told = told

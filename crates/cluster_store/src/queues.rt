@@ -3,6 +3,7 @@
 ghost use Rattle.std.specs.Prelude.{◌≡◌, ◌≤◌, ◌<◌, ◌+◌, ◌==◌, ℕ, [], ◌∷◌, ◌++◌, length, not, if◌then◌else◌, OnOk};
 ghost use Rattle.cluster_defs.specs.Outs.{conn_of, outs_on};
 ghost use Rattle.cluster_store.specs.Queues.{left_at, room_at, released, after, handed, waits, is_none_left};
+ghost use Rattle.cluster_store.specs.Stores.{is_news};
 
 use crate::taken::Taken;
 use crate::waiting::{Line, Waiting};
@@ -111,6 +112,16 @@ impl Queues {
             Some(out) => Taken::Out(out),
             None if live || !is_empty => Taken::NothingYet,
             None => Taken::Closed,
+        }
+    }
+
+    /// Whether `hand_out` would answer anything but that there is none yet.
+    pub fn has_news(&self, conn: u32, mark: u64, live: bool) -> bool
+        ensures { result ≡ is_news (handed live (is_none_left (after mark (left_at self.now conn))) (released mark (left_at self.now conn))) }
+    {
+        match self.lines.get(&conn) {
+            Some(line) => line.has_news(mark, live),
+            None => !live,
         }
     }
 }

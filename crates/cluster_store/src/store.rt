@@ -19,7 +19,7 @@ ghost use Rattle.cluster_store.specs.Openings.{opened};
 ghost use Rattle.cluster_store.specs.Queues.{left_at, room_at, waits, need_after};
 ghost use Rattle.cluster_core.specs.Steps.{kept_from};
 ghost use Rattle.cluster_core.specs.Size.{size_since, is_past};
-ghost use Rattle.cluster_store.specs.Stores.{StoreView, Becomes, told, up_to, IsRefused, IsTaken, IsLeft, HasServed, WhyUnserved, IsRefusedFor, answer, is_live, next_to, told_by, fulls_by, written};
+ghost use Rattle.cluster_store.specs.Stores.{StoreView, Becomes, told, up_to, IsRefused, IsTaken, IsLeft, HasServed, WhyUnserved, IsRefusedFor, answer, is_live, is_news, next_to, told_by, fulls_by, written};
 
 use crate::fault::{ServeError, StepError};
 use crate::queues::Queues;
@@ -436,6 +436,13 @@ impl<D: Disk> Store<D> {
     {
         let live = self.is_live(conn);
         self.queues.hand_out(conn, self.mark, live)
+    }
+
+    /// Whether `take_out` would answer anything but that there is none yet.
+    pub fn has_news(&self, conn: u32) -> bool
+        ensures { result ≡ is_news (answer (is_live self.now.history conn) self.now.mark (next_to self.now conn)) }
+    {
+        self.queues.has_news(conn, self.mark, self.is_live(conn))
     }
 
     /// A store over a journal and the core that has made the steps of the journal's list again. It takes the step of an

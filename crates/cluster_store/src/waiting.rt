@@ -2,7 +2,8 @@
 
 ghost use Rattle.std.specs.Prelude.{◌≡◌, ◌≤◌, ◌<◌, ◌+◌, [], ◌∷◌, ◌++◌, OnOk};
 ghost use Rattle.std.specs.Option.{is_some};
-ghost use Rattle.cluster_store.specs.Queues.{LineView, released, after, is_none_left};
+ghost use Rattle.cluster_store.specs.Queues.{LineView, released, after, handed, is_none_left};
+ghost use Rattle.cluster_store.specs.Stores.{is_news};
 
 use cluster_types::out::Out;
 use std::alloc::{AllocError, Global};
@@ -97,5 +98,15 @@ impl Line {
         ensures { result ≡ is_none_left self.now.outs }
     {
         self.outs.is_empty()
+    }
+
+    /// Whether a take answers anything but that there is none yet, where the connection is live or not.
+    pub fn has_news(&self, mark: u64, live: bool) -> bool
+        ensures { result ≡ is_news (handed live (is_none_left (after mark self.now.outs)) (released mark self.now.outs)) }
+    {
+        match self.outs.front() {
+            Some(waiting) => waiting.need <= mark,
+            None => !live,
+        }
     }
 }

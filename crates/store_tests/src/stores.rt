@@ -182,7 +182,10 @@ fn does<R: Abort>(
         }
         Act::Down(conn) => enter(rt, store, chooser, down(conn)),
         Act::Flush(answer) => store.flush() == answer,
-        Act::Take(conn, answer) => is_answer(&store.take_out(conn), answer),
+        Act::Take(conn, answer) => {
+            store.has_news(conn) == (answer != Answer::NothingYet)
+                && is_answer(&store.take_out(conn), answer)
+        }
     }
 }
 
