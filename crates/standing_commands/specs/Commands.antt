@@ -1,5 +1,5 @@
 -- How the commands end that are about a cluster at its ports.
-use Rattle.std.specs.Prelude.{◌≡◌, ◌≤◌, ◌×◌, ◌⊎◌, ℕ, List, true, Option}
+use Rattle.std.specs.Prelude.{◌≡◌, ◌≤◌, ◌⊎◌, ℕ, List, true, Option}
 use Rattle.cluster_types.specs.Limits.{most_entries}
 use Rattle.command_words.specs.Lines.{standing_line}
 use Rattle.command_words.specs.declared.command.ReplayOptions.{ReplayOptions}

@@ -1,5 +1,5 @@
 -- How the commands over a link end, and what shows it.
-use Rattle.std.specs.Prelude.{◌≡◌, ◌×◌, ℕ, true, false, List, Option}
+use Rattle.std.specs.Prelude.{◌≡◌, ℕ, true, false, List, Option}
 use Rattle.command_words.specs.declared.ending.Ending.TheVariants as plain
 use Rattle.command_words.specs.declared.ending.StandingEnding.{StandingEnding}
 use Rattle.command_words.specs.declared.ending.StandingEnding.TheVariants as endings

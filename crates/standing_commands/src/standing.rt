@@ -1,6 +1,6 @@
 //! The top call of the commands that are about a cluster at its ports.
 
-ghost use Rattle.std.specs.Prelude.{◌≡◌, ◌⊎◌, ◌×◌, None, IfSome};
+ghost use Rattle.std.specs.Prelude.{◌≡◌, ◌⊎◌, None, IfSome};
 ghost use Rattle.cluster_types.specs.Causes.{Rose};
 ghost use Rattle.command_words.specs.Lines.{standing_status};
 ghost use Rattle.command_words.specs.declared.ending.StandingEnding.{StandingEnding as EndingType};
