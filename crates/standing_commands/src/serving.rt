@@ -148,8 +148,7 @@ pub fn serve_cluster<
     ensures { ServeEnds D.tells D.image (record { content = D.content; disk_faults = D.faults; lock = lock_of; links = L.links; port_faults = L.faults }) disk options.now (record { before = spawner.old.faults; now = spawner.new.faults }) result }
 {
     let Ok(key) = Key::new(alloc, options.key.as_slice()) else {
-        let ending = StandingEnding::Plain(Ending::OutOfMemory);
-        return (ending, Shown::Disk(disk));
+        return (StandingEnding::Plain(Ending::OutOfMemory), Shown::Nothing);
     };
     let mut clock = clock;
     let moment = clock.now().millis;
