@@ -1,9 +1,8 @@
 -- A message that means something on its connection.
-use Rattle.std.proofs.Common.{◌≡◌, ℕ, List, Option, Some, None, Result, Ok, Err, IfOk, refl, sym, ap, ◌∙◌, subst}
+use Rattle.std.proofs.Common.{◌≡◌, ℕ, Some, Result, Ok, Err, IfOk, sym, ap, ◌∙◌}
 use Rattle.std.specs.Prelude.{option_map}
 use Rattle.cluster_types.specs.declared.config.Channel.{Channel}
 use Rattle.cluster_types.specs.declared.message.Message.{Message}
-use Rattle.cluster_types.specs.declared.event.Event.{Event}
 use Rattle.cluster_types.specs.declared.event.Reason.{Reason}
 use Rattle.cluster_types.specs.declared.entry.Input.TheVariants.{In}
 use Rattle.cluster_intake.specs.declared.understood.Understood.{Understood}
@@ -15,7 +14,7 @@ use Rattle.controller_desk.specs.declared.acted.Acted.{Acted}
 use Rattle.controller_desk.specs.declared.acted.Acted.TheVariants.{Entered, Junk, Gone}
 use Rattle.controller_desk.specs.declared.fault.ActError.{ActError}
 use Rattle.controller_desk.specs.Calls.{HasTried, HasActed}
-use Rattle.controller_desk.specs.Readings.{event_read, heard, IsHeard}
+use Rattle.controller_desk.specs.Readings.{event_read, IsHeard}
 
 pub is_heard : (history : History) (conn : ℕ) (channel : Channel) (message : Message) (meaning : Result Understood Reason) (u : Understood) → channel_on (facts history).connections conn ≡ Some channel →
     event_read meaning ≡ event_of channel message → meaning ≡ Ok u → IsHeard history conn message

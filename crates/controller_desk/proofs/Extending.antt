@@ -1,8 +1,7 @@
 -- What a store stands for goes on in each call.
-use Rattle.std.proofs.Common.{◌≡◌, ℕ, zero, suc, ◌+◌, ◌-◌, ◌≤◌, ◌<◌, ◌^◌, ◌==◌, min, List, [], ◌∷◌, ◌++◌, length, take, Bool, true, false, ◌||◌, Option, Some, None, Result, Ok, Err, refl, sym, ap, ◌∙◌, subst, arith, get_or, le_refl, le_of_eq, length-append, append_assoc, if◌then◌else◌}
+use Rattle.std.proofs.Common.{◌≡◌, ℕ, zero, suc, ◌+◌, ◌-◌, ◌≤◌, ◌<◌, ◌^◌, ◌==◌, min, List, [], ◌∷◌, ◌++◌, length, take, Bool, true, false, ◌||◌, Result, Ok, Err, refl, sym, ap, ◌∙◌, subst, arith, le_refl, le_of_eq, length-append, append_assoc, if◌then◌else◌}
 use Rattle.std.specs.Prelude.{OnOk, OnErr, is_err, ◌↔◌}
 use Rattle.std.specs.List.{list_any}
-use Rattle.cluster_types.specs.Causes.{Rose}
 use Rattle.cluster_types.specs.declared.config.Channel.{Channel}
 use Rattle.cluster_types.specs.declared.message.Message.{Message}
 use Rattle.cluster_types.specs.declared.entry.Input.{Input as InputType}
@@ -17,7 +16,6 @@ use Rattle.cluster_store.specs.declared.taken.Taken.TheVariants.{Out as Hands, N
 use Rattle.cluster_store.specs.Stores.{StoreView, Becomes, told, told_by, one_more}
 use Rattle.task_journal.specs.declared.fault.AppendFault.{AppendFault}
 use Rattle.task_journal.specs.declared.fault.AppendFault.TheVariants as appends
-use Rattle.history_lock.specs.declared.known.Content.{Content}
 use Rattle.history_lock.specs.declared.known.View.{View}
 use Rattle.history_lock.specs.History.{is_open_entry, Rises, Extends}
 use Rattle.history_lock.specs.Rule.{without_turn, with_turn, added_by}

@@ -1,5 +1,5 @@
 -- The identity of a connection has 1 to 255 octets.
-use Rattle.std.proofs.Common.{◌≡◌, ℕ, zero, suc, ◌+◌, ◌<◌, ◌^◌, List, length, true, false, cond, refl, arith}
+use Rattle.std.proofs.Common.{◌≡◌, ℕ, zero, suc, ◌<◌, ◌^◌, List, length, true, false, cond, refl, arith}
 use Rattle.std.specs.Prelude.{decimal, codes, ◌==◌}
 use Rattle.std.proofs.lemmas.Bool.{eqb-false}
 use Rattle.std.proofs.lemmas.Fmt.{length-decimal-le}

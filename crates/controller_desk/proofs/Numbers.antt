@@ -1,8 +1,8 @@
 -- The connections of one opening, behind a step.
-use Rattle.std.proofs.Common.{◌≡◌, ℕ, zero, suc, ◌+◌, ◌-◌, ◌<◌, ◌≤◌, ◌^◌, ◌==◌, List, [], ◌∷◌, ◌++◌, length, Bool, true, false, ◌&&◌, ◌||◌, not, refl, sym, ap, ◌∙◌, subst, arith, Option, Some, None}
-use Rattle.std.specs.Prelude.{find, filter, option_map, nat_lt, if◌then◌else◌}
+use Rattle.std.proofs.Common.{◌≡◌, ℕ, suc, ◌+◌, ◌<◌, ◌≤◌, ◌^◌, ◌==◌, List, [], ◌∷◌, ◌++◌, length, Bool, true, false, ◌&&◌, ◌||◌, not, refl, sym, ap, ◌∙◌, arith, Some, None}
+use Rattle.std.specs.Prelude.{filter, nat_lt, if◌then◌else◌}
 use Rattle.std.specs.List.{list_any}
-use Rattle.std.specs.Option.{is_none, is_some}
+use Rattle.std.specs.Option.{is_none}
 use Rattle.std.proofs.lemmas.Bool.{ltb-false, ne_eqb, eq-eqb, eqb-true}
 use Rattle.cluster_types.specs.declared.entry.Input.{Input as InputType}
 use Rattle.cluster_types.specs.declared.entry.Input.TheVariants.{Open, Up, Down, In, Beat, Time}
@@ -11,13 +11,12 @@ use Rattle.cluster_types.specs.declared.entry.Entry.TheVariants.{Input, Hand, Se
 use Rattle.cluster_defs.specs.declared.connection.Connection.{Connection}
 use Rattle.cluster_defs.specs.Connections.{connection_on}
 use Rattle.cluster_defs.specs.Scheduling.{due}
-use Rattle.cluster_defs.specs.Histories.{History, facts, decide_all}
+use Rattle.cluster_defs.specs.Histories.{History, facts}
 use Rattle.cluster_defs.specs.Lives.{is_open}
 use Rattle.cluster_defs.specs.Runs.{Decided}
 use Rattle.cluster_defs.proofs.Says.{due_says}
 use Rattle.cluster_core.specs.declared.size.HistorySize.{HistorySize}
 use Rattle.cluster_core.specs.Size.{next_since, since_open, size_since, is_past}
-use Rattle.cluster_store.proofs.Fits.{decides_to}
 use Rattle.controller_desk.specs.Calls.{is_input}
 use Rattle.controller_desk.specs.Ups.{ups, numbered, ups_after, HasNextNumber}
 

@@ -1,10 +1,8 @@
 -- A store for a desk, behind a step that was taken.
-use Rattle.std.proofs.Common.{◌≡◌, ℕ, ◌+◌, ◌≤◌, ◌<◌, ◌^◌, List, [], ◌∷◌, ◌++◌, length, Bool, true, false, refl, sym, ap, ◌∙◌, subst, arith}
-use Rattle.std.specs.List.{list_any}
+use Rattle.std.proofs.Common.{◌≡◌, ℕ, ◌+◌, ◌≤◌, ◌<◌, ◌^◌, ◌∷◌, length, false, sym, ap, ◌∙◌, subst, arith}
 use Rattle.cluster_types.specs.declared.config.Scheme.{Scheme}
 use Rattle.cluster_types.specs.declared.entry.Input.{Input as InputType}
 use Rattle.cluster_types.specs.declared.entry.Input.TheVariants.{Open}
-use Rattle.cluster_types.specs.declared.entry.Entry.{Entry}
 use Rattle.cluster_types.specs.declared.entry.Entry.TheVariants.{Input}
 use Rattle.cluster_defs.specs.Histories.{History, facts, decide_all}
 use Rattle.cluster_defs.specs.Lives.{is_open}
@@ -12,7 +10,7 @@ use Rattle.cluster_core.specs.declared.size.HistorySize.{HistorySize}
 use Rattle.cluster_core.specs.Size.{since_open, size_since, is_past}
 use Rattle.cluster_store.specs.Stores.{StoreView, Becomes, told, IsTaken, IsTooLong}
 use Rattle.cluster_store.proofs.Fits.{decides_to}
-use Rattle.controller_desk.specs.Calls.{is_input, behind, HasStepped}
+use Rattle.controller_desk.specs.Calls.{behind, HasStepped}
 use Rattle.controller_desk.specs.Ups.{ups, numbered, ups_after, HasNextNumber, IsSet}
 use Rattle.controller_desk.proofs.Numbers.{no_inputs, same_ups, ups_behind, numbered_behind, begun_behind, counts_first, counts_all, counted_within}
 use Rattle.controller_desk.proofs.Short.{short_enough}

@@ -1,5 +1,5 @@
 -- What the calls of a desk make of its store.
-use Rattle.std.specs.Prelude.{◌≡◌, ◌≢◌, ◌↔◌, ◌≤◌, ◌<◌, ◌+◌, ◌-◌, ◌^◌, min, ℕ, suc, List, [], ◌∷◌, ◌++◌, length, Bool, true, false, Result, Ok, Err, Some, None, is_err, OnOk, OnErr}
+use Rattle.std.specs.Prelude.{◌≡◌, ◌≢◌, ◌↔◌, ◌≤◌, ◌<◌, ◌+◌, ◌-◌, ◌^◌, min, ℕ, suc, List, ◌∷◌, ◌++◌, length, Bool, true, false, Result, Ok, Err, Some, None, is_err, OnOk, OnErr}
 use Rattle.std.specs.List.{list_any}
 use Rattle.cluster_types.specs.Causes.{Rose}
 use Rattle.cluster_types.specs.declared.config.Channel.{Channel}

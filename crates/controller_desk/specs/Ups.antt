@@ -2,7 +2,7 @@
 use Rattle.std.specs.Prelude.{◌≡◌, ◌≤◌, ◌<◌, ◌+◌, ◌^◌, ◌==◌, ◌&&◌, ⊤, ℕ, suc, Bool, true, List, [], ◌∷◌, ◌++◌, length, decimal, codes, if◌then◌else◌}
 use Rattle.cluster_types.specs.declared.config.Channel.{Channel}
 use Rattle.cluster_types.specs.declared.entry.Input.{Input as InputType}
-use Rattle.cluster_types.specs.declared.entry.Input.TheVariants.{Open, Up, Down, In, Beat, Time}
+use Rattle.cluster_types.specs.declared.entry.Input.TheVariants.{Open, Up}
 use Rattle.cluster_types.specs.declared.entry.Entry.TheVariants.{Input}
 use Rattle.cluster_defs.specs.Histories.{History, facts}
 use Rattle.cluster_core.specs.Size.{since_open}

@@ -54,7 +54,8 @@ impl<D: Disk + Drop, C: Clock + Drop, W: Words + Drop> Desk<D, C, W> {
         ensures room { IfOk result (λ r. room_of r.1 + 1 ≡ 4096) }
         ensures known { IfOk result (λ r. known r.1 ≡ without_turn whole (content_of D.faults store) []) }
     {
-        let (lock, pass) = HistoryLock::new(alloc, Locked::new(store, clock, random), PASSES)?;
+        let locked = Locked::new(alloc, store, clock, random)?;
+        let (lock, pass) = HistoryLock::new(alloc, locked, PASSES)?;
         Ok((Desk { lock }, pass))
     }
 

@@ -1,6 +1,6 @@
 //! What stands behind the lock of a desk.
 
-ghost use Rattle.std.specs.Prelude.{◌≡◌, ◌<◌, ℕ, None, length, filter};
+ghost use Rattle.std.specs.Prelude.{◌≡◌, ◌<◌, ℕ, None, length, filter, IfOk};
 ghost use Rattle.cluster_defs.specs.Scheduling.{due};
 ghost use Rattle.cluster_defs.specs.Histories.{facts, Legal, is_stopping};
 ghost use Rattle.cluster_store.specs.Stores.{StoreView};
@@ -22,6 +22,7 @@ use cluster_types::entry::Input;
 use disk_model::disk::Disk;
 use history_lock::known::Keeps;
 use load_schemes::chooser::Chooser;
+use std::alloc::{AllocError, Global};
 use std::marker::Model;
 use task_journal::fault::AppendFault;
 use thread_edges::clock::Clock;
@@ -30,7 +31,8 @@ use thread_edges::words::Words;
 /// A store with what its steps draw on. Contracts see the store.
 #[derive(Drop)]
 pub struct Locked<D: Disk, C: Clock, W: Words> {
-    store: Store<D>,
+    /// In a block of its own, since the lock moves its value at each turn.
+    store: Box<Store<D>, Global>,
     clock: C,
     words: W,
     /// The number of the last connection that came up since the last Open, 0 before the first.
@@ -44,9 +46,9 @@ impl<D: Disk, C: Clock, W: Words> Model for Locked<D, C, W> {
 
     ghost Value = { StoreView D };
 
-    ghost view = { λ l. l.store };
+    ghost view = { λ l. l.store.value };
 
-    ghost invariant = { λ l. IsSet l.store × (l.last ≡ ups l.store.history) };
+    ghost invariant = { λ l. IsSet l.store.value × (l.last ≡ ups l.store.value.history) };
 }
 
 impl<D: Disk, C: Clock, W: Words> Keeps for Locked<D, C, W> {
@@ -55,21 +57,31 @@ impl<D: Disk, C: Clock, W: Words> Keeps for Locked<D, C, W> {
     ghost content = { λ l. content_of D.faults l };
 }
 
-impl<D: Disk, C: Clock + Drop, W: Words + Drop> Locked<D, C, W> {
+impl<D: Disk + Drop, C: Clock + Drop, W: Words + Drop> Locked<D, C, W> {
     /// A store that no connection came up on since the last Open.
-    pub fn new(store: Store<D>, clock: C, words: W) -> Locked<D, C, W>
+    pub fn new(
+        alloc: Global,
+        store: Store<D>,
+        clock: C,
+        words: W,
+    ) -> Result<Locked<D, C, W>, AllocError>
         requires set { IsSet store }
         requires fresh { ups store.history ≡ 0 }
-        ensures { result ≡ store }
+        ensures { IfOk result (λ l. l ≡ store) }
     {
-        Locked {
+        let Ok(store) = Box::new(alloc, store) else {
+            return Err(AllocError);
+        };
+        Ok(Locked {
             store,
             clock,
             words,
             last: 0,
-        }
+        })
     }
+}
 
+impl<D: Disk, C: Clock + Drop, W: Words + Drop> Locked<D, C, W> {
     /// The history is legal, and no decision is due.
     pub fn rest(&self)
         ensures legal { Legal self.now.history }
@@ -179,6 +191,6 @@ impl<D: Disk, C: Clock + Drop, W: Words + Drop> Locked<D, C, W> {
         ensures { result ≡ self }
     {
         let Locked { store, .. } = self;
-        store
+        Box::into_inner(store)
     }
 }

@@ -1,4 +1,4 @@
-use Rattle.std.proofs.Common.{◌≡◌, ◌<◌, List, ℕ, ap, sym, subst}
+use Rattle.std.proofs.Common.{sym, subst}
 use Rattle.record_codec.specs.Spelling.{IsName}
 use Rattle.controller_desk.proofs.Named.{named}
 use Rattle.controller_desk.proofs.Numbers.{next_is_free}

@@ -1,5 +1,4 @@
-use Rattle.std.proofs.Common.{◌∷◌, ◌∙◌, ap, subst, Err}
-use Rattle.cluster_types.specs.declared.entry.Entry.TheVariants.{Input}
+use Rattle.std.proofs.Common.{subst}
 use Rattle.cluster_store.specs.declared.fault.StepError.{StepError}
 use Rattle.cluster_store.specs.declared.fault.StepError.TheVariants.{BatchFull}
 use Rattle.cluster_store.specs.Stores.{IsRefused}

@@ -1,7 +1,11 @@
-use Rattle.std.proofs.Common.{ℕ, ◌<◌, ◌^◌, subst}
+use Rattle.std.proofs.Common.{ℕ, ◌<◌, ◌^◌, subst, ◌≡◌, ◌∙◌, ap}
+use Rattle.cluster_store.specs.Stores.{StoreView}
 use Rattle.controller_desk.specs.Turns.{GoesOn}
 use Rattle.controller_desk.proofs.Extending.{closed_on}
 use Rattle.controller_desk.proofs.locked.Locked.close_conn.Goals as goal
 
 pub returns-clause-on : goal.returns-clause-on
-returns-clause-on g c = subst (λ v. GoesOn g.D.Disk.faults v c.close_on.new.store) c.self.view_is (closed_on g.D.Disk.faults c.self.inside.store c.now-moment.result.millis c.next-word.result c.args.conn c.close_on.result c.close_on.new.store (subst (λ (n : ℕ). n < 2 ^ 64) c.fulls-fulls.ensures c.fulls-fulls.type_inv) c.close_on.ensures.closed)
+returns-clause-on g c =
+    let same : c.deref_mut.result.now ≡ c.self.inside.store.value = search in
+    let looked : c.deref.result.now ≡ c.deref_mut.result.now = search in
+    subst (λ v. GoesOn g.D.Disk.faults v c.close_on.new.store) (same ∙ c.self.view_is) (closed_on g.D.Disk.faults c.deref_mut.result.now c.now-moment.result.millis c.next-word.result c.args.conn c.close_on.result c.close_on.new.store (subst (λ (n : ℕ). n < 2 ^ 64) (c.fulls-fulls.ensures ∙ ap (λ (v : StoreView g.row.D.Denot). v.fulls) looked) c.fulls-fulls.type_inv) c.close_on.ensures.closed)
