@@ -1,1 +1,4 @@
+mod Memory
 mod Ranges
+mod Saying
+mod Usage

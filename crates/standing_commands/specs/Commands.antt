@@ -1,18 +1,16 @@
 -- How the commands end that are about a cluster at its ports.
 use Rattle.std.specs.Prelude.{◌≡◌, ◌≤◌, ◌⊎◌, ℕ, List, true, Option}
 use Rattle.cluster_types.specs.Limits.{most_entries}
-use Rattle.command_words.specs.Lines.{standing_line}
 use Rattle.command_words.specs.declared.command.ReplayOptions.{ReplayOptions}
 use Rattle.command_words.specs.declared.ending.Ending.TheVariants as plain
 use Rattle.command_words.specs.declared.ending.StandingEnding.{StandingEnding}
-use Rattle.command_words.specs.declared.ending.StandingEnding.TheVariants.{Plain, NotOk}
+use Rattle.command_words.specs.declared.ending.StandingEnding.TheVariants.{Plain}
 use Rattle.command_words.specs.declared.standing.StandingCommand.{StandingCommand}
 use Rattle.command_words.specs.declared.standing.StandingCommand.TheVariants.{Serve, Engine, Client}
 use Rattle.engine_core.specs.State.{is_uuid}
 use Rattle.history_lock.specs.declared.known.Content.{Content}
 use Rattle.history_lock.specs.Names.{LockId}
 use Rattle.link_commands.specs.Links.{Tells}
-use Rattle.quick_commands.specs.Written.{Said}
 use Rattle.standing_commands.specs.declared.shown.Shown.{Shown}
 use Rattle.standing_commands.specs.declared.shown.Shown.TheVariants.{Disk}
 use Rattle.standing_commands.specs.Links.{WorksAs, AsksAs}
@@ -23,12 +21,6 @@ abbrev pub IsInRange : StandingCommand → Type 0
 IsInRange (Serve host port database options) = options.entries ≤ most_entries
 IsInRange (Engine host port uuid key) = is_uuid uuid ≡ true
 IsInRange (Client host port action key) = Unit {0}
-
--- the line of an end is written to the errors, and nothing where all was done or an answer was printed
-abbrev pub SaysEnd : StandingEnding → (before now : Option (List ℕ)) → (faults later : ℕ) → Type 0
-SaysEnd (Plain plain.Done) before now faults later = now ≡ before
-SaysEnd NotOk before now faults later = now ≡ before
-SaysEnd end before now faults later = Said (standing_line end) before now faults later
 
 -- a count before a call, and after it
 pub record Counted : Type 0 where

@@ -1,5 +1,5 @@
 -- How a controller ends that serves over a database, and what shows it.
-use Rattle.std.specs.Prelude.{◌≡◌, ◌≤◌, ◌⊎◌, ℕ, List, Option, Some, None}
+use Rattle.std.specs.Prelude.{◌≡◌, ◌≤◌, ℕ, List, Option, Some, None}
 use Rattle.std.specs.Arc.{arc_value}
 use Rattle.std.specs.declared.sync.Arc.{Arc}
 use Rattle.cluster_store.specs.Openings.{IsOpened, Exits, WhyNot}
@@ -50,7 +50,7 @@ pub record IsBegun (tells : Type 0) (content : List ℕ) (faults : ℕ) (options
 abbrev pub no_memory : {P I O D K T : Type 0} → StandingEnding × Shown P I O D K T
 no_memory = (endings.Plain plain.OutOfMemory, Nothing)
 
-module _ {P I O D K T A B : Type 0} where
+module _ {P I O D K T : Type 0} where
   -- no database was opened: the disk is handed back, and shows why; a crash leaves of it what opening may leave
   pub record IsUnopened (tells : Type 0) (content : D → List ℕ) (image : D → List ℕ → Type 0) (faults : D → ℕ) (disk : D) (options : ReplayOptions) (result : StandingEnding × Shown P I O D K T) : Type 0 where
     pub left : D
@@ -62,6 +62,7 @@ module _ {P I O D K T A B : Type 0} where
     pub exits : tells → Exits (image disk) (content disk) (config_of options) moment (image left)
     pub cause : why ≡ refusals.DiskFault → Rose (faults disk) (faults left)
 
+module _ {P I O D K T A B : Type 0} where
   -- a controller served over a desk, which stood for this when it began, until an end with its cause, which is shown
   pub record EndsOver (lock : K → LockId) (links : P → Option (List (A × B))) (faults : P → ℕ) (start : Content) (before now : ℕ) (result : StandingEnding × Shown P I O D K T) : Type 0 where
     pub desk : K

@@ -2,10 +2,11 @@
 
 ghost use Rattle.std.specs.Prelude.{◌≡◌, ◌⊎◌, None, IfSome};
 ghost use Rattle.cluster_types.specs.Causes.{Rose};
-ghost use Rattle.command_words.specs.Lines.{standing_status};
+ghost use Rattle.command_words.specs.Lines.{standing_line, standing_status};
 ghost use Rattle.command_words.specs.declared.ending.StandingEnding.{StandingEnding as EndingType};
 ghost use Rattle.command_words.specs.Standing.{standing_reading};
-ghost use Rattle.standing_commands.specs.Commands.{By, IsInRange, SaysEnd, Unread};
+ghost use Rattle.quick_commands.specs.Written.{Said};
+ghost use Rattle.standing_commands.specs.Commands.{By, IsInRange, Unread};
 ghost use Rattle.standing_commands.specs.Serving.{lock_of};
 
 use crate::errors::tell;
@@ -161,16 +162,12 @@ pub fn standing<
     // Where the words have no reading the disk is handed back, and nothing is written to the output.
     ensures unread { standing_reading words.now ≡ None → ((result.0 ≡ 2) × (result.1 ≡ Shown.Disk disk) ⊎ (result.0 ≡ 8)) × (K.written output.new ≡ K.written output.old) × (N.links dialer.new ≡ N.links dialer.old) }
     // Else the status is that of an end that the command may come to, with what shows it, and the line of this end is written to the errors.
-    ensures ended { IfSome (standing_reading words.now) (λ c. (e : EndingType) × (result.0 ≡ standing_status e) × SaysEnd e (E.written errors.old) (E.written errors.new) (E.faults errors.old) (E.faults errors.new) × By D.tells D.image (record { content = D.content; disk_faults = D.faults; lock = lock_of; links = L.links; port_faults = L.faults }) disk (record { before = spawner.old.faults; now = spawner.new.faults }) (record { left = N.In.left; reads = N.In.faults; written = N.Out.written; writes = N.Out.faults }) (record { before = N.links dialer.old; now = N.links dialer.new }) (Rose (N.faults dialer.old) (N.faults dialer.new)) (W.coming random) (record { before = K.written output.old; now = K.written output.new }) (Rose (K.faults output.old) (K.faults output.new)) c (e, result.1)) }
+    ensures ended { IfSome (standing_reading words.now) (λ c. (e : EndingType) × (result.0 ≡ standing_status e) × Said (standing_line e) (E.written errors.old) (E.written errors.new) (E.faults errors.old) (E.faults errors.new) × By D.tells D.image (record { content = D.content; disk_faults = D.faults; lock = lock_of; links = L.links; port_faults = L.faults }) disk (record { before = spawner.old.faults; now = spawner.new.faults }) (record { left = N.In.left; reads = N.In.faults; written = N.Out.written; writes = N.Out.faults }) (record { before = N.links dialer.old; now = N.links dialer.new }) (Rose (N.faults dialer.old) (N.faults dialer.new)) (W.coming random) (record { before = K.written output.old; now = K.written output.new }) (Rose (K.faults output.old) (K.faults output.new)) c (e, result.1)) }
     ensures usage { result.0 ≡ 2 → standing_reading words.now ≡ None }
-    ensures says { (e : EndingType) × (result.0 ≡ standing_status e) × SaysEnd e (E.written errors.old) (E.written errors.new) (E.faults errors.old) (E.faults errors.new) }
+    ensures says { (e : EndingType) × (result.0 ≡ standing_status e) × Said (standing_line e) (E.written errors.old) (E.written errors.new) (E.faults errors.old) (E.faults errors.new) }
 {
     let (ending, shown) = run(
         rt, alloc, words, ports, dialer, disk, clock, random, spawner, gate, output, &chooser,
     );
-    match ending {
-        StandingEnding::Plain(Ending::Done) => (0, shown),
-        StandingEnding::NotOk => (1, shown),
-        _ => (tell(errors, ending), shown),
-    }
+    (tell(errors, ending), shown)
 }

@@ -1,0 +1,35 @@
+use Rattle.std.proofs.Common.{◌+◌, ◌<◌, ◌^◌, ap, inl, inr, reverse, subst, arith}
+use Rattle.cluster_store.specs.Openings.{Exits}
+use Rattle.cluster_types.specs.declared.config.Config.{Config}
+use Rattle.command_words.specs.declared.ending.Ending.{Ending}
+use Rattle.command_words.specs.declared.ending.StandingEnding.TheVariants.{Plain}
+use Rattle.controller_desk.proofs.Taking.{set_opened}
+use Rattle.standing_commands.specs.declared.shown.Shown.TheVariants.{Disk}
+use Rattle.standing_commands.proofs.serving.serve_cluster.Goals as goal
+
+pub serve_store-requires-clause-set : goal.serve_store-requires-clause-set
+serve_store-requires-clause-set g c κs bounds =
+    let le = c.requires in
+    let entries : c.in-Ok-open.store.limits.entries + 1 < 2 ^ 32 = rw c.in-Ok-open.ensures.limits (rw c.config_of.ensures.config (omega (arith, le))) in
+    let bytes : c.in-Ok-open.store.limits.bytes < 2 ^ 32 = rw c.in-Ok-open.ensures.limits c.config_of.ensures.short in
+    (set_opened c.in-Ok-open.store (reverse c.in-Ok-open.ensures.history.list) c.now-moment.result.millis _ _ _ c.in-Ok-open.ensures.history.is c.in-Ok-open.ensures.mark entries bytes).0
+
+pub serve_store-requires-clause-fresh : goal.serve_store-requires-clause-fresh
+serve_store-requires-clause-fresh g c κs bounds =
+    let le = c.requires in
+    let entries : c.in-Ok-open.store.limits.entries + 1 < 2 ^ 32 = rw c.in-Ok-open.ensures.limits (rw c.config_of.ensures.config (omega (arith, le))) in
+    let bytes : c.in-Ok-open.store.limits.bytes < 2 ^ 32 = rw c.in-Ok-open.ensures.limits c.config_of.ensures.short in
+    (set_opened c.in-Ok-open.store (reverse c.in-Ok-open.ensures.history.list) c.now-moment.result.millis _ _ _ c.in-Ok-open.ensures.history.is c.in-Ok-open.ensures.mark entries bytes).1
+
+pub returns-in-Err : goal.returns-in-Err
+returns-in-Err g c =
+    inr (inl (record {
+      left = c.in-Err.field-0.disk;
+      why = c.in-Err.field-0.why;
+      moment = c.now-moment.result.millis;
+      is = ap (λ (e : Ending). (Plain e, Disk c.in-Err.field-0.disk)) c.ending_of_refusal.ensures;
+      refused = λ tells. c.in-Err.ensures.refused tells;
+      spared = λ tells. c.in-Err.ensures.spared tells;
+      exits = λ tells. subst (λ (config : Config). Exits (g.D.Disk.image c.args.disk) (g.D.Disk.content c.args.disk) config c.now-moment.result.millis (g.D.Disk.image c.in-Err.field-0.disk)) c.config_of.ensures.config (c.in-Err.ensures.exits tells);
+      cause = λ fault. c.in-Err.ensures.cause fault;
+    }))
