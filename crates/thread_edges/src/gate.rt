@@ -25,11 +25,26 @@ pub enum Point {
 }
 
 /// A gate holds threads at points, each on its connection, which is 0 where there is none.
+///
+/// A thread that waits for something takes the count of `wakes`, then looks whether it is there, and else waits with that
+/// count. Who brings it calls `wake` after that. So no wake is lost: one that comes after the count was taken ends the wait,
+/// and what was brought before that is seen by the look.
 pub trait Gate {
-    /// Passes this point on this connection, and may wait before.
+    /// Passes this point on this connection, and may be held before.
     fn pass<R: Wait>(&self, rt: &R, point: Point, conn: u32);
 
-    /// Wakes whoever waits at this point on this connection, or else the next one who would. Waits for nobody.
+    /// A count that each wake at this point on this connection raises. Waits for nobody.
+    fn wakes(&self, _point: Point, _conn: u32) -> u64 {
+        0
+    }
+
+    /// Passes this point on this connection, and waits before until somebody wakes there, unless somebody did since `wakes`
+    /// gave this count. It may end for no reason.
+    fn wait<R: Wait>(&self, rt: &R, point: Point, conn: u32, _wakes: u64) {
+        self.pass(rt, point, conn);
+    }
+
+    /// Wakes all who wait at this point on this connection. Waits for nobody.
     fn wake(&self, point: Point, conn: u32);
 }
 

@@ -14,7 +14,7 @@ use std::thread::Threads;
 use std::time::Duration;
 use std::{io, time};
 use thread_edges::clock::{Clock, ListClock};
-use thread_edges::event_gate::EventGate;
+use thread_edges::event_gate::{EventGate, IDLE_MILLIS};
 use thread_edges::gate::{Gate, HoldGate, OpenGate, Point};
 use thread_edges::links::{Accepted, Dialer, Listener};
 use thread_edges::memory::{Links, MemDialer, MemListener};
@@ -143,17 +143,18 @@ fn gates(rt: HostRuntime) {
     assert!(rt; gate.gave_up());
 }
 
-/// Passes a gate.
+/// Waits at a gate, on the connection 1.
 #[derive(Drop)]
 struct Sleeper<R: Wait + time::Clock + Drop> {
     rt: R,
     gate: Arc<EventGate<R>, Global>,
     point: Point,
+    wakes: u64,
 }
 
 impl<R: Wait + time::Clock + Drop> Job for Sleeper<R> {
     fn run(self) {
-        self.gate.pass(&self.rt, self.point, 4_097);
+        self.gate.wait(&self.rt, self.point, 1, self.wakes);
     }
 }
 
@@ -162,14 +163,31 @@ fn event_gate(rt: HostRuntime) {
     let gate = EventGate::new(rt.alloc(), rt).expect(&rt, "memory is ample");
     let gate = Arc::new(rt.alloc(), gate).expect(&rt, "memory is ample");
     let mut spawner = Spawner::beside(rt.alloc(), rt).expect(&rt, "memory is ample");
+    let mut clock = SystemClock::new(rt);
+    let start = clock.now().millis;
     for point in [Point::Accepted, Point::Read, Point::Idle, Point::Flush] {
+        let wakes = gate.wakes(point, 1);
         let gate = Arc::try_clone(&gate).expect(&rt, "memory is ample");
         gate.wake(point, 4_097);
         spawner
-            .run_beside(Sleeper { rt, gate, point })
+            .run_beside(Sleeper {
+                rt,
+                gate,
+                point,
+                wakes,
+            })
             .expect(&rt, "a job");
     }
     spawner.join_all(&rt);
+    assert!(rt; clock.now().millis < start.saturating_add(IDLE_MILLIS));
+    assert_eq!(rt;
+        (gate.wakes(Point::Idle, 1), gate.wakes(Point::Idle, 2)),
+        (1, 0)
+    );
+    assert_eq!(rt;
+        (gate.wakes(Point::Flush, 0), gate.wakes(Point::Read, 1)),
+        (1, 0)
+    );
 }
 
 /// The link, where there is one.
