@@ -12,7 +12,7 @@ use Rattle.cluster_defs.specs.Histories.{History, facts, decide_all}
 use Rattle.cluster_core.specs.declared.size.HistorySize.{HistorySize}
 use Rattle.cluster_core.specs.Size.{size_since, is_past}
 use Rattle.cluster_store.specs.declared.taken.Taken.{Taken}
-use Rattle.cluster_store.specs.Stores.{StoreView, Becomes, told, answer, is_live, next_to, told_by}
+use Rattle.cluster_store.specs.Stores.{StoreView, Becomes, told, answer, is_live, is_news, next_to, told_by}
 use Rattle.task_journal.specs.declared.fault.AppendFault.{AppendFault}
 use Rattle.task_journal.specs.declared.fault.AppendFault.TheVariants as appends
 use Rattle.controller_desk.specs.declared.acted.Acted.{Acted}
@@ -98,6 +98,10 @@ HasClosed old moment word conn (Err e) new = (is_live old.history conn ≡ true)
 pub record HasTaken {D : Type 0} (old : StoreView D) (conn : ℕ) (taken : Taken) (new : StoreView D) : Type 0 where
   pub answered : taken ≡ answer (is_live old.history conn) old.mark (next_to old conn)
   pub becomes : Becomes old old.history (told_by taken conn (told old)) old.fulls new
+
+-- a take for a connection would answer anything but that there is none yet
+abbrev pub has_news : {D : Type 0} → StoreView D → ℕ → Bool
+has_news v conn = is_news (answer (is_live v.history conn) v.mark (next_to v conn))
 
 -- a flush: all is safe, or the mark stays
 pub record HasFlushed {A D : Type 0} (faults : D → ℕ) (old : StoreView D) (result : Result A AppendFault) (new : StoreView D) : Type 0 where

@@ -1,6 +1,6 @@
 //! The calls of threads. Each but those on passes is one turn at the lock.
 
-ghost use Rattle.std.specs.Prelude.{◌≡◌, ◌<◌, ◌+◌, ◌↔◌, ◌≤◌, ℕ, [], Err, None, false, length, slice_index, IfOk, IfSome, IsSome, IsErr, OnOk, OnErr};
+ghost use Rattle.std.specs.Prelude.{◌≡◌, ◌<◌, ◌+◌, ◌↔◌, ◌≤◌, ℕ, [], Err, None, false, length, slice_index, IfOk, IfSome, IsSome, IsErr, OnOk, OnErr, filter};
 ghost use Rattle.cluster_types.specs.Causes.{Rose};
 ghost use Rattle.cluster_defs.specs.Scheduling.{due};
 ghost use Rattle.cluster_defs.specs.Histories.{facts, Legal, is_stopping};
@@ -9,7 +9,7 @@ ghost use Rattle.record_codec.specs.Spelling.{IsShort};
 ghost use Rattle.history_lock.specs.History.{Extends, merged};
 ghost use Rattle.history_lock.specs.Rule.{without_turn, whole, split_kept, split_given};
 ghost use Rattle.history_lock.specs.Names.{known, lock_of, room_of, lock_id, IsIdle};
-ghost use Rattle.controller_desk.specs.Calls.{HasTried, HasActed, HasOpened, HasClosed, HasTaken, HasFlushed};
+ghost use Rattle.controller_desk.specs.Calls.{HasTried, HasActed, HasOpened, HasClosed, HasTaken, HasFlushed, has_news};
 ghost use Rattle.controller_desk.specs.Contents.{content_of};
 ghost use Rattle.controller_desk.specs.Turns.{InTurn};
 ghost use Rattle.controller_desk.specs.Ups.{IsSet, ups};
@@ -204,6 +204,24 @@ impl<D: Disk + Drop, C: Clock + Drop, W: Words + Drop> Desk<D, C, W> {
         locked.rest();
         self.lock.leave(pass, locked);
         result
+    }
+
+    /// Keeps those of these connections for which `take_out` would have answered, in this turn, anything but that there is
+    /// none yet. It takes no memory.
+    pub fn keep_news<R: Wait>(&self, rt: &R, pass: &mut Pass<Locked<D, C, W>>, conns: &mut Vec<u32>)
+        requires idle { IsIdle (lock_id self.now.lock) pass.old }
+        ensures idle { IsIdle (lock_id self.now.lock) pass.new }
+        ensures room { room_of pass.new ≡ room_of pass.old }
+        ensures turn { (store : StoreView D) × InTurn D.faults (known pass.old) store store (known pass.new)
+            × (conns.new.items ≡ filter (has_news store) conns.old.items) }
+        ensures later { Extends (known pass.old).seen (known pass.new).seen }
+        ensures added { (known pass.new).added ≡ (known pass.old).added }
+        ensures rests { Legal (known pass.new).seen.list × (due (facts (known pass.new).seen.list) ≡ None) }
+    {
+        let locked = self.lock.enter(rt, pass);
+        locked.keep_news(conns);
+        locked.rest();
+        self.lock.leave(pass, locked);
     }
 
     /// Whether a shutdown was asked since the last Open.

@@ -1,6 +1,6 @@
 //! The calls over a store that is lent to them: each takes one step, or none.
 
-ghost use Rattle.std.specs.Prelude.{◌≡◌, ◌≤◌, ◌<◌, ⊤, ◌∷◌, suc, true, false, Ok, Err, Some, IfOk, OnOk, OnErr, length};
+ghost use Rattle.std.specs.Prelude.{◌≡◌, ◌≤◌, ◌<◌, ⊤, ◌∷◌, suc, true, false, Ok, Err, Some, IfOk, OnOk, OnErr, length, filter};
 ghost use Rattle.cluster_types.specs.Limits.{last_moment};
 ghost use Rattle.cluster_types.specs.declared.entry.Entry.{Entry};
 ghost use Rattle.cluster_defs.specs.Facts.{event_in};
@@ -10,7 +10,7 @@ ghost use Rattle.cluster_defs.specs.Lives.{is_open};
 ghost use Rattle.entry_outs.specs.Asked.{type_on, told_type};
 ghost use Rattle.record_codec.specs.Spelling.{IsWithinLimits, IsShort};
 ghost use Rattle.cluster_store.specs.Stores.{StoreView};
-ghost use Rattle.controller_desk.specs.Calls.{HasTried, HasActed, HasOpened, HasClosed, HasTaken, HasFlushed};
+ghost use Rattle.controller_desk.specs.Calls.{HasTried, HasActed, HasOpened, HasClosed, HasTaken, HasFlushed, has_news};
 ghost use Rattle.controller_desk.specs.Ups.{IsSet, HasNextNumber, ups, ups_after, numbered_identity, identity_or_number, up_of};
 
 use crate::acted::Acted;
@@ -281,6 +281,13 @@ pub fn take_on<D: Disk>(store: &mut Store<D>, conn: u32) -> Taken
     ensures set { IsSet store.old → IsSet store.new }
 {
     store.take_out(conn)
+}
+
+/// Keeps those of these connections for which `take_on` would answer anything but that there is none yet.
+pub fn keep_news_on<D: Disk>(store: &Store<D>, conns: &mut Vec<u32>)
+    ensures { conns.new.items ≡ filter (has_news store.now) conns.old.items }
+{
+    conns.retain(|conn| store.has_news(*conn));
 }
 
 /// Whether a shutdown was asked since the last Open.

@@ -1,17 +1,19 @@
 //! What stands behind the lock of a desk.
 
-ghost use Rattle.std.specs.Prelude.{◌≡◌, ◌<◌, ℕ, None, length};
+ghost use Rattle.std.specs.Prelude.{◌≡◌, ◌<◌, ℕ, None, length, filter};
 ghost use Rattle.cluster_defs.specs.Scheduling.{due};
 ghost use Rattle.cluster_defs.specs.Histories.{facts, Legal, is_stopping};
 ghost use Rattle.cluster_store.specs.Stores.{StoreView};
 ghost use Rattle.record_codec.specs.Spelling.{IsShort};
-ghost use Rattle.controller_desk.specs.Calls.{HasTried, HasActed, HasOpened, HasClosed, HasTaken, HasFlushed};
+ghost use Rattle.controller_desk.specs.Calls.{HasTried, HasActed, HasOpened, HasClosed, HasTaken, HasFlushed, has_news};
 ghost use Rattle.controller_desk.specs.Turns.{GoesOn};
 ghost use Rattle.controller_desk.specs.Ups.{IsSet, ups};
 
 use crate::acted::Acted;
 use crate::fault::ActError;
-use crate::lent::{act_on, beat_on, close_on, flush_on, open_on, stopping_on, take_on, time_on};
+use crate::lent::{
+    act_on, beat_on, close_on, flush_on, keep_news_on, open_on, stopping_on, take_on, time_on,
+};
 use crate::reading::Reading;
 use cluster_store::store::Store;
 use cluster_store::taken::Taken;
@@ -158,6 +160,12 @@ impl<D: Disk, C: Clock + Drop, W: Words + Drop> Locked<D, C, W> {
         ensures on { GoesOn D.faults self.old self.new }
     {
         take_on(&mut self.store, conn)
+    }
+
+    pub fn keep_news(&self, conns: &mut Vec<u32>)
+        ensures { conns.new.items ≡ filter (has_news self.now) conns.old.items }
+    {
+        keep_news_on(&self.store, conns);
     }
 
     pub fn stopping(&self) -> bool
