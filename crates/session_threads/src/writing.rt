@@ -32,7 +32,8 @@ fn pass_wrote<R: Wait, G: Gate>(rt: &R, gate: &G, conn: u32, outs: usize) {
 /// Writes the outs of a connection, in their order, until it isn't live and none is left. All outs that may be handed out
 /// are written at once, up to some octets.
 ///
-/// It passes the gate at `Wrote` for each out, after it was written, and at `Idle` where there is nothing to write yet.
+/// It passes the gate at `Wrote` for each out, after it was written. Where there is nothing to write yet it waits at `Idle`
+/// until it is woken, unless it was since it began to look.
 pub fn write_session<R: Wait, K: Sink, D: Disk + Drop, C: Clock + Drop, W: Words + Drop, G: Gate>(
     rt: &R,
     alloc: Global,
@@ -54,6 +55,7 @@ pub fn write_session<R: Wait, K: Sink, D: Disk + Drop, C: Clock + Drop, W: Words
     ensures rests { Rests (known pass.new).seen }
 {
     for _ in rt.forever() {
+        let wakes = gate.wakes(Point::Idle, conn);
         let batch = match take_batch(rt, alloc, desk, pass, conn, key) {
             Ok(batch) => batch,
             Err(AllocError) => return SessionEnd::OutOfMemory,
@@ -65,7 +67,7 @@ pub fn write_session<R: Wait, K: Sink, D: Disk + Drop, C: Clock + Drop, W: Words
         pass_wrote(rt, gate, conn, batch.outs);
         match batch.end {
             BatchEnd::Full => {}
-            BatchEnd::NothingYet => gate.pass(rt, Point::Idle, conn),
+            BatchEnd::NothingYet => gate.wait(rt, Point::Idle, conn, wakes),
             BatchEnd::Closed => return SessionEnd::Closed,
         }
     }
