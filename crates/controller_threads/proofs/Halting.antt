@@ -1,7 +1,7 @@
 -- Why a desk halts its controller.
 use Rattle.std.proofs.Common.{◌≡◌, ℕ, suc, ◌≤◌, List, [], ◌∷◌, ◌++◌, Bool, true, false, ◌||◌, ◌&&◌, Result, Ok, Err, refl, sym, ap, subst, arith, le_refl}
 use Rattle.std.proofs.lemmas.Bool.Decides.{nat_tests}
-use Rattle.std.specs.Prelude.{IfErr}
+use Rattle.std.specs.Prelude.{Option, Some, None, IfErr, IfSome}
 use Rattle.std.specs.List.{list_any}
 use Rattle.cluster_types.specs.Causes.{Rose}
 use Rattle.cluster_types.specs.declared.config.Channel.{Channel}
@@ -91,6 +91,10 @@ halt_later halts.Stopping start a b cause on = still_stopping a b on cause
 halt_later halts.DiskFault start a b cause on = risen_later (faults_seen start) (faults_seen a) (faults_seen b) cause (on.counts 0)
 halt_later (halts.HistoryFull entries bytes) start a b cause on =
     and_both _ _ (risen_later (fulls_seen start) (fulls_seen a) (fulls_seen b) (and_left _ _ cause) (on.counts 2)) (and_right (has_risen (fulls_seen start) (fulls_seen a)) _ cause)
+
+pub halts_later : (halt : Option Halt) (start a b : Content) → IfSome halt (λ h. HaltCause h start a) → Extends a b → IfSome halt (λ h. HaltCause h start b)
+halts_later None start a b cause on = tt
+halts_later (Some halt) start a b cause on = halt_later halt start a b cause on
 
 -- CALLS
 

@@ -23,13 +23,14 @@ use load_schemes::chooser::Chooser;
 use std::alloc::Global;
 use std::sync::{Arc, Wait};
 use std::thread::Threads;
+use std::time::Duration;
 use thread_edges::clock::Clock;
-use thread_edges::gate::{Gate, Point};
+use thread_edges::gate::Gate;
 use thread_edges::spawner::Spawner;
 use thread_edges::words::Words;
 
-/// How often the gate is passed before a controller stops, so that the writers come to write.
-const LAST_TURNS: u32 = 40;
+/// How many milliseconds the writers have before a controller stops.
+const LAST_MILLIS: u64 = 200;
 
 /// What the caller of `serve` has.
 #[derive(Drop)]
@@ -213,11 +214,9 @@ where
     }
 
     /// Lets the writers write what was flushed before a shutdown.
-    fn give_writers_turns(&self, halt: Halt) {
+    fn let_writers_write(&self, halt: Halt) {
         if halt == Halt::Stopping {
-            for _ in 0..LAST_TURNS {
-                self.shared.gate.pass(&self.shared.rt, Point::Idle, 0);
-            }
+            self.shared.rest(Duration::from_millis(LAST_MILLIS));
         }
     }
 
@@ -226,7 +225,7 @@ where
         requires { HaltCause halt N.start (known self.pass).seen }
         ensures { (before : ℕ) (now : ℕ) → EndCause N.lock N.start P.links P.faults before now result }
     {
-        self.give_writers_turns(halt);
+        self.let_writers_write(halt);
         let Caller {
             shared,
             mut pass,

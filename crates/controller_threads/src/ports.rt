@@ -23,7 +23,7 @@ pub struct EndedPort<P: Port> {
 }
 
 /// A port that has ended.
-pub fn ended_port<P: Port>(port: P) -> EndedPort<P>
+pub(crate) fn ended_port<P: Port>(port: P) -> EndedPort<P>
     requires { HasNoLink P.links port }
 {
     EndedPort { port }
@@ -34,7 +34,7 @@ pub type EndedPorts<P> = Ports<Option<EndedPort<P>>>;
 
 impl<P: Port + Drop> Ports<Option<EndedPort<P>>> {
     /// None yet.
-    pub fn none() -> EndedPorts<P> {
+    pub(crate) fn none() -> EndedPorts<P> {
         Ports {
             hub: None,
             task: None,
@@ -44,7 +44,7 @@ impl<P: Port + Drop> Ports<Option<EndedPort<P>>> {
     }
 
     /// Puts a port to those that have ended.
-    pub fn put(&mut self, channel: Channel, port: EndedPort<P>) {
+    pub(crate) fn put(&mut self, channel: Channel, port: EndedPort<P>) {
         match channel {
             Channel::Hub => self.hub = Some(port),
             Channel::Task => self.task = Some(port),

@@ -24,6 +24,7 @@ use load_schemes::chooser::Chooser;
 use std::alloc::Global;
 use std::sync::atomic::{AtomicU64, Ordering};
 use std::sync::{Arc, Wait};
+use std::time::Duration;
 use thread_edges::clock::Clock;
 use thread_edges::gate::{Gate, Point};
 use thread_edges::words::Words;
@@ -57,15 +58,22 @@ impl<
         self.queue.put(&self.rt, handed);
     }
 
-    /// Lets the workers end, which flush once more before.
+    /// Lets the workers end, which flush once more before, and wakes all writers.
     pub fn end_workers(&self) {
         self.ending.store(1, Ordering::SeqCst);
         self.gate.wake(Point::Flush, 0);
+        self.writers.wake_all(&self.rt, &*self.gate);
     }
 
     /// Whether the workers are to end.
     pub fn is_ending(&self) -> bool {
         self.ending.load(Ordering::SeqCst) != 0
+    }
+
+    /// Waits for so long.
+    pub fn rest(&self, time: Duration) {
+        let unwoken = AtomicU64::new(0);
+        unwoken.park_timeout(&self.rt, 0, time);
     }
 
     /// A pass of its own for a job. `None` where no more may come from this one.
@@ -91,7 +99,7 @@ impl<
         self.desk.join(pass, other);
     }
 
-    /// Brings a connection up.
+    /// Brings a connection up, and wakes who flushes.
     pub fn open_conn(
         &self,
         pass: &mut Pass<Locked<D, C, W>>,
@@ -104,8 +112,11 @@ impl<
         ensures since { IsSince N.lock N.start pass.new }
         ensures cause { IfErr result (λ e. RefusalCause e N.start (known pass.new).seen) }
     {
-        self.desk
-            .open_conn(&self.rt, pass, chooser, channel, identity)
+        let opened = self
+            .desk
+            .open_conn(&self.rt, pass, chooser, channel, identity);
+        self.gate.wake(Point::Flush, 0);
+        opened
     }
 
     /// Flushes what is entered, before the controller ends. Where that fails what wasn't flushed is as if it never came.

@@ -2,6 +2,7 @@
 
 ghost use Rattle.std.specs.Prelude.{◌≡◌, true, Err, IfErr, IfSome};
 ghost use Rattle.history_lock.specs.declared.known.Content.{Content};
+ghost use Rattle.history_lock.specs.History.{Extends};
 ghost use Rattle.history_lock.specs.Names.{known};
 ghost use Rattle.controller_threads.specs.Ends.{HaltCause, RefusalCause};
 ghost use Rattle.controller_threads.specs.Passes.{IsSince};
@@ -13,6 +14,7 @@ use crate::passes::{Halted, NamedPass};
 use crate::port::Port;
 use crate::shared::Shared;
 use crate::starting::ChoosingJob;
+use crate::writers::wake_each;
 use controller_desk::fault::ActError;
 use controller_desk::locked::Locked;
 use disk_model::disk::Disk;
@@ -102,7 +104,7 @@ impl<
     }
 
     /// Waits for its turn, and does once what recurs.
-    fn recur(
+    fn take_turn(
         &self,
         pass: &mut Pass<Locked<D, C, W>>,
         chooser: &Chooser,
@@ -122,6 +124,22 @@ impl<
                 self.time(pass, chooser)
             }
         }
+    }
+
+    /// Waits for its turn, does once what recurs, and wakes who flushes.
+    fn recur(
+        &self,
+        pass: &mut Pass<Locked<D, C, W>>,
+        chooser: &Chooser,
+        rhythm: Rhythm,
+    ) -> Option<Halt>
+        requires since { IsSince N.lock N.start pass.old }
+        ensures since { IsSince N.lock N.start pass.new }
+        ensures cause { IfSome result (λ halt. HaltCause halt N.start (known pass.new).seen) }
+    {
+        let halt = self.take_turn(pass, chooser, rhythm);
+        self.gate.wake(Point::Flush, 0);
+        halt
     }
 
     /// Does what recurs until no links are left.
@@ -144,31 +162,67 @@ impl<
         unreachable!()
     }
 
-    /// Flushes once, and wakes the writers. What was entered before a shutdown is then flushed too.
-    fn flush(&self, pass: &mut Pass<Locked<D, C, W>>) -> Option<Halt>
+    /// Flushes once. What was entered before a shutdown is then flushed too.
+    fn flush_entered(&self, pass: &mut Pass<Locked<D, C, W>>) -> Option<Halt>
         requires since { IsSince N.lock N.start pass.old }
         ensures since { IsSince N.lock N.start pass.new }
         ensures cause { IfSome result (λ halt. HaltCause halt N.start (known pass.new).seen) }
     {
         let is_stopping = self.desk.stopping(&self.rt, pass);
         let flushed = self.desk.flush(&self.rt, pass);
-        self.writers.wake_all(&self.rt, &*self.gate);
         halt_after(flushed, is_stopping)
+    }
+
+    /// Keeps those of these connections for which there is something to take, or which aren't live.
+    fn keep_news(&self, pass: &mut Pass<Locked<D, C, W>>, conns: &mut Vec<u32>)
+        requires since { IsSince N.lock N.start pass.old }
+        ensures since { IsSince N.lock N.start pass.new }
+        ensures later { Extends (known pass.old).seen (known pass.new).seen }
+    {
+        self.desk.keep_news(&self.rt, pass, conns);
+    }
+
+    /// Wakes the writers that have something to write, or whose connection isn't live. Where there is no memory for a list of
+    /// the writers it wakes all.
+    fn wake_writers(&self, pass: &mut Pass<Locked<D, C, W>>, conns: &mut Vec<u32>)
+        requires since { IsSince N.lock N.start pass.old }
+        ensures since { IsSince N.lock N.start pass.new }
+        ensures later { Extends (known pass.old).seen (known pass.new).seen }
+    {
+        if self.writers.copy_into(&self.rt, conns).is_err() {
+            self.writers.wake_all(&self.rt, &*self.gate);
+        }
+        self.keep_news(pass, conns);
+        wake_each(&*self.gate, conns.as_slice());
+    }
+
+    /// Flushes once, and wakes the writers that then have something to write. `conns` is a buffer.
+    fn flush(&self, pass: &mut Pass<Locked<D, C, W>>, conns: &mut Vec<u32>) -> Option<Halt>
+        requires since { IsSince N.lock N.start pass.old }
+        ensures since { IsSince N.lock N.start pass.new }
+        ensures cause { IfSome result (λ halt. HaltCause halt N.start (known pass.new).seen) }
+    {
+        let halt = self.flush_entered(pass);
+        self.wake_writers(pass, conns);
+        halt
     }
 
     /// Flushes until no links are left, and once more.
     fn keep_flushing(&self, mut pass: Pass<Locked<D, C, W>>) -> Handed<P, Locked<D, C, W>, N>
         requires { IsSince N.lock N.start pass }
     {
+        let mut conns = Vec::new(self.alloc);
+        self.gate.pass(&self.rt, Point::Flush, 0);
         for _ in self.rt.forever() {
-            self.gate.pass(&self.rt, Point::Flush, 0);
+            let wakes = self.gate.wakes(Point::Flush, 0);
             let is_last = self.is_ending();
-            if let Some(halt) = self.flush(&mut pass) {
+            if let Some(halt) = self.flush(&mut pass, &mut conns) {
                 return Handed::Halted(Halted::new(halt, pass));
             }
             if is_last {
                 return Handed::WorkerEnded(NamedPass::new(pass));
             }
+            self.gate.wait(&self.rt, Point::Flush, 0, wakes);
         }
         unreachable!()
     }

@@ -27,11 +27,22 @@ impl Writers {
         self.conns.lock(rt).retain(|other| *other != conn);
     }
 
-    /// Wakes each writer that has nothing to write.
+    /// Writes these connections into a list, in place of what it has. Where there is no memory for it, it is left empty.
+    pub fn copy_into<R: Wait>(&self, rt: &R, list: &mut Vec<u32>) -> Result<(), AllocError> {
+        list.clear();
+        list.extend_from_slice(self.conns.lock(rt).as_slice())?;
+        Ok(())
+    }
+
+    /// Wakes each writer.
     pub fn wake_all<R: Wait, G: Gate>(&self, rt: &R, gate: &G) {
-        let conns = self.conns.lock(rt);
-        for conn in conns.as_slice() {
-            gate.wake(Point::Idle, *conn);
-        }
+        wake_each(gate, self.conns.lock(rt).as_slice());
+    }
+}
+
+/// Wakes the writers of these connections.
+pub fn wake_each<G: Gate>(gate: &G, conns: &[u32]) {
+    for conn in conns {
+        gate.wake(Point::Idle, *conn);
     }
 }

@@ -3,7 +3,7 @@ use Rattle.history_lock.specs.Names.{known}
 use Rattle.session_threads.proofs.Turns.{turn_later}
 use Rattle.controller_threads.proofs.Halting.{flush_cause, still_stopping}
 use Rattle.controller_threads.proofs.Seeing.{named, extends_of, since_later}
-use Rattle.controller_threads.proofs.shared.Shared.flush.Goals as goal
+use Rattle.controller_threads.proofs.shared.Shared.flush_entered.Goals as goal
 
 pub returns-clause-since : goal.returns-clause-since
 returns-clause-since g c =
