@@ -10,6 +10,7 @@ use atomic_table::{Refused, Table};
 use std::alloc::{AllocError, Global};
 use std::snapshot::Snapshot;
 use std::sync::Wait;
+use std::sync::atomic::{AtomicU64, Ordering};
 use thiserror::Error;
 
 /// A seat at the table of a lock.
@@ -22,6 +23,8 @@ type Inner<T> = Table<Option<T>, View, Snapshot<T>, Turns<T>, Global>;
 #[derive(Drop)]
 pub struct HistoryLock<T: Keeps> {
     table: Inner<T>,
+    /// How many threads wait for the turn, or are about to.
+    waiting: AtomicU64,
     ghost sized: { (table.shared.table_id.words ≡ 1) × (table.shared.table_id.slots ≡ 1) },
 }
 
@@ -63,7 +66,10 @@ impl<T: Keeps + Drop> HistoryLock<T> {
         slots.push_reserved(Some(value));
         match Table::new(alloc, &[0], slots, &key) {
             Ok((table, seat)) => Ok((
-                HistoryLock { table },
+                HistoryLock {
+                    table,
+                    waiting: AtomicU64::new(0),
+                },
                 Pass {
                     seat,
                     room: passes - 1,
@@ -102,9 +108,17 @@ impl<T: Keeps + Drop> HistoryLock<T> {
             if let Some(value) = self.take(&mut pass.seat) {
                 return value;
             }
-            self.table.shared.park(rt, 0, 1);
+            self.wait(rt);
         }
         unreachable!()
+    }
+
+    /// Waits while another pass has the turn. It is counted before it looks at the turn once more, and who gives up the turn
+    /// looks at the count behind that: so one of the two sees the other, and no wake is lost.
+    fn wait<R: Wait>(&self, rt: &R) {
+        self.waiting.fetch_add(1, Ordering::SeqCst);
+        self.table.shared.park(rt, 0, 1);
+        self.waiting.fetch_sub(1, Ordering::SeqCst);
     }
 
     /// Puts the value back, and gives up the turn. The pass has seen this value, and has added what it gained.
@@ -119,7 +133,9 @@ impl<T: Keeps + Drop> HistoryLock<T> {
         let shared = &self.table.shared;
         drop(shared.exchange(&mut pass.seat, 0, Some(value)));
         shared.swap::<GiveUpTurn>(&mut pass.seat, 0, 0);
-        shared.wake_one(0);
+        if self.waiting.load(Ordering::SeqCst) != 0 {
+            shared.wake_one(0);
+        }
     }
 
     /// Makes a pass with a room of its own, which has seen the same and has added nothing. It takes the room
@@ -171,7 +187,7 @@ impl<T: Keeps + Drop> HistoryLock<T> {
         ensures later { IfSome result (λ value. Extends (known pass).seen (T.content value)) }
         ensures whole { (known pass).share ≡ whole → IsSome result }
     {
-        let HistoryLock { table } = self;
+        let HistoryLock { table, .. } = self;
         let Pass { seat, .. } = pass;
         let mut closed = table.close_with(seat);
         let turn = closed.word(0);

@@ -27,10 +27,41 @@ const WORDS: u32 = 4_096;
 /// The bits of a count that a thread sleeps on.
 const LOW_BITS: u64 = 0xffff_ffff;
 
-/// Waits until the count of a word isn't this one, for no longer than so many milliseconds.
-fn await_word<R: Wait>(rt: &R, word: &AtomicU64, count: u64, millis: u64) {
-    if word.load(Ordering::SeqCst) == count {
-        word.park_timeout(rt, (count & LOW_BITS) as u32, Duration::from_millis(millis));
+/// The count of the wakes at a point on a connection, and how many threads wait for the next, or are about to.
+#[derive(Drop)]
+struct Word {
+    wakes: AtomicU64,
+    waiting: AtomicU64,
+}
+
+impl Word {
+    fn new() -> Word {
+        Word {
+            wakes: AtomicU64::new(0),
+            waiting: AtomicU64::new(0),
+        }
+    }
+
+    fn wakes(&self) -> u64 {
+        self.wakes.load(Ordering::SeqCst)
+    }
+
+    /// Waits until the count isn't this one, for no longer than so many milliseconds. The thread is told of before it looks
+    /// at the count, and who wakes looks for threads behind counting: so one of the two sees the other.
+    fn wait<R: Wait>(&self, rt: &R, count: u64, millis: u64) {
+        self.waiting.fetch_add(1, Ordering::SeqCst);
+        if self.wakes() == count {
+            self.wakes.park_timeout(rt, (count & LOW_BITS) as u32, Duration::from_millis(millis));
+        }
+        self.waiting.fetch_sub(1, Ordering::SeqCst);
+    }
+
+    /// Counts a wake, and wakes all who wait.
+    fn wake(&self) {
+        self.wakes.fetch_add(1, Ordering::SeqCst);
+        if self.waiting.load(Ordering::SeqCst) != 0 {
+            self.wakes.wake_all();
+        }
     }
 }
 
@@ -42,19 +73,13 @@ fn longest_wait(point: Point) -> u64 {
     }
 }
 
-/// Counts a wake, and wakes all who wait.
-fn wake_word(word: &AtomicU64) {
-    word.fetch_add(1, Ordering::SeqCst);
-    word.wake_all();
-}
-
 /// A word for each remainder of a connection's number.
-fn quiet_words(alloc: Global) -> Result<Vec<AtomicU64>, AllocError>
+fn quiet_words(alloc: Global) -> Result<Vec<Word>, AllocError>
     ensures { IfOk result (λ words. 4096 ≤ length words.items) }
 {
     let mut words = Vec::with_capacity(alloc, WORDS as usize)?;
     while words.len() < WORDS as usize {
-        words.push(AtomicU64::new(0))?;
+        words.push(Word::new())?;
     }
     Ok(words)
 }
@@ -67,8 +92,8 @@ fn quiet_words(alloc: Global) -> Result<Vec<AtomicU64>, AllocError>
 #[derive(Drop)]
 pub struct EventGate<H: Clock + Drop> {
     rt: H,
-    idle: Vec<AtomicU64>,
-    flush: AtomicU64,
+    idle: Vec<Word>,
+    flush: Word,
     ghost whole: { 4096 ≤ length idle.items },
 }
 
@@ -78,12 +103,12 @@ impl<H: Clock + Drop> EventGate<H> {
         Ok(EventGate {
             rt,
             idle: quiet_words(alloc)?,
-            flush: AtomicU64::new(0),
+            flush: Word::new(),
         })
     }
 
     /// The word that counts the wakes at this point on this connection, where threads wait to be woken.
-    fn word(&self, point: Point, conn: u32) -> Option<&AtomicU64> {
+    fn word(&self, point: Point, conn: u32) -> Option<&Word> {
         match point {
             Point::Idle => Some(&self.idle[(conn % WORDS) as usize]),
             Point::Flush => Some(&self.flush),
@@ -105,7 +130,7 @@ impl<H: Clock + Drop> Gate for EventGate<H> {
     /// 0 at points where nobody waits to be woken.
     fn wakes(&self, point: Point, conn: u32) -> u64 {
         match self.word(point, conn) {
-            Some(word) => word.load(Ordering::SeqCst),
+            Some(word) => word.wakes(),
             None => 0,
         }
     }
@@ -113,14 +138,14 @@ impl<H: Clock + Drop> Gate for EventGate<H> {
     /// Waits at `Idle` and at `Flush`, for `IDLE_MILLIS` and `FLUSH_MILLIS` at most. At the other points it passes.
     fn wait<R: Wait>(&self, rt: &R, point: Point, conn: u32, wakes: u64) {
         match self.word(point, conn) {
-            Some(word) => await_word(rt, word, wakes, longest_wait(point)),
+            Some(word) => word.wait(rt, wakes, longest_wait(point)),
             None => self.pass(rt, point, conn),
         }
     }
 
     fn wake(&self, point: Point, conn: u32) {
         if let Some(word) = self.word(point, conn) {
-            wake_word(word);
+            word.wake();
         }
     }
 }

@@ -7,6 +7,8 @@ use edges::standard::{StdSink, StdSource};
 use std::io;
 use std::net::{Net, TcpListener, TcpStream};
 use std::sync::Wait;
+use std::sync::atomic::AtomicU64;
+use std::time::Duration;
 
 /// The two halves of a connection. What is written goes out at once, where the system lets it: one that doesn't
 /// is only slower.
@@ -16,6 +18,28 @@ fn halves(stream: TcpStream) -> io::Result<(StdSource<TcpStream>, StdSink<TcpStr
     let _ = stream.set_nodelay(true);
     let other = stream.try_clone()?;
     Ok((StdSource::new(stream), StdSink::new(other)))
+}
+
+/// How many milliseconds an acceptor rests where the system had nothing for one more connection.
+const REST_MILLIS: u64 = 20;
+
+/// The errors of Linux behind which the next accept may do: a signal; no memory, descriptors or buffers; and what had already
+/// gone wrong on the connection (accept(2), "Error handling").
+const PASSING: [i32; 15] = [
+    4, 11, 12, 23, 24, 64, 71, 92, 95, 100, 101, 103, 105, 112, 113,
+];
+
+/// Whether the next accept may do behind this error.
+fn is_passing(error: &io::Error) -> bool {
+    match error.raw_os_error() {
+        Some(code) => PASSING.contains(&code),
+        None => false,
+    }
+}
+
+/// Rests a little.
+fn rest<R: Wait>(rt: &R) {
+    AtomicU64::new(0).park_timeout(rt, 0, Duration::from_millis(REST_MILLIS));
 }
 
 /// A port on which connections are accepted. It never ends.
@@ -36,11 +60,22 @@ impl TcpPort {
         }
     }
 
-    fn next_halves(&self) -> io::Result<(StdSource<TcpStream>, StdSink<TcpStream>)>
+    /// The next connection whose halves can be had. One that breaks off before costs only itself.
+    fn next_halves<R: Wait>(&self, rt: &R) -> io::Result<(StdSource<TcpStream>, StdSink<TcpStream>)>
         ensures { IfOk result (λ link. (link.0.faults ≡ 0) × (link.1.faults ≡ 0)) }
     {
-        let (stream, _) = self.listener.accept()?;
-        halves(stream)
+        for _ in rt.forever() {
+            match self.listener.accept() {
+                Ok((stream, _)) => {
+                    if let Ok(link) = halves(stream) {
+                        return Ok(link);
+                    }
+                }
+                Err(error) if is_passing(&error) => rest(rt),
+                Err(error) => return Err(error),
+            }
+        }
+        unreachable!()
     }
 }
 
@@ -55,8 +90,9 @@ impl Listener for TcpPort {
 
     ghost faults = { λ p. p.faults };
 
-    fn accept<R: Wait>(&mut self, _rt: &R) -> Accepted<StdSource<TcpStream>, StdSink<TcpStream>> {
-        match self.next_halves() {
+    /// Waits, too, where the system has no descriptor or no memory for one more connection.
+    fn accept<R: Wait>(&mut self, rt: &R) -> Accepted<StdSource<TcpStream>, StdSink<TcpStream>> {
+        match self.next_halves(rt) {
             Ok((source, sink)) => Accepted::Pair(source, sink),
             Err(_) => {
                 self.faults = self.faults.saturating_add(1);
