@@ -219,6 +219,15 @@ class Link:
             if came.parent.get("msg_id") == msg_id:
                 return came
 
+    def refusal(self, timeout=10):
+        """Waits until the other side closes the link: the reason of an ERROR that came before, if one did."""
+        try:
+            while True:
+                self.receive(timeout)
+        except Ended:
+            reasons = [it[7:] for it in self.reader.commands if it.startswith(b"\x05ERROR")]
+            return reasons[-1].decode() if reasons else None
+
     def close(self):
         self.socket.close()
 
