@@ -48,7 +48,7 @@ def main(host, port, key, function, *arguments):
     for msg_id, argument in zip(ids, arguments):
         outcome = found[msg_id]
         failed |= outcome["status"] != "ok"
-        print(f"{function}({argument}) =", outcome.get("result") or f"{outcome['ename']}: {outcome['evalue']}")
+        print(f"({function})({argument}) =", outcome.get("result") or f"{outcome['ename']}: {outcome['evalue']}")
     return failed
 
 
