@@ -293,6 +293,14 @@ def is_listened_at(port):
         return any(row.split()[1].endswith(f":{port:04X}") and row.split()[3] == "0A" for row in table.readlines()[1:])
 
 
+def processor_time(pid):
+    """Seconds of user and of system time of all threads of a process, those that have ended too."""
+    with open(f"/proc/{pid}/stat", encoding="ascii") as stat:
+        fields = stat.read().rpartition(")")[2].split()
+    ticks = os.sysconf("SC_CLK_TCK")
+    return int(fields[11]) / ticks, int(fields[12]) / ticks
+
+
 class Controller:
     """A controller of four free ports over a database of its own, or a given one, that is started and ended with `with`.
 
@@ -357,11 +365,7 @@ class Controller:
             return next(int(it.split()[1]) for it in lines if it.startswith(field + ":"))
 
     def processor_time(self):
-        """Seconds of user and of system time of all its threads, those that have ended too."""
-        with open(f"/proc/{self.pid}/stat", encoding="ascii") as stat:
-            fields = stat.read().rpartition(")")[2].split()
-        ticks = os.sysconf("SC_CLK_TCK")
-        return int(fields[11]) / ticks, int(fields[12]) / ticks
+        return processor_time(self.pid)
 
     def switches(self):
         """Context switches of the threads that live: those that they asked for, and the others."""
