@@ -1,0 +1,11 @@
+//! Tests of a controller in threads. They stand in a crate of their own since a crate that has tests is proved twice.
+#![tactic(auto)]
+
+#[cfg(test)]
+mod answers;
+#[cfg(test)]
+mod controller;
+#[cfg(test)]
+mod ends;
+#[cfg(test)]
+mod gate;
