@@ -18,7 +18,7 @@ use Rattle.cluster_defs.proofs.Options.{none_from, or_else-None, id_self}
 use Rattle.cluster_defs.proofs.Says.{due_says}
 use Rattle.cluster_laws.proofs.Apart.{known_once}
 use Rattle.cluster_laws.proofs.Closed.{closed, Closed}
-use Rattle.cluster_state.specs.Seen.{Seen, handed_to, ended_on, changed, on_unsettled}
+use Rattle.cluster_state.specs.Seen.{Seen, attempted, handed_to, ended_on, changed, on_unsettled}
 use Rattle.cluster_state.specs.Plain.{look, plain_of, handed_out, settled_at, settled_out, engine_ended}
 use Rattle.cluster_state.proofs.Lists.{changed_one, map_all, map_twice}
 use Rattle.cluster_state.proofs.Pieces.{seen_from, look_is}
@@ -102,7 +102,7 @@ end_seen f id n is = ends ∙ sym (ap (on_unsettled (ended_on n)) (look_is f id)
 
     ends : from (after_end (Some n) (f.task id)) (f.settled id) ≡ on_unsettled (ended_on n) (from (f.task id) (f.settled id))
     ends = elim (f.settled id) as (λ o. f.settled id ≡ o → from (after_end (Some n) (f.task id)) o ≡ on_unsettled (ended_on n) (from (f.task id) o)) [
-      | None ↦ λ _. refl
+      | None ↦ λ _. (elim (runs_at n (f.task id).last) as (λ b. from (cond b (lost (f.task id).last (f.task id)) (f.task id)) None ≡ cond b (attempted (cond b (lost (f.task id).last (f.task id)) (f.task id)) (from (f.task id) None)) (from (f.task id) None)) [ true ↦ refl | false ↦ refl ])
       | (Some s) ↦ λ some. ap (λ t. from t (Some s)) (idle_end n (f.task id) (is.idle id (ap is_some some)))
     ] refl
 

@@ -15,7 +15,7 @@ use Rattle.cluster_defs.specs.Steps.{step}
 use Rattle.cluster_defs.specs.Histories.{History, facts, Legal}
 use Rattle.cluster_defs.specs.Outcomes.{number_of}
 use Rattle.cluster_laws.proofs.Closed.{closed, Closed}
-use Rattle.cluster_state.specs.Seen.{Seen, ended_on, lost_all, on_unsettled}
+use Rattle.cluster_state.specs.Seen.{Seen, attempted, ended_on, lost_all, on_unsettled}
 use Rattle.cluster_state.specs.Plain.{look, plain_of, opened, input_at, came_up, went_down, tasks_ended, engine_ended, beaten, passed}
 use Rattle.cluster_state.proofs.Lists.{map_all, map_twice}
 use Rattle.cluster_state.proofs.Pieces.{seen_from, look_is}
@@ -40,7 +40,10 @@ open_look f moment scheme hwm misses is id =
 
     ends : from (lost (f.task id).last (f.task id)) (f.settled id) ≡ on_unsettled lost_all (from (f.task id) (f.settled id))
     ends = elim (f.settled id) as (λ o. f.settled id ≡ o → from (lost (f.task id).last (f.task id)) o ≡ on_unsettled lost_all (from (f.task id) o)) [
-      | None ↦ λ _. refl
+      | None ↦ λ _. (elim (runs (f.task id).last) as (λ b. runs (f.task id).last ≡ b → from (lost (f.task id).last (f.task id)) None ≡ cond b (attempted (lost (f.task id).last (f.task id)) (from (f.task id) None)) (from (f.task id) None)) [
+        | true ↦ λ _. refl
+        | false ↦ λ off. ap (λ t. from t None) (idle_lost (f.task id) (f.task id).last off)
+      ]) refl
       | (Some s) ↦ λ some. ap (λ t. from t (Some s)) (idle_lost (f.task id) (f.task id).last (is.idle id (ap is_some some)))
     ] refl
 

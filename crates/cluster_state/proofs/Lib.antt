@@ -12,6 +12,8 @@ pub mod Known
 pub mod Lists
 pub mod Multiplying
 pub mod Pieces
+pub mod Marking
+pub mod Waiting
 pub mod Places
 pub mod Purging
 pub mod Steps

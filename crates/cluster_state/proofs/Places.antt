@@ -1,24 +1,20 @@
--- Tasks by place: what each change leaves, and what it does to the places of the unsettled ones.
-use Rattle.std.proofs.Common.{◌≡◌, ap, sym, ◌∙◌, ℕ, zero, suc, ◌+◌, ◌<◌, ◌≤◌, List, [], ◌∷◌, ◌++◌, length, map, set, get_or, Bool, true, false, cond, not, refl, Option, Some, None, bytes_eq, arith, append_assoc, add-one, eq-eqb}
+-- Tasks by place: what each change leaves.
+use Rattle.std.specs.Ordering.{nat_cmp}
+use Rattle.std.specs.BTreeMap.{is_at}
+use Rattle.std.proofs.Common.{◌||◌, subst, ◌≡◌, ap, sym, ◌∙◌, ℕ, zero, suc, ◌+◌, ◌<◌, ◌≤◌, List, [], ◌∷◌, ◌++◌, length, map, set, get_or, Bool, true, false, cond, refl, Option, Some, None, bytes_eq, arith, append_assoc, add-one, eq-eqb}
 use Rattle.std.specs.Prelude.{filter, option_map, slice_get, ◌==◌}
 use Rattle.std.specs.Option.{is_some, option_and_then}
-use Rattle.std.proofs.lemmas.Bool.{ne_eqb}
+use Rattle.std.proofs.lemmas.Bool.{both_ways}
 use Rattle.std.proofs.lemmas.List.{length_push}
 use Rattle.cluster_defs.specs.Words.{Id, or_else}
 use Rattle.cluster_defs.proofs.Options.{same_id}
-use Rattle.cluster_state.specs.Seen.{Seen, place_in, seen_in, open_places, places_from, changed, on_unsettled}
-use Rattle.cluster_state.specs.Places.{name, over, IsSame, at_place, at_places, Alike, Beside}
+use Rattle.cluster_state.specs.Seen.{Seen, place_in, seen_in, changed}
+use Rattle.cluster_state.specs.declared.marks.Marks.{Marks}
+use Rattle.cluster_state.specs.Marking.{Marked, Aside, is_among}
+use Rattle.place_sets.specs.Sets.{Apart, at_place, at_places}
+use Rattle.cluster_state.specs.Places.{name, settling, IsSame, Alike, Beside}
 
--- PLACES HANG ON IDS AND ON WHAT IS SETTLED ALONE
-
-places_of : ℕ → List Bool → List ℕ
-places_of at [] = []
-places_of at (b ∷ bs) = cond b (places_of (suc at) bs) (at ∷ places_of (suc at) bs)
-
-open_from : (at : ℕ) (ts : List Seen) → places_from at ts ≡ places_of at (map over ts)
-unfolding places_of
-open_from at [] = refl
-open_from at (t ∷ ts) = rw (open_from (suc at) ts) refl
+-- PLACES HANG ON IDS ALONE
 
 place_among : Id → List Id → Option ℕ
 place_among id [] = None
@@ -28,9 +24,6 @@ in_names : (id : Id) (ts : List Seen) → place_in id ts ≡ place_among id (map
 unfolding place_among
 in_names id [] = refl
 in_names id (t ∷ ts) = rw (in_names id ts) refl
-
-pub same_open : (ts us : List Seen) → map over us ≡ map over ts → open_places us ≡ open_places ts
-same_open ts us same = open_from 0 us ∙ ap (places_of 0) same ∙ sym (open_from 0 ts)
 
 pub same_place : (id : Id) (ts us : List Seen) → map name us ≡ map name ts → place_in id us ≡ place_in id ts
 same_place id ts us same = in_names id us ∙ ap (place_among id) same ∙ sym (in_names id ts)
@@ -55,19 +48,19 @@ past_at f [] p le = refl
 past_at f (t ∷ ts) zero le = absurd (omega arith)
 past_at f (t ∷ ts) (suc p) le = ap (λ us. t ∷ us) (past_at f ts p (omega arith))
 
-map_set : {X : Type 0} (of : Seen → X) (ts : List Seen) (p : ℕ) (d y : Seen) → p < length ts → of y ≡ of (get_or ts p d) → map of (set ts p y) ≡ map of ts
+pub map_set : {X : Type 0} (of : Seen → X) (ts : List Seen) (p : ℕ) (d y : Seen) → p < length ts → of y ≡ of (get_or ts p d) → map of (set ts p y) ≡ map of ts
 map_set of [] p d y lt same = absurd (omega arith)
 map_set of (t ∷ ts) zero d y lt same = ap (λ v. v ∷ map of ts) same
 map_set of (t ∷ ts) (suc p) d y lt same = ap (λ vs. of t ∷ vs) (map_set of ts p d y (omega arith) same)
 
 pub alike_set : (ts : List Seen) (p : ℕ) (d y : Seen) → p < length ts → IsSame (get_or ts p d) y → Alike ts (set ts p y)
-alike_set ts p d y lt s = record { names = map_set name ts p d y lt s.name; over = map_set over ts p d y lt s.over }
+alike_set ts p d y lt s = record { names = map_set name ts p d y lt s.name; settled = map_set settling ts p d y lt s.settled }
 
 pub alike_at : (f : Seen → Seen) → ((t : Seen) → IsSame t (f t)) → (p : ℕ) (ts : List Seen) → Alike ts (at_place f p ts)
-alike_at f same p ts = record { names = map_at name f (λ t. (same t).name) p ts; over = map_at over f (λ t. (same t).over) p ts }
+alike_at f same p ts = record { names = map_at name f (λ t. (same t).name) p ts; settled = map_at settling f (λ t. (same t).settled) p ts }
 
 pub alike_after : (ts us vs : List Seen) → Alike ts us → Alike us vs → Alike ts vs
-alike_after ts us vs a b = record { names = b.names ∙ a.names; over = b.over ∙ a.over }
+alike_after ts us vs a b = record { names = b.names ∙ a.names; settled = b.settled ∙ a.settled }
 
 -- AT ONE PLACE AFTER ANOTHER
 
@@ -75,69 +68,7 @@ pub at_places_more : (f : Seen → Seen) (ps : List ℕ) (p : ℕ) (ts : List Se
 at_places_more f [] p ts = refl
 at_places_more f (q ∷ ps) p ts = at_places_more f ps p (at_place f q ts)
 
-at_end : (f : Seen → Seen) (front : List Seen) (t : Seen) (ts : List Seen) → at_place f (length front) (front ++ t ∷ ts) ≡ front ++ f t ∷ ts
-at_end f [] t ts = refl
-at_end f (u ∷ front) t ts = ap (λ us. u ∷ us) (at_end f front t ts)
-
-open_step : (f : Seen → Seen) (b : Bool) (front : List Seen) (rest : List ℕ) (t : Seen) (ts us : List Seen) → ((u : Seen) → at_places f rest (front ++ u ∷ ts) ≡ front ++ u ∷ us) → at_places f (cond b rest (length front ∷ rest)) (front ++ t ∷ ts) ≡ front ++ cond b t (f t) ∷ us
-open_step f true front rest t ts us later = later t
-open_step f false front rest t ts us later = ap (at_places f rest) (at_end f front t ts) ∙ later (f t)
-
-open_changed : (f : Seen → Seen) (front ts : List Seen) → at_places f (places_from (length front) ts) (front ++ ts) ≡ front ++ map (on_unsettled f) ts
-open_changed f front [] = refl
-open_changed f front (t ∷ ts) =
-    open_step f (is_some t.settled) front (places_from (suc (length front)) ts) t ts (map (on_unsettled f) ts)
-    (λ u. let n : length (front ++ u ∷ []) ≡ suc (length front) = length_push front u ∙ add-one (length front) in
-    let more = open_changed f (front ++ u ∷ []) ts in
-    ap (λ m. at_places f (places_from m ts) (front ++ u ∷ ts)) (sym n) ∙ ap (at_places f (places_from (length (front ++ u ∷ [])) ts)) (sym (append_assoc front (u ∷ []) ts)) ∙ more ∙ append_assoc front (u ∷ []) (map (on_unsettled f) ts))
-
--- a change of the tasks at the places of the unsettled ones
-pub all_open : (f : Seen → Seen) (ts : List Seen) → at_places f (open_places ts) ts ≡ map (on_unsettled f) ts
-all_open f ts = open_changed f [] ts
-
--- SETTLED
-
-is_above : (at q : ℕ) (b : Bool) (rest : List ℕ) → q < at → filter (λ p. not (p == q)) rest ≡ rest → filter (λ p. not (p == q)) (cond b rest (at ∷ rest)) ≡ cond b rest (at ∷ rest)
-is_above at q true rest lt same = same
-is_above at q false rest lt same = rw (ne_eqb at q (λ e. omega arith)) (ap (λ ps. at ∷ ps) same)
-
-above : (at q : ℕ) (ts : List Seen) → q < at → filter (λ p. not (p == q)) (places_from at ts) ≡ places_from at ts
-above at q [] lt = refl
-above at q (t ∷ ts) lt = is_above at q (is_some t.settled) (places_from (suc at) ts) lt (above (suc at) q ts (omega arith))
-
-settled_here : (at q : ℕ) (b : Bool) (rest : List ℕ) → q ≡ at → filter (λ p. not (p == q)) rest ≡ rest → rest ≡ filter (λ p. not (p == q)) (cond b rest (at ∷ rest))
-settled_here at q true rest e same = sym same
-settled_here at q false rest e same = rw (eq-eqb at q (sym e)) (sym same)
-
-settled_later : (at q : ℕ) (b : Bool) (rest new : List ℕ) → at < q → new ≡ filter (λ p. not (p == q)) rest → cond b new (at ∷ new) ≡ filter (λ p. not (p == q)) (cond b rest (at ∷ rest))
-settled_later at q true rest new lt e = e
-settled_later at q false rest new lt e = rw (ne_eqb at q (λ e. omega arith)) (ap (λ ps. at ∷ ps) e)
-
-settled_from : (f : Seen → Seen) → ((t : Seen) → over (f t) ≡ true) → (at q k : ℕ) (ts : List Seen) → q ≡ at + k → places_from at (at_place f k ts) ≡ filter (λ p. not (p == q)) (places_from at ts)
-settled_from f ends at q k [] e = refl
-settled_from f ends at q zero (t ∷ ts) e = rw (ends t) (settled_here at q (is_some t.settled) (places_from (suc at) ts) (omega arith) (above (suc at) q ts (omega arith)))
-settled_from f ends at q (suc k) (t ∷ ts) e = settled_later at q (is_some t.settled) (places_from (suc at) ts) (places_from (suc at) (at_place f k ts)) (omega arith) (settled_from f ends (suc at) q k ts (omega arith))
-
--- the place of a task that was settled is left out
-pub settled_places : (f : Seen → Seen) → ((t : Seen) → over (f t) ≡ true) → (q : ℕ) (ts : List Seen) → open_places (at_place f q ts) ≡ filter (λ p. not (p == q)) (open_places ts)
-settled_places f ends q ts = settled_from f ends 0 q q ts (omega arith)
-
 -- ONE MORE
-
-joined_cond : (b : Bool) (at : ℕ) (rest more : List ℕ) → cond b (rest ++ more) (at ∷ rest ++ more) ≡ cond b rest (at ∷ rest) ++ more
-joined_cond true at rest more = refl
-joined_cond false at rest more = refl
-
-push_from : (at : ℕ) (ts : List Seen) (t : Seen) → over t ≡ false → places_from at (ts ++ t ∷ []) ≡ places_from at ts ++ (at + length ts) ∷ []
-push_from at [] t new = let n : at + 0 ≡ at = omega arith in rw (new, n) refl
-push_from at (u ∷ ts) t new =
-    let n : suc at + length ts ≡ at + suc (length ts) = omega arith in
-    let more : places_from (suc at) (ts ++ t ∷ []) ≡ places_from (suc at) ts ++ (at + suc (length ts)) ∷ [] = push_from (suc at) ts t new ∙ ap (λ m. places_from (suc at) ts ++ m ∷ []) n in
-    ap (λ ps. cond (is_some u.settled) ps (at ∷ ps)) more ∙ joined_cond (is_some u.settled) at (places_from (suc at) ts) ((at + suc (length ts)) ∷ [])
-
--- the places of the unsettled ones and one more
-pub push_open : (ts : List Seen) (t : Seen) → t.settled ≡ None → open_places (ts ++ t ∷ []) ≡ open_places ts ++ length ts ∷ []
-push_open ts t new = push_from 0 ts t (ap is_some new) ∙ ap (λ n. open_places ts ++ n ∷ []) (omega arith)
 
 suc_else : (b c : Bool) (o : Option ℕ) (n : ℕ) → cond b (Some 0) (option_map suc (or_else o (cond c (Some n) None))) ≡ or_else (cond b (Some 0) (option_map suc o)) (cond c (Some (suc n)) None)
 suc_else true c o n = refl
@@ -203,35 +134,40 @@ found_seen id (t ∷ ts) = step_seen (bytes_eq t.row.id id) (place_in id ts) t t
 
 -- WHAT IS KEPT BESIDE THE TASKS
 
-pub kept_beside : (ts new : List Seen) (u : List ℕ) (g : Id → Option ℕ) → Beside ts u g → Alike ts new → Beside new u g
-kept_beside ts new u g b a = record {
-  open_ones = b.open_ones ∙ sym (same_open ts new a.over);
-  places = λ id. b.places id ∙ sym (same_place id ts new a.names);
-}
+pub beside_same : (ts new : List Seen) (m n : Marks) (g : Id → Option ℕ) → Beside ts m g → map name new ≡ map name ts → Marked new n → Beside new n g
+beside_same ts new m n g b names marked = record { marked = marked; places = λ id. b.places id ∙ sym (same_place id ts new names) }
 
-pub settled_beside : (f : Seen → Seen) → ((t : Seen) → name (f t) ≡ name t) → ((t : Seen) → over (f t) ≡ true) → (p : ℕ) (ts new : List Seen) (u v : List ℕ) (g : Id → Option ℕ) → Beside ts u g → new ≡ at_place f p ts → v ≡ filter (λ q. not (q == p)) u → Beside new v g
-settled_beside f named ends p ts new u v g b is out = record {
-  open_ones = out ∙ ap (filter (λ q. not (q == p))) b.open_ones ∙ sym (settled_places f ends p ts) ∙ ap open_places (sym is);
-  places = λ id. b.places id ∙ sym (same_place id ts (at_place f p ts) (map_at name f named p ts)) ∙ ap (place_in id) (sym is);
-}
-
-pub more_beside : (ts new : List Seen) (t : Seen) (u v : List ℕ) (g h : Id → Option ℕ) → t.settled ≡ None → Beside ts u g → new ≡ ts ++ t ∷ [] → v ≡ u ++ length ts ∷ [] → ((j : Id) → h j ≡ or_else (g j) (cond (bytes_eq t.row.id j) (Some (length ts)) None)) → Beside new v h
-more_beside ts new t u v g h open_yet b is out more = record {
-  open_ones = out ∙ ap (λ ps. ps ++ length ts ∷ []) b.open_ones ∙ sym (push_open ts t open_yet) ∙ ap open_places (sym is);
+pub beside_more : (ts new : List Seen) (t : Seen) (m n : Marks) (g h : Id → Option ℕ) → Beside ts m g → new ≡ ts ++ t ∷ [] → Marked new n → ((j : Id) → h j ≡ or_else (g j) (cond (bytes_eq t.row.id j) (Some (length ts)) None)) → Beside new n h
+beside_more ts new t m n g h b is marked more = record {
+  marked = marked;
   places = λ j. more j ∙ ap (λ o. or_else o (cond (bytes_eq t.row.id j) (Some (length ts)) None)) (b.places j) ∙ sym (push_place ts t j) ∙ ap (place_in j) (sym is);
 }
 
-pub same_beside : (ts new : List Seen) (u v : List ℕ) (g h : Id → Option ℕ) → Beside ts u g → new ≡ ts → v ≡ u → ((j : Id) → h j ≡ g j) → Beside new v h
-same_beside ts new u v g h b is out more = record {
-  open_ones = out ∙ b.open_ones ∙ ap open_places (sym is);
-  places = λ j. more j ∙ b.places j ∙ ap (place_in j) (sym is);
-}
+pub beside_kept : (ts new : List Seen) (m n : Marks) (g h : Id → Option ℕ) → Beside ts m g → new ≡ ts → Marked new n → ((j : Id) → h j ≡ g j) → Beside new n h
+beside_kept ts new m n g h b is marked more = record { marked = marked; places = λ j. more j ∙ b.places j ∙ ap (place_in j) (sym is) }
 
-pub change_is : (f : Seen → Seen) (id : Id) (p : ℕ) (ts new : List Seen) (u : List ℕ) (g : Id → Option ℕ) → Beside ts u g → Some p ≡ g id → new ≡ at_place f p ts → new ≡ changed id f ts
-change_is f id p ts new u g b found is = is ∙ at_is_changed f id ts p (sym (b.places id) ∙ sym found)
+pub change_is : (f : Seen → Seen) (id : Id) (p : ℕ) (ts new : List Seen) (m : Marks) (g : Id → Option ℕ) → Beside ts m g → Some p ≡ g id → new ≡ at_place f p ts → new ≡ changed id f ts
+change_is f id p ts new m g b found is = is ∙ at_is_changed f id ts p (sym (b.places id) ∙ sym found)
 
-pub no_change_is : (f : Seen → Seen) (id : Id) (ts : List Seen) (u : List ℕ) (g : Id → Option ℕ) → Beside ts u g → None ≡ g id → ts ≡ changed id f ts
-no_change_is f id ts u g b none = sym (none_is_changed f id ts (sym (b.places id) ∙ sym none))
+pub no_change_is : (f : Seen → Seen) (id : Id) (ts : List Seen) (m : Marks) (g : Id → Option ℕ) → Beside ts m g → None ≡ g id → ts ≡ changed id f ts
+no_change_is f id ts m g b none = sym (none_is_changed f id ts (sym (b.places id) ∙ sym none))
 
-pub sweep_is : (f : Seen → Seen) (ts new : List Seen) (u : List ℕ) (g : Id → Option ℕ) → Beside ts u g → new ≡ at_places f u ts → new ≡ map (on_unsettled f) ts
-sweep_is f ts new u g b is = is ∙ ap (λ ps. at_places f ps ts) b.open_ones ∙ all_open f ts
+pub apart_set : (ts : List Seen) (p : ℕ) (y : Seen) → Apart p ts (set ts p y)
+apart_set [] p y i other = refl
+apart_set (t ∷ ts) zero y zero other = absurd (other refl)
+apart_set (t ∷ ts) zero y (suc i) other = refl
+apart_set (t ∷ ts) (suc p) y zero other = refl
+apart_set (t ∷ ts) (suc p) y (suc i) other = apart_set ts p y i (λ e. other (ap suc e))
+
+among_get : (ps : List ℕ) (i : ℕ) → i < length ps → is_among (get_or ps i 0) ps ≡ true
+among_get [] i lt = absurd (omega arith)
+among_get (p ∷ ps) zero lt = let same : is_at (nat_cmp p) p ≡ true = grind (arith) in rw same refl
+among_get (p ∷ ps) (suc i) lt = among_later (is_at (nat_cmp (get_or ps i 0)) p) (is_among (get_or ps i 0) ps) (among_get ps i (omega (arith, lt)))
+  where
+    among_later : (b c : Bool) → c ≡ true → (b || c) ≡ true
+    among_later true c h = refl
+    among_later false c h = h
+
+-- a change at one of some places
+pub aside_after : (ps : List ℕ) (i : ℕ) (ts us vs : List Seen) → i < length ps → Aside ps ts us → Apart (get_or ps i 0) us vs → Aside ps ts vs
+aside_after ps i ts us vs lt aside apart = λ j off. apart j (λ e. both_ways (is_among j ps) off (subst (λ k. is_among k ps ≡ true) (sym e) (among_get ps i lt))) ∙ aside j off

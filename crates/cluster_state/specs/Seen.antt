@@ -1,12 +1,12 @@
 -- What is seen of a task: all that a history says of one id.
-use Rattle.std.specs.Prelude.{ℕ, suc, List, [], ◌∷◌, find, slice_get, Option, Some, None, Bool, true, false, if◌then◌else◌, bytes_eq, option_map}
+use Rattle.std.specs.Prelude.{ℕ, suc, List, [], ◌∷◌, find, Option, Some, None, Bool, true, false, if◌then◌else◌, bytes_eq, option_map}
 use Rattle.std.specs.List.{list_all}
 use Rattle.std.specs.Option.{is_some, is_none}
 use Rattle.cluster_types.specs.declared.message.Message.{Message}
 use Rattle.cluster_types.specs.declared.record.Record.{Record}
 use Rattle.cluster_defs.specs.Words.{Id}
 use Rattle.cluster_defs.specs.Connections.{Peer}
-use Rattle.cluster_defs.specs.Tasks.{Task as TaskFacts, new_task, engine_of, runs, handed, lost, after_end, took, Settled as SettledFacts, Ending as EndingFacts, Well as EndsWell, Badly as EndsBadly, Declines as Declined}
+use Rattle.cluster_defs.specs.Tasks.{Task as TaskFacts, new_task, engine_of, runs, runs_at, handed, lost, after_end, took, Settled as SettledFacts, Ending as EndingFacts, Well as EndsWell, Badly as EndsBadly, Declines as Declined}
 use Rattle.cluster_defs.specs.Requests.{Request as RequestFacts, Body as BodyFacts, is_direct}
 use Rattle.cluster_state.specs.declared.request.Owner.{Owner}
 use Rattle.cluster_state.specs.declared.request.Request.{Request}
@@ -83,11 +83,11 @@ handed_to engine t = attempted (handed engine t.attempts) t
 
 -- once an engine ended
 abbrev pub ended_on : ℕ → Seen → Seen
-ended_on engine t = attempted (after_end (Some engine) t.attempts) t
+ended_on engine t = if runs_at engine t.attempts.last then attempted (after_end (Some engine) t.attempts) t else t
 
 -- once all engines ended, by an Open
 abbrev pub lost_all : Seen → Seen
-lost_all t = attempted (lost t.attempts.last t.attempts) t
+lost_all t = if runs t.attempts.last then attempted (lost t.attempts.last t.attempts) t else t
 
 -- once a valid reply came, with this header id
 abbrev pub replied_with : List ℕ → EndingFacts → Message → Seen → Seen
@@ -119,22 +119,6 @@ seen_in ts id = find (λ t. bytes_eq t.row.id id) ts
 abbrev pub changed : Id → (Seen → Seen) → List Seen → List Seen
 changed id change [] = []
 changed id change (t ∷ ts) = if bytes_eq t.row.id id then change t ∷ ts else t ∷ changed id change ts
-
--- the places of the tasks that aren't settled, ascending, from a place on
-abbrev pub places_from : ℕ → List Seen → List ℕ
-places_from at [] = []
-places_from at (t ∷ ts) = if is_some t.settled then places_from (suc at) ts else at ∷ places_from (suc at) ts
-
-abbrev pub open_places : List Seen → List ℕ
-open_places = places_from 0
-
--- what is so of the task at a place
-abbrev pub holds_at : (Seen → Bool) → List Seen → ℕ → Bool
-holds_at test ts place = holds (slice_get ts place)
-  where
-    holds : Option Seen → Bool
-    holds None = false
-    holds (Some t) = test t
 
 -- a change of a task that isn't settled
 abbrev pub on_unsettled : (Seen → Seen) → Seen → Seen

@@ -62,7 +62,7 @@ impl State {
     {
         match self.settling(id, verdict, cause)? {
             Some(Settling { settled, outcome }) => {
-                self.tasks.settle(id, settled, outcome);
+                self.tasks.settle(id, settled, outcome)?;
                 Ok(())
             }
             None => Ok(()),

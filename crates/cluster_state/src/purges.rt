@@ -17,12 +17,13 @@ use std::alloc::{AllocError, Global};
 use task_lookup::distinct::once;
 
 /// Purges tasks one after another.
-fn purge_each(tasks: &mut Tasks, ids: &[Text])
-    ensures { tasks.new ≡ purged_tasks ids.now tasks.old }
+fn purge_each(tasks: &mut Tasks, ids: &[Text]) -> Result<(), AllocError>
+    ensures { OnOk result (tasks.new ≡ purged_tasks ids.now tasks.old) }
 {
     for id in ids {
-        tasks.purge(id);
+        tasks.purge(id)?;
     }
+    Ok(())
 }
 
 /// Puts an id at the end of a list.
@@ -125,7 +126,7 @@ impl State {
     {
         match self.dropped(all, ids)? {
             Some(list) => {
-                purge_each(&mut self.tasks, list.as_slice());
+                purge_each(&mut self.tasks, list.as_slice())?;
                 Ok(true)
             }
             None => Ok(false),

@@ -221,7 +221,7 @@ impl State {
             use_engine(&mut self.by_use, engine)?;
         }
         self.word = next_word(self.word);
-        self.tasks.hand(id, engine);
+        self.tasks.hand(id, engine)?;
         Ok(())
     }
 }

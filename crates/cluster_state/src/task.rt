@@ -4,10 +4,10 @@ ghost use Rattle.std.specs.Prelude.{◌≡◌, Some, None, IfOk, OnOk};
 ghost use Rattle.std.specs.Option.{option_copied};
 ghost use Rattle.cluster_types.specs.declared.record.Record.{Record as RecordType};
 ghost use Rattle.cluster_defs.specs.Requests.{body_of};
-ghost use Rattle.cluster_state.specs.Seen.{request_as, attempts_as, ending_as, settled_as, begun, attempted, handed_to, ended_on, lost_all, replied_with, settled_with, purged_out};
+ghost use Rattle.cluster_state.specs.Seen.{request_as, attempts_as, ending_as, settled_as, begun, attempted, handed_to, ended_on, lost_all, replied_with, settled_with, purged_out, on_unsettled};
 ghost use Rattle.cluster_state.specs.Places.{IsSame};
 
-use crate::attempts::{Attempts, Ending, engine_of, runs};
+use crate::attempts::{Attempts, Ending, engine_of, runs, runs_at};
 use crate::request::Request;
 use cluster_types::record::Record;
 use cluster_types::shared_message::SharedMessage;
@@ -127,23 +127,27 @@ impl Task {
         self.note_attempts();
     }
 
-    /// Ends an attempt with its engine.
+    /// Ends an attempt with its engine, where the task isn't settled.
     pub fn end_on(&mut self, engine: u32) -> Result<(), AllocError>
-        ensures ok { OnOk result (self.new ≡ ended_on engine self.old) }
+        ensures ok { OnOk result (self.new ≡ on_unsettled (ended_on engine) self.old) }
         ensures same { IsSame self.old self.new }
     {
-        self.attempts.end(engine)?;
-        self.note_attempts();
+        if self.settled.is_none() && runs_at(engine, self.attempts.last) {
+            self.attempts.end(engine)?;
+            self.note_attempts();
+        }
         Ok(())
     }
 
-    /// Ends an attempt by an Open.
+    /// Ends an attempt by an Open, where the task isn't settled.
     pub fn lose(&mut self) -> Result<(), AllocError>
-        ensures ok { OnOk result (self.new ≡ lost_all self.old) }
+        ensures ok { OnOk result (self.new ≡ on_unsettled lost_all self.old) }
         ensures same { IsSame self.old self.new }
     {
-        self.attempts.lose()?;
-        self.note_attempts();
+        if self.settled.is_none() && runs(self.attempts.last) {
+            self.attempts.lose()?;
+            self.note_attempts();
+        }
         Ok(())
     }
 

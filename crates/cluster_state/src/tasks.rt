@@ -1,28 +1,33 @@
 //! The table of all tasks.
 
-ghost use Rattle.std.specs.Prelude.{◌≡◌, ◌++◌, ◌∷◌, ◌==◌, ◌<◌, ℕ, [], length, map, not, filter, slice_get, Some, None, IfOk, OnOk, OnErr, List, bytes_eq, if◌then◌else◌};
+ghost use Rattle.std.specs.Prelude.{◌≡◌, ◌++◌, ◌∷◌, ◌<◌, ℕ, [], length, map, slice_get, Some, None, IfOk, OnOk, OnErr, List, bytes_eq, if◌then◌else◌};
 ghost use Rattle.std.specs.HashMap.{get_by_text};
+ghost use Rattle.std.specs.List.Sorted.{IsStrictlySortedBy};
 ghost use Rattle.std.specs.Option.{option_copied, option_and_then};
+ghost use Rattle.std.specs.Ordering.{nat_cmp};
 ghost use Rattle.std.specs.Vec.{vec_len, vec_capacity};
-ghost use Rattle.cluster_state.specs.Seen.{ending_as, settled_as, handed_to, ended_on, lost_all, replied_with, settled_with, purged_out, seen_in, place_in, open_places, changed, on_unsettled};
+ghost use Rattle.place_sets.specs.Sets.{Apart, at_place, at_places};
+ghost use Rattle.cluster_state.specs.Seen.{ending_as, settled_as, handed_to, ended_on, lost_all, replied_with, settled_with, purged_out, seen_in, place_in, changed, on_unsettled};
 ghost use Rattle.cluster_defs.specs.Words.{or_else};
-ghost use Rattle.cluster_state.specs.Places.{Alike, Beside, at_place, at_places};
+ghost use Rattle.cluster_state.specs.Marking.{Marked, Aside};
+ghost use Rattle.cluster_state.specs.Places.{Alike, Beside, name};
 
 use crate::attempts::Ending;
+use crate::marks::{Marks, mark, mark_all, no_marks, tidy, tidy_all};
 use crate::task::{Settled, Task};
 use cluster_types::shared_message::SharedMessage;
 use cluster_types::text::Text;
 use std::alloc::{AllocError, Global};
-use std::collections::HashMap;
+use std::collections::{BTreeSet, HashMap};
 use std::marker::Model;
 
-/// All tasks in order of number, which contracts see as a list. A task is found by its id without a search, and the
-/// unsettled ones without a look at the others.
+/// All tasks in order of number, which contracts see as a list. A task is found by its id without a search, and those of
+/// which something may be due without a look at the others.
 #[derive(Drop)]
 pub struct Tasks {
     tasks: Vec<Task>,
-    /// The places of the unsettled tasks, ascending.
-    unsettled: Vec<usize>,
+    /// Places of those of which something may be due.
+    marks: Marks,
     /// The place of each id.
     places: HashMap<String, usize>,
 }
@@ -37,7 +42,7 @@ impl Model for Tasks {
 
     ghost view = { λ t. t.tasks.items };
 
-    ghost invariant = { λ t. Beside t.tasks.items t.unsettled.items (get_by_text t.places) };
+    ghost invariant = { λ t. Beside t.tasks.items t.marks (get_by_text t.places) };
 }
 
 /// The place of an id.
@@ -48,7 +53,9 @@ fn place_of(places: &HashMap<String, usize>, id: &Text) -> Option<usize>
 }
 
 fn hand_at(tasks: &mut [Task], place: usize, engine: u32)
-    ensures { tasks.new ≡ at_place (handed_to engine) place tasks.old }
+    ensures ok { tasks.new ≡ at_place (handed_to engine) place tasks.old }
+    ensures same { Alike tasks.old tasks.new }
+    ensures apart { Apart place tasks.old tasks.new }
 {
     if place < tasks.len() {
         let task = &mut tasks[place];
@@ -57,7 +64,9 @@ fn hand_at(tasks: &mut [Task], place: usize, engine: u32)
 }
 
 fn settle_at(tasks: &mut [Task], place: usize, settled: Settled, outcome: Option<SharedMessage>)
-    ensures { tasks.new ≡ at_place (settled_with (settled_as settled) outcome) place tasks.old }
+    ensures ok { tasks.new ≡ at_place (settled_with (settled_as settled) outcome) place tasks.old }
+    ensures names { map name tasks.new ≡ map name tasks.old }
+    ensures apart { Apart place tasks.old tasks.new }
 {
     if place < tasks.len() {
         let task = &mut tasks[place];
@@ -66,7 +75,9 @@ fn settle_at(tasks: &mut [Task], place: usize, settled: Settled, outcome: Option
 }
 
 fn purge_at(tasks: &mut [Task], place: usize)
-    ensures { tasks.new ≡ at_place purged_out place tasks.old }
+    ensures ok { tasks.new ≡ at_place purged_out place tasks.old }
+    ensures same { Alike tasks.old tasks.new }
+    ensures apart { Apart place tasks.old tasks.new }
 {
     if place < tasks.len() {
         let task = &mut tasks[place];
@@ -83,6 +94,7 @@ fn take_reply_at(
 ) -> Result<(), AllocError>
     ensures ok { OnOk result (tasks.new ≡ at_place (replied_with header.now (ending_as how) reply) place tasks.old) }
     ensures same { Alike tasks.old tasks.new }
+    ensures apart { Apart place tasks.old tasks.new }
 {
     if place < tasks.len() {
         let task = &mut tasks[place];
@@ -92,8 +104,9 @@ fn take_reply_at(
 }
 
 fn end_at(tasks: &mut [Task], place: usize, engine: u32) -> Result<(), AllocError>
-    ensures ok { OnOk result (tasks.new ≡ at_place (ended_on engine) place tasks.old) }
+    ensures ok { OnOk result (tasks.new ≡ at_place (on_unsettled (ended_on engine)) place tasks.old) }
     ensures same { Alike tasks.old tasks.new }
+    ensures apart { Apart place tasks.old tasks.new }
 {
     if place < tasks.len() {
         let task = &mut tasks[place];
@@ -103,8 +116,9 @@ fn end_at(tasks: &mut [Task], place: usize, engine: u32) -> Result<(), AllocErro
 }
 
 fn lose_at(tasks: &mut [Task], place: usize) -> Result<(), AllocError>
-    ensures ok { OnOk result (tasks.new ≡ at_place lost_all place tasks.old) }
+    ensures ok { OnOk result (tasks.new ≡ at_place (on_unsettled lost_all) place tasks.old) }
     ensures same { Alike tasks.old tasks.new }
+    ensures apart { Apart place tasks.old tasks.new }
 {
     if place < tasks.len() {
         let task = &mut tasks[place];
@@ -115,8 +129,9 @@ fn lose_at(tasks: &mut [Task], place: usize) -> Result<(), AllocError>
 
 /// Ends the attempts of the tasks at some places on an engine.
 fn end_all(tasks: &mut [Task], places: &[usize], engine: u32) -> Result<(), AllocError>
-    ensures ok { OnOk result (tasks.new ≡ at_places (ended_on engine) places.now tasks.old) }
+    ensures ok { OnOk result (tasks.new ≡ at_places (on_unsettled (ended_on engine)) places.now tasks.old) }
     ensures same { Alike tasks.old tasks.new }
+    ensures aside { Aside places.now tasks.old tasks.new }
 {
     for place in places {
         end_at(tasks, *place, engine)?;
@@ -126,8 +141,9 @@ fn end_all(tasks: &mut [Task], places: &[usize], engine: u32) -> Result<(), Allo
 
 /// Ends the attempts of the tasks at some places, by an Open.
 fn lose_each(tasks: &mut [Task], places: &[usize]) -> Result<(), AllocError>
-    ensures ok { OnOk result (tasks.new ≡ at_places lost_all places.now tasks.old) }
+    ensures ok { OnOk result (tasks.new ≡ at_places (on_unsettled lost_all) places.now tasks.old) }
     ensures same { Alike tasks.old tasks.new }
+    ensures aside { Aside places.now tasks.old tasks.new }
 {
     for place in places {
         lose_at(tasks, *place)?;
@@ -135,11 +151,110 @@ fn lose_each(tasks: &mut [Task], places: &[usize]) -> Result<(), AllocError>
     Ok(())
 }
 
-/// Takes a place out.
-fn drop_place(places: &mut Vec<usize>, place: usize)
-    ensures { places.new.items ≡ filter (λ p. not (p == place)) places.old.items }
+// Each change of a task: its place is put into all sets, the task is changed, and its place is taken out of the sets that
+// aren't for it any more. So the sets have all that they are for whatever the change, and where it fails too.
+
+fn hand_in(
+    tasks: &mut Vec<Task>,
+    marks: &mut Marks,
+    place: usize,
+    engine: u32,
+) -> Result<(), AllocError>
+    requires { Marked tasks.old.items marks.old }
+    ensures ok { OnOk result (tasks.new.items ≡ at_place (handed_to engine) place tasks.old.items) }
+    ensures same { Alike tasks.old.items tasks.new.items }
+    ensures marked { Marked tasks.new.items marks.new }
 {
-    places.retain(|p| *p != place);
+    mark(marks, place)?;
+    hand_at(tasks, place, engine);
+    tidy(tasks, marks, place);
+    Ok(())
+}
+
+fn settle_in(
+    tasks: &mut Vec<Task>,
+    marks: &mut Marks,
+    place: usize,
+    settled: Settled,
+    outcome: Option<SharedMessage>,
+) -> Result<(), AllocError>
+    requires { Marked tasks.old.items marks.old }
+    ensures ok { OnOk result (tasks.new.items ≡ at_place (settled_with (settled_as settled) outcome) place tasks.old.items) }
+    ensures names { map name tasks.new.items ≡ map name tasks.old.items }
+    ensures marked { Marked tasks.new.items marks.new }
+{
+    mark(marks, place)?;
+    settle_at(tasks, place, settled, outcome);
+    tidy(tasks, marks, place);
+    Ok(())
+}
+
+fn purge_in(tasks: &mut Vec<Task>, marks: &mut Marks, place: usize) -> Result<(), AllocError>
+    requires { Marked tasks.old.items marks.old }
+    ensures ok { OnOk result (tasks.new.items ≡ at_place purged_out place tasks.old.items) }
+    ensures same { Alike tasks.old.items tasks.new.items }
+    ensures marked { Marked tasks.new.items marks.new }
+{
+    mark(marks, place)?;
+    purge_at(tasks, place);
+    tidy(tasks, marks, place);
+    Ok(())
+}
+
+fn take_reply_in(
+    tasks: &mut Vec<Task>,
+    marks: &mut Marks,
+    place: usize,
+    header: &Text,
+    how: Ending,
+    reply: SharedMessage,
+) -> Result<(), AllocError>
+    requires { Marked tasks.old.items marks.old }
+    ensures ok { OnOk result (tasks.new.items ≡ at_place (replied_with header.now (ending_as how) reply) place tasks.old.items) }
+    ensures same { Alike tasks.old.items tasks.new.items }
+    ensures marked { Marked tasks.new.items marks.new }
+{
+    mark(marks, place)?;
+    take_reply_at(tasks, place, header, how, reply)?;
+    tidy(tasks, marks, place);
+    Ok(())
+}
+
+/// The places in a set.
+fn places_in(alloc: Global, set: &BTreeSet<usize>) -> Result<Vec<usize>, AllocError>
+    ensures places { IfOk result (λ v. v.items ≡ set.now.keys) }
+    ensures sorted { OnOk result (IsStrictlySortedBy nat_cmp set.now.keys) }
+{
+    let _many = set.len();
+    set.iter().copied().collect(alloc)
+}
+
+/// Ends the attempts of unsettled tasks on an engine.
+fn end_in(tasks: &mut Vec<Task>, marks: &mut Marks, engine: u32) -> Result<(), AllocError>
+    requires { Marked tasks.old.items marks.old }
+    ensures ok { OnOk result (tasks.new.items ≡ map (on_unsettled (ended_on engine)) tasks.old.items) }
+    ensures same { Alike tasks.old.items tasks.new.items }
+    ensures marked { Marked tasks.new.items marks.new }
+{
+    let places = places_in(*tasks.allocator(), &marks.running)?;
+    mark_all(marks, &places)?;
+    end_all(tasks, &places, engine)?;
+    tidy_all(tasks, marks, &places);
+    Ok(())
+}
+
+/// Ends the attempts of all unsettled tasks, by an Open.
+fn lose_in(tasks: &mut Vec<Task>, marks: &mut Marks) -> Result<(), AllocError>
+    requires { Marked tasks.old.items marks.old }
+    ensures ok { OnOk result (tasks.new.items ≡ map (on_unsettled lost_all) tasks.old.items) }
+    ensures same { Alike tasks.old.items tasks.new.items }
+    ensures marked { Marked tasks.new.items marks.new }
+{
+    let places = places_in(*tasks.allocator(), &marks.running)?;
+    mark_all(marks, &places)?;
+    lose_each(tasks, &places)?;
+    tidy_all(tasks, marks, &places);
+    Ok(())
 }
 
 /// Notes the place of an id, which has none yet.
@@ -176,50 +291,43 @@ fn note_first(
 /// Makes room for a task, and notes the place of its id, unless it has one.
 fn make_room(
     tasks: &mut Vec<Task>,
-    unsettled: &mut Vec<usize>,
     places: &mut HashMap<String, usize>,
     id: &Text,
 ) -> Result<(), AllocError>
     ensures tasks { tasks.new.items ≡ tasks.old.items }
-    ensures unsettled { unsettled.new.items ≡ unsettled.old.items }
     ensures room { OnOk result (vec_len tasks.new < vec_capacity tasks.new) }
-    ensures spare { OnOk result (vec_len unsettled.new < vec_capacity unsettled.new) }
     ensures ok { OnOk result ((j : List ℕ) → get_by_text places.new j ≡ or_else (get_by_text places.old j) (if bytes_eq id.now j then Some (length tasks.old.items) else None)) }
     ensures err { OnErr result ((j : List ℕ) → get_by_text places.new j ≡ get_by_text places.old j) }
 {
     let place = tasks.len();
     let alloc = *tasks.allocator();
     tasks.reserve(1)?;
-    unsettled.reserve(1)?;
     note_first(places, alloc, id, place)?;
     Ok(())
 }
 
-/// Adds a task, which isn't settled, where there is room.
-fn push_reserved(tasks: &mut Vec<Task>, unsettled: &mut Vec<usize>, task: Task)
-    requires room { vec_len tasks.old < vec_capacity tasks.old }
-    requires spare { vec_len unsettled.old < vec_capacity unsettled.old }
-    ensures tasks { tasks.new.items ≡ tasks.old.items ++ task ∷ [] }
-    ensures unsettled { unsettled.new.items ≡ unsettled.old.items ++ length tasks.old.items ∷ [] }
+/// The place of a further task.
+fn next_place(tasks: &Vec<Task>) -> usize
+    ensures { result ≡ length tasks.now.items }
 {
-    let place = tasks.len();
-    tasks.push_reserved(task);
-    unsettled.push_reserved(place);
+    tasks.len()
 }
 
 fn push_onto(
     tasks: &mut Vec<Task>,
-    unsettled: &mut Vec<usize>,
+    marks: &mut Marks,
     places: &mut HashMap<String, usize>,
     task: Task,
 ) -> Result<(), AllocError>
-    requires unsettled { task.settled ≡ None }
-    requires beside { Beside tasks.old.items unsettled.old.items (get_by_text places.old) }
+    requires { Beside tasks.old.items marks.old (get_by_text places.old) }
     ensures ok { OnOk result (tasks.new.items ≡ tasks.old.items ++ task ∷ []) }
-    ensures beside { Beside tasks.new.items unsettled.new.items (get_by_text places.new) }
+    ensures beside { Beside tasks.new.items marks.new (get_by_text places.new) }
 {
-    make_room(tasks, unsettled, places, task.id())?;
-    push_reserved(tasks, unsettled, task);
+    let place = next_place(tasks);
+    mark(marks, place)?;
+    make_room(tasks, places, task.id())?;
+    tasks.push_reserved(task);
+    tidy(tasks, marks, place);
     Ok(())
 }
 
@@ -230,7 +338,7 @@ impl Tasks {
     {
         Tasks {
             tasks: Vec::new(alloc),
-            unsettled: Vec::new(alloc),
+            marks: no_marks(alloc),
             places: HashMap::new(alloc),
         }
     }
@@ -249,11 +357,11 @@ impl Tasks {
         self.tasks.as_slice()
     }
 
-    /// The places of the unsettled ones, ascending.
-    pub fn unsettled(&self) -> &[usize]
-        ensures { result.now ≡ open_places self.now }
+    /// Places of those of which something may be due.
+    pub fn marks(&self) -> &Marks
+        ensures { Marked self.now result.now }
     {
-        self.unsettled.as_slice()
+        &self.marks
     }
 
     /// The task at a place.
@@ -278,16 +386,17 @@ impl Tasks {
         requires { task.settled ≡ None }
         ensures { OnOk result (self.new ≡ self.old ++ task ∷ []) }
     {
-        push_onto(&mut self.tasks, &mut self.unsettled, &mut self.places, task)
+        push_onto(&mut self.tasks, &mut self.marks, &mut self.places, task)
     }
 
     /// Begins an attempt of a task on an engine.
-    pub fn hand(&mut self, id: &Text, engine: u32)
-        ensures { self.new ≡ changed id.now (handed_to engine) self.old }
+    pub fn hand(&mut self, id: &Text, engine: u32) -> Result<(), AllocError>
+        ensures { OnOk result (self.new ≡ changed id.now (handed_to engine) self.old) }
     {
         if let Some(place) = place_of(&self.places, id) {
-            hand_at(&mut self.tasks, place, engine);
+            hand_in(&mut self.tasks, &mut self.marks, place, engine)?;
         }
+        Ok(())
     }
 
     /// Takes a valid reply to a task, with its header id.
@@ -301,41 +410,47 @@ impl Tasks {
         ensures { OnOk result (self.new ≡ changed id.now (replied_with header.now (ending_as how) reply) self.old) }
     {
         if let Some(place) = place_of(&self.places, id) {
-            take_reply_at(&mut self.tasks, place, header, how, reply)?;
+            take_reply_in(&mut self.tasks, &mut self.marks, place, header, how, reply)?;
         }
         Ok(())
     }
 
     /// Settles a task.
-    pub fn settle(&mut self, id: &Text, settled: Settled, outcome: Option<SharedMessage>)
-        ensures { self.new ≡ changed id.now (settled_with (settled_as settled) outcome) self.old }
+    pub fn settle(
+        &mut self,
+        id: &Text,
+        settled: Settled,
+        outcome: Option<SharedMessage>,
+    ) -> Result<(), AllocError>
+        ensures { OnOk result (self.new ≡ changed id.now (settled_with (settled_as settled) outcome) self.old) }
     {
         if let Some(place) = place_of(&self.places, id) {
-            settle_at(&mut self.tasks, place, settled, outcome);
-            drop_place(&mut self.unsettled, place);
+            settle_in(&mut self.tasks, &mut self.marks, place, settled, outcome)?;
         }
+        Ok(())
     }
 
     /// Lets the outcome of a task go.
-    pub fn purge(&mut self, id: &Text)
-        ensures { self.new ≡ changed id.now purged_out self.old }
+    pub fn purge(&mut self, id: &Text) -> Result<(), AllocError>
+        ensures { OnOk result (self.new ≡ changed id.now purged_out self.old) }
     {
         if let Some(place) = place_of(&self.places, id) {
-            purge_at(&mut self.tasks, place);
+            purge_in(&mut self.tasks, &mut self.marks, place)?;
         }
+        Ok(())
     }
 
     /// Ends the attempts of unsettled tasks on an engine.
     pub fn end_on(&mut self, engine: u32) -> Result<(), AllocError>
         ensures { OnOk result (self.new ≡ map (on_unsettled (ended_on engine)) self.old) }
     {
-        end_all(&mut self.tasks, self.unsettled.as_slice(), engine)
+        end_in(&mut self.tasks, &mut self.marks, engine)
     }
 
     /// Ends the attempts of all unsettled tasks, by an Open.
     pub fn lose_all(&mut self) -> Result<(), AllocError>
         ensures { OnOk result (self.new ≡ map (on_unsettled lost_all) self.old) }
     {
-        lose_each(&mut self.tasks, self.unsettled.as_slice())
+        lose_in(&mut self.tasks, &mut self.marks)
     }
 }

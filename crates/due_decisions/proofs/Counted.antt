@@ -1,5 +1,5 @@
 -- How the loads of engines are counted.
-use Rattle.std.proofs.Common.{◌≡◌, ap, sym, ◌∙◌, ℕ, zero, suc, ◌+◌, ◌≤◌, List, [], ◌∷◌, ◌++◌, length, map, Bool, true, false, cond, not, ◌&&◌, refl, Some, None, arith}
+use Rattle.std.proofs.Common.{◌≡◌, ap, sym, ◌∙◌, ℕ, zero, suc, ◌+◌, ◌≤◌, List, [], ◌∷◌, ◌++◌, length, map, Bool, true, false, cond, not, ◌&&◌, refl, Option, Some, None, arith}
 use Rattle.std.specs.Prelude.{count_by, slice_get}
 use Rattle.std.specs.Option.{is_some}
 use Rattle.std.proofs.lemmas.List.Sums.{sum_by_push}
@@ -7,11 +7,17 @@ use Rattle.cluster_defs.specs.declared.attempt.Attempt.{Attempt}
 use Rattle.cluster_defs.specs.declared.attempt.Attempt.TheVariants.{Never, Running, EndedOk, EndedBadly, Lost, Declined}
 use Rattle.cluster_defs.specs.Tasks.{runs, runs_at}
 use Rattle.cluster_defs.specs.Facts.{is_direct_id}
-use Rattle.cluster_state.specs.Seen.{Seen, open_places, holds_at}
+use Rattle.std.specs.Ordering.{nat_cmp}
+use Rattle.std.specs.List.Sorted.{IsStrictlySortedBy}
+use Rattle.std.specs.BTreeSet.{BTreeSet}
+use Rattle.place_sets.specs.Sets.{holds, holds_at, Covers}
+use Rattle.cluster_state.specs.Seen.{Seen}
+use Rattle.cluster_state.specs.Standing.{runs_open}
 use Rattle.due_decisions.specs.declared.rooms.Room.{Room}
 use Rattle.due_decisions.specs.Table.{alone, loads, noted, noted_at, tally, load_in}
 use Rattle.due_decisions.proofs.Lists.{map_alike, map_map, map_self}
-use Rattle.due_decisions.proofs.Unsettled.{count_open}
+use Rattle.place_sets.proofs.Counting.{count_covered}
+use Rattle.cluster_state.proofs.Marking.{at_runs}
 
 idle_at : (n : ℕ) (a : Attempt) (b c : Bool) → runs a ≡ false → (b && (runs_at n a && c)) ≡ false
 idle_at n (Running m) b c h = cc
@@ -50,16 +56,22 @@ tally_more ts ps p rs = map_map (noted_at ts p) (tally ts ps) rs ∙ map_alike (
 pub tally_none : (ts : List Seen) (rs : List Room) → rs ≡ map (tally ts []) rs
 tally_none ts rs = sym (map_self (tally ts []) (λ r. let same : r.load + 0 ≡ r.load = omega arith in ap (λ l. record r { load = l }) same) rs)
 
-loads_closed : (n : ℕ) (t : Seen) → is_some t.settled ≡ true → loads n t ≡ false
-loads_closed n t over = rw over refl
+runs_if : (s r a d : Bool) → (a ≡ true → r ≡ true) → (not s && (a && d)) ≡ true → (not s && r) ≡ true
+runs_if true r a d up on = on
+runs_if false r true d up on = up refl
+runs_if false r false d up on = cc
 
--- all unsettled tasks are counted
-pub tally_all : (ts : List Seen) (ns : List ℕ) → map (tally ts (open_places ts)) (map (λ n. record { engine = n; load = 0 }) ns) ≡ map (λ n. record { engine = n; load = load_in ts n }) ns
-tally_all ts ns =
+loading : (n : ℕ) (o : Option Seen) → holds (loads n) o ≡ true → holds runs_open o ≡ true
+loading n None on = on
+loading n (Some t) on = runs_if (is_some t.settled) (runs t.attempts.last) (runs_at n t.attempts.last) (not (is_direct_id (alone t) t.row.id)) (at_runs n t.attempts.last) on
+
+-- all running tasks are counted
+pub tally_all : (ts : List Seen) (s : BTreeSet ℕ) (ns : List ℕ) → IsStrictlySortedBy nat_cmp s.keys → Covers runs_open ts s → map (tally ts s.keys) (map (λ n. record { engine = n; load = 0 }) ns) ≡ map (λ n. record { engine = n; load = load_in ts n }) ns
+tally_all ts s ns sorted covers =
     let base : ℕ → Room = λ n. record { engine = n; load = 0 } in
-    map_map (tally ts (open_places ts)) base ns
-    ∙ map_alike (λ n. tally ts (open_places ts) (base n)) (λ n. record { engine = n; load = load_in ts n })
-    (λ n. let same : 0 + count_by (holds_at (loads n) ts) (open_places ts) ≡ load_in ts n = omega (arith, count_open (loads n) (loads_closed n) ts) in
+    map_map (tally ts s.keys) base ns
+    ∙ map_alike (λ n. tally ts s.keys (base n)) (λ n. record { engine = n; load = load_in ts n })
+    (λ n. let same : 0 + count_by (holds_at (loads n) ts) s.keys ≡ load_in ts n = omega (arith, count_covered (loads n) ts s sorted (λ i on. covers i (loading n (slice_get ts i) on))) in
     ap (λ l. let r : Room = record { engine = n; load = l } in r) same) ns
 
 pub past_none : (ts : List Seen) (p : ℕ) → length ts ≤ p → slice_get ts p ≡ None

@@ -2,5 +2,4 @@ pub mod Counted
 pub mod Lists
 pub mod OpenTasks
 pub mod Stand
-pub mod Unsettled
 pub mod Whole

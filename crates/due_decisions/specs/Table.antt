@@ -15,7 +15,9 @@ use Rattle.cluster_defs.specs.Dependencies.{met, on_engine}
 use Rattle.cluster_defs.specs.Requests.{Request, is_direct, is_target}
 use Rattle.cluster_defs.specs.Facts.{Facts, nothing_yet, is_direct_id}
 use Rattle.cluster_defs.specs.Scheduling.{lose_due, verdict, is_final, settle_as, rests, failing_as, ready_for, hand_to, may_run_as, excludes, pick}
-use Rattle.cluster_state.specs.Seen.{Seen, seen_in, holds_at}
+use Rattle.place_sets.specs.Sets.{holds_at}
+use Rattle.cluster_state.specs.Seen.{Seen, seen_in}
+pub use Rattle.cluster_state.specs.Standing.{alone, final_at, direct_at}
 use Rattle.cluster_state.specs.Plain.{Plain}
 use Rattle.due_decisions.specs.declared.rooms.Room.{Room}
 
@@ -24,10 +26,6 @@ use Rattle.due_decisions.specs.declared.rooms.Room.{Room}
 -- how the ids of a table were settled
 abbrev pub settled_in : List Seen → Id → Option Settled
 settled_in ts id = option_and_then (λ t. t.settled) (seen_in ts id)
-
--- what one task tells
-abbrev pub alone : Seen → Facts
-alone t = record nothing_yet { request_of = λ id. t.request; task = λ id. t.attempts; settled = λ id. t.settled }
 
 -- the attempts of one task, the live engines and how all tasks were settled
 abbrev pub among : List Seen → List Engine → ℕ → Task → Facts
@@ -39,9 +37,6 @@ abbrev pub beating : List Engine → ℕ → ℕ → Facts
 beating live misses beats = record nothing_yet { misses = misses; beats = beats; engines = record { live = live; next = 0 } }
 
 -- (b) SETTLE A FINAL TASK
-
-abbrev pub final_at : Seen → Bool
-final_at t = is_final (alone t) t.row.id
 
 abbrev pub settle_of : Seen → Option Entry
 settle_of t = settle_as t.row.id (verdict (alone t) t.row.id)
@@ -66,7 +61,7 @@ abbrev pub direct_of : Seen → Option Entry
 direct_of t = hand_to t.row.id (ready_for (alone t) t.row.id)
 
 abbrev pub direct_in : List Seen → Option Entry
-direct_in ts = option_and_then direct_of (find (λ t. is_some (ready_for (alone t) t.row.id)) ts)
+direct_in ts = option_and_then direct_of (find direct_at ts)
 
 -- (e) HAND A SUBMIT
 

@@ -2,59 +2,36 @@
 
 ghost use Rattle.std.specs.Prelude.{◌≡◌, find, slice_get, option_map, map, IfOk};
 ghost use Rattle.std.specs.List.{list_any};
-ghost use Rattle.std.specs.Option.{option_copied, is_some};
-ghost use Rattle.cluster_defs.specs.Scheduling.{ready_for};
-ghost use Rattle.cluster_state.specs.Seen.{open_places, holds_at};
-ghost use Rattle.due_decisions.specs.Table.{alone, direct_of, direct_in, ready, takes, fits, rooms_for, picked, hand_of, hand_in};
+ghost use Rattle.std.specs.Option.{option_copied};
+ghost use Rattle.place_sets.specs.Sets.{holds_at};
+ghost use Rattle.due_decisions.specs.Table.{direct_at, direct_of, direct_in, ready, takes, fits, rooms_for, picked, hand_of, hand_in};
 
 use crate::dependencies::{is_met, is_met_on};
 use crate::failing::{is_excluded, is_target, rests};
 use crate::rooms::Room;
-use cluster_state::attempts::is_never;
+use cluster_state::standing::{is_direct_at, ready_for};
 use cluster_state::task::Task;
 use cluster_state::tasks::Tasks;
 use cluster_types::config::Scheme;
 use cluster_types::entry::Entry;
 use load_schemes::chooser::Chooser;
 use std::alloc::{AllocError, Global};
+use std::collections::BTreeSet;
 
-/// The engine of an unsettled direct request without an attempt.
-fn ready_for(task: &Task) -> Option<u32>
-    ensures { result ≡ ready_for (alone task.now) task.now.row.id }
+/// The lowest of some places at which a direct request isn't settled and has no attempt.
+fn direct_place(tasks: &[Task], places: &BTreeSet<usize>) -> Option<usize>
+    ensures { result ≡ find (holds_at direct_at tasks.now) places.now.keys }
 {
-    if task.settled().is_none() && is_never(task.attempts().last) {
-        task.request().direct_to
-    } else {
-        None
-    }
+    places.iter().copied().find(|p| is_direct_at(tasks, *p))
 }
 
-/// Whether the task at a place is an unsettled direct request without an attempt.
-fn is_direct_at(tasks: &[Task], place: usize) -> bool
-    ensures { result ≡ holds_at (λ t. is_some (ready_for (alone t) t.row.id)) tasks.now place }
-{
-    match tasks.get(place) {
-        Some(task) => ready_for(task).is_some(),
-        None => false,
-    }
-}
-
-/// The place of the lowest such task.
-fn direct_place(tasks: &Tasks) -> Option<usize>
-    ensures { result ≡ find (holds_at (λ t. is_some (ready_for (alone t) t.row.id)) tasks.now) (open_places tasks.now) }
-{
-    tasks
-        .unsettled()
-        .iter()
-        .copied()
-        .find(|p| is_direct_at(tasks.as_slice(), *p))
-}
-
-/// The lowest such task.
+/// The lowest direct request that isn't settled and has no attempt.
 fn direct_task(tasks: &Tasks) -> Option<&Task>
-    ensures { option_copied result ≡ find (λ t. is_some (ready_for (alone t) t.row.id)) tasks.now }
+    ensures { option_copied result ≡ find direct_at tasks.now }
 {
-    tasks.at(direct_place(tasks))
+    let places = &tasks.marks().directs;
+    let _many = places.len();
+    tasks.at(direct_place(tasks.as_slice(), places))
 }
 
 /// The hand-out of a direct request without an attempt.
@@ -124,11 +101,10 @@ fn may_run_at(tasks: &Tasks, rooms: &[Room], place: usize) -> bool
 }
 
 /// The place of the lowest such task.
-fn waiting_place(tasks: &Tasks, rooms: &[Room]) -> Option<usize>
-    ensures { result ≡ find (holds_at (λ t. list_any (λ r. fits tasks.now t r.engine) rooms.now) tasks.now) (open_places tasks.now) }
+fn waiting_place(tasks: &Tasks, places: &BTreeSet<usize>, rooms: &[Room]) -> Option<usize>
+    ensures { result ≡ find (holds_at (λ t. list_any (λ r. fits tasks.now t r.engine) rooms.now) tasks.now) places.now.keys }
 {
-    tasks
-        .unsettled()
+    places
         .iter()
         .copied()
         .find(|p| may_run_at(tasks, rooms, *p))
@@ -141,7 +117,9 @@ fn waiting_task<'a>(tasks: &'a Tasks, rooms: &[Room]) -> Option<&'a Task>
     if rooms.is_empty() {
         None
     } else {
-        tasks.at(waiting_place(tasks, rooms))
+        let places = &tasks.marks().unsettled;
+        let _many = places.len();
+        tasks.at(waiting_place(tasks, places, rooms))
     }
 }
 

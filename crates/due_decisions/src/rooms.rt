@@ -1,9 +1,10 @@
 //! Engines that have room, with their loads.
 
 ghost use Rattle.std.specs.Prelude.{◌≡◌, ◌&&◌, not, filter, map, IfOk, OnOk};
+ghost use Rattle.std.specs.List.Sorted.{IsStrictlySortedBy};
+ghost use Rattle.std.specs.Ordering.{nat_cmp};
 ghost use Rattle.cluster_defs.specs.Engines.{lists_number};
 ghost use Rattle.cluster_defs.specs.Facts.{is_direct_id};
-ghost use Rattle.cluster_state.specs.Seen.{open_places};
 ghost use Rattle.due_decisions.specs.Table.{alone, loads, noted, noted_at, tally, leaves_room, rooms_in};
 
 use crate::failing::is_live;
@@ -12,6 +13,7 @@ use cluster_state::attempts::{runs, runs_at};
 use cluster_state::task::Task;
 use cluster_state::tasks::Tasks;
 use std::alloc::{AllocError, Global};
+use std::collections::BTreeSet;
 
 /// An engine, with how many Submits run on it.
 #[derive(Clone, Copy, Debug, PartialEq, Eq)]
@@ -87,6 +89,15 @@ fn note_all(rooms: &mut [Room], tasks: &[Task], places: &[usize]) -> Result<(), 
     Ok(())
 }
 
+/// The places in a set.
+fn places_in(alloc: Global, set: &BTreeSet<usize>) -> Result<Vec<usize>, AllocError>
+    ensures places { IfOk result (λ v. v.items ≡ set.now.keys) }
+    ensures sorted { OnOk result (IsStrictlySortedBy nat_cmp set.now.keys) }
+{
+    let _many = set.len();
+    set.iter().copied().collect(alloc)
+}
+
 /// The live engines in ascending order of last use, with nothing counted.
 fn live_rooms(alloc: Global, engines: &[Engine], by_use: &[u32]) -> Result<Vec<Room>, AllocError>
     ensures { IfOk result (λ v. v.items ≡ map (λ n. record { engine = n; load = 0 }) (filter (λ n. lists_number n engines.now) by_use.now)) }
@@ -126,7 +137,8 @@ pub fn rooms_in(
     ensures { IfOk result (λ v. v.items ≡ rooms_in tasks.now engines.now hwm by_use.now) }
 {
     let mut rooms = live_rooms(alloc, engines, by_use)?;
-    note_all(&mut rooms, tasks.as_slice(), tasks.unsettled())?;
+    let places = places_in(alloc, &tasks.marks().running)?;
+    note_all(&mut rooms, tasks.as_slice(), &places)?;
     keep_open(&mut rooms, hwm);
     Ok(rooms)
 }

@@ -1,12 +1,15 @@
 use Rattle.std.proofs.Common.{ap, ◌∙◌}
-use Rattle.std.specs.Prelude.{slice_get}
-use Rattle.std.specs.Option.{option_and_then}
-use Rattle.due_decisions.specs.Table.{final_at}
-use Rattle.due_decisions.proofs.Unsettled.{find_open}
-use Rattle.due_decisions.proofs.OpenTasks.{final_closed}
+use Rattle.std.specs.Prelude.{slice_get, find}
+use Rattle.std.specs.Option.{option_and_then, is_some}
+use Rattle.std.specs.List.{list_any}
+use Rattle.place_sets.specs.Sets.{holds_at}
+use Rattle.place_sets.proofs.Covering.{find_covered}
+use Rattle.cluster_state.specs.Standing.{final_at}
 use Rattle.due_decisions.proofs.settling.final_task.Goals as goal
 
 pub returns : goal.returns
 returns c =
-    c.at.ensures ∙ ap (option_and_then (slice_get c.args.tasks.now)) c.final_place.ensures
-    ∙ find_open (final_at) (final_closed) c.args.tasks.now
+    let ts = c.args.tasks.now in
+    let s = c.marks.result.now.finals in
+    let p = final_at in
+    c.at.ensures ∙ ap (option_and_then (slice_get ts)) (c.final_place.ensures ∙ ap (λ xs. find (holds_at p xs) s.keys) c.as_slice.ensures) ∙ find_covered p ts s c.len-many.ensures.ordered c.marks.ensures.finals

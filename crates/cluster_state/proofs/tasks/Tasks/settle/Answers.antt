@@ -1,35 +1,23 @@
-use Rattle.std.proofs.Common.{◌≡◌, ◌++◌, length, take, drop, sym, ap, refl, ◌∙◌, arith}
+use Rattle.std.proofs.Common.{◌≡◌, sym, ap, ◌∙◌}
 use Rattle.std.specs.HashMap.{get_by_text}
-use Rattle.std.proofs.lemmas.List.{with_items_is}
 use Rattle.cluster_state.specs.Seen.{settled_with, settled_as, changed}
-use Rattle.cluster_state.specs.Places.{at_place}
-use Rattle.cluster_state.proofs.Places.{settled_beside, change_is, no_change_is}
+use Rattle.cluster_state.proofs.Places.{beside_same, change_is, no_change_is}
 use Rattle.cluster_state.proofs.tasks.Tasks.settle.Goals as goal
 
 pub invariant_of-self : goal.invariant_of-self
-invariant_of-self c =
-    let ts = c.self.inside.tasks.items in
-    let us = c.self.inside.unsettled.items in
-    let at = get_by_text c.self.inside.places in
-    let new = c.settle_at.new.tasks in
-    let whole : take c.self.inside.tasks.len (new ++ drop (length new) ts) ≡ new = with_items_is c.self.inside.tasks new (omega (arith, c.settle_at.auto.tasks, c.deref_mut.ensures.len)) in
-    let f = settled_with (settled_as c.args.settled) c.args.outcome in
-    let is : new ≡ at_place f c.in-Some.place ts = c.settle_at.ensures ∙ ap (at_place f c.in-Some.place) c.deref_mut.ensures.value in
-    settled_beside f (λ t. refl) (λ t. refl) c.in-Some.place ts _ us c.drop_place.new.places.items at c.self.invariant (whole ∙ is) c.drop_place.ensures
+invariant_of-self c = beside_same c.self.inside.tasks.items c.settle_in.new.tasks.items c.self.inside.marks c.settle_in.new.marks (get_by_text c.self.inside.places) c.self.invariant c.settle_in.ensures.names c.settle_in.ensures.marked
 
-pub returns-in-Some : goal.returns-in-Some
-returns-in-Some c =
-    let ts = c.self.inside.tasks.items in
-    let us = c.self.inside.unsettled.items in
-    let at = get_by_text c.self.inside.places in
-    let new = c.settle_at.new.tasks in
-    let whole : take c.self.inside.tasks.len (new ++ drop (length new) ts) ≡ new = with_items_is c.self.inside.tasks new (omega (arith, c.settle_at.auto.tasks, c.deref_mut.ensures.len)) in
+pub invariant_of-self-in_err-settle_in : goal.invariant_of-self-in_err-settle_in
+invariant_of-self-in_err-settle_in c = beside_same c.self.inside.tasks.items c.settle_in.new.tasks.items c.self.inside.marks c.settle_in.new.marks (get_by_text c.self.inside.places) c.self.invariant c.settle_in.ensures.names c.settle_in.ensures.marked
+
+pub returns-in_ok-settle_in : goal.returns-in_ok-settle_in
+returns-in_ok-settle_in c =
     let f = settled_with (settled_as c.args.settled) c.args.outcome in
-    let is : new ≡ at_place f c.in-Some.place ts = c.settle_at.ensures ∙ ap (at_place f c.in-Some.place) c.deref_mut.ensures.value in
-    whole ∙ change_is f c.args.id.now c.in-Some.place ts new us at c.self.invariant c.in-Some.ensures is ∙ ap (changed c.args.id.now f) c.self.view_is
+    change_is f c.args.id.now c.in-Some.place c.self.inside.tasks.items c.settle_in.new.tasks.items c.self.inside.marks (get_by_text c.self.inside.places) c.self.invariant c.in-Some.ensures c.in_ok-settle_in.ensures.ok
+    ∙ ap (changed c.args.id.now f) c.self.view_is
 
 pub returns-in_default : goal.returns-in_default
 returns-in_default c =
     let f = settled_with (settled_as c.args.settled) c.args.outcome in
-    sym c.self.view_is ∙ no_change_is f c.args.id.now c.self.inside.tasks.items c.self.inside.unsettled.items (get_by_text c.self.inside.places) c.self.invariant c.in_default.ensures
+    sym c.self.view_is ∙ no_change_is f c.args.id.now c.self.inside.tasks.items c.self.inside.marks (get_by_text c.self.inside.places) c.self.invariant c.in_default.ensures
     ∙ ap (changed c.args.id.now f) c.self.view_is
