@@ -1,5 +1,5 @@
 -- What each decision makes of the data.
-use Rattle.std.proofs.Common.{◌≡◌, ℕ, ◌∷◌, map, false, cond, refl, sym, ap, ◌∙◌, bytes_eq, Option, Some, None}
+use Rattle.std.proofs.Common.{◌≡◌, ℕ, ◌∷◌, map, true, false, cond, refl, sym, ap, ◌∙◌, bytes_eq, Option, Some, None}
 use Rattle.std.specs.Prelude.{is_some}
 use Rattle.std.proofs.lemmas.Bool.{false_from_ne_true, both_ways}
 use Rattle.cluster_types.specs.declared.verdict.Verdict.{Verdict}

@@ -1,5 +1,5 @@
 -- What each input but a message makes of the data.
-use Rattle.std.proofs.Common.{◌≡◌, ℕ, List, ◌∷◌, map, false, refl, sym, ap, ◌∙◌, Option, Some, None}
+use Rattle.std.proofs.Common.{◌≡◌, ℕ, List, ◌∷◌, map, true, false, cond, refl, sym, ap, ◌∙◌, Option, Some, None}
 use Rattle.std.specs.Prelude.{is_some, option_map}
 use Rattle.cluster_types.specs.declared.config.Channel.{Channel}
 use Rattle.cluster_types.specs.declared.config.Scheme.{Scheme}

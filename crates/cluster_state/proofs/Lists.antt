@@ -1,5 +1,5 @@
 -- Lists of what is seen, where one id or all of them change.
-use Rattle.std.proofs.Common.{◌≡◌, ℕ, suc, length, arith, List, [], ◌∷◌, map, Bool, true, false, cond, ◌||◌, refl, sym, ap, ◌∙◌, subst, bytes_eq}
+use Rattle.std.proofs.Common.{◌≡◌, suc, length, arith, List, [], ◌∷◌, map, Bool, true, false, cond, ◌||◌, refl, sym, ap, subst, bytes_eq}
 use Rattle.std.proofs.lemmas.Bool.{false_from_ne_true, both_ways, ne_eqb}
 use Rattle.std.specs.Prelude.{◌==◌}
 use Rattle.cluster_defs.specs.Words.{Id, is_empty, is_listed}

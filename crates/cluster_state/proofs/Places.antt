@@ -1,11 +1,10 @@
 -- Tasks by place: what each change leaves.
 use Rattle.std.specs.Ordering.{nat_cmp}
 use Rattle.std.specs.BTreeMap.{is_at}
-use Rattle.std.proofs.Common.{◌||◌, subst, ◌≡◌, ap, sym, ◌∙◌, ℕ, zero, suc, ◌+◌, ◌<◌, ◌≤◌, List, [], ◌∷◌, ◌++◌, length, map, set, get_or, Bool, true, false, cond, refl, Option, Some, None, bytes_eq, arith, append_assoc, add-one, eq-eqb}
-use Rattle.std.specs.Prelude.{filter, option_map, slice_get, ◌==◌}
-use Rattle.std.specs.Option.{is_some, option_and_then}
+use Rattle.std.proofs.Common.{◌||◌, subst, ◌≡◌, ap, sym, ◌∙◌, ℕ, zero, suc, ◌<◌, ◌≤◌, List, [], ◌∷◌, ◌++◌, length, map, set, get_or, Bool, true, false, cond, refl, Option, Some, None, bytes_eq, arith}
+use Rattle.std.specs.Prelude.{option_map, slice_get}
+use Rattle.std.specs.Option.{option_and_then}
 use Rattle.std.proofs.lemmas.Bool.{both_ways}
-use Rattle.std.proofs.lemmas.List.{length_push}
 use Rattle.cluster_defs.specs.Words.{Id, or_else}
 use Rattle.cluster_defs.proofs.Options.{same_id}
 use Rattle.cluster_state.specs.Seen.{Seen, place_in, seen_in, changed}

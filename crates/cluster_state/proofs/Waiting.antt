@@ -1,11 +1,11 @@
 -- A task that is settled changes what is so of the tasks that wait for it alone.
-use Rattle.std.proofs.Common.{◌≡◌, ℕ, List, [], ◌∷◌, map, Bool, true, false, not, ◌&&◌, ◌||◌, cond, refl, sym, ap, ◌∙◌, subst, Option, Some, None, bytes_eq}
+use Rattle.std.proofs.Common.{◌≡◌, ℕ, List, [], ◌∷◌, map, Bool, true, false, not, ◌&&◌, ◌||◌, refl, sym, ap, ◌∙◌, subst, Option, Some, None, bytes_eq}
 use Rattle.std.specs.Prelude.{⊤, slice_get, nat_le, ◌==◌}
 use Rattle.std.specs.List.{list_any, list_all}
 use Rattle.std.specs.Option.{option_and_then}
 use Rattle.std.specs.BTreeSet.{BTreeSet}
 use Rattle.std.proofs.lemmas.Bool.{both_ways}
-use Rattle.place_sets.specs.Sets.{has, holds, holds_at, Covers, Apart}
+use Rattle.place_sets.specs.Sets.{has, holds, Covers, Apart}
 use Rattle.place_sets.proofs.Covering.{off_from}
 use Rattle.cluster_types.specs.declared.event.Dep.{Dep}
 use Rattle.cluster_defs.specs.Words.{Id, is_empty, is_listed}
@@ -14,7 +14,7 @@ use Rattle.cluster_defs.specs.Dependencies.{asked, other_kind, quantified, met, 
 use Rattle.cluster_defs.specs.Requests.{Request, is_direct, is_bound}
 use Rattle.cluster_defs.specs.Scheduling.{rests}
 use Rattle.cluster_defs.proofs.Options.{same_id, id_self}
-use Rattle.cluster_state.specs.Seen.{Seen, seen_in, place_in}
+use Rattle.cluster_state.specs.Seen.{Seen, place_in}
 use Rattle.cluster_state.specs.Standing.{alone}
 use Rattle.cluster_state.specs.Marking.{is_among}
 use Rattle.cluster_state.specs.Places.{name}

@@ -1,5 +1,5 @@
 -- Tasks that wait for others: what of them hangs on how others were settled, and where those are that list an id.
-use Rattle.std.specs.Prelude.{◌≡◌, ℕ, nat_le, ◌==◌, List, slice_get, Option, Some, None, Bool, true, false, not, ◌&&◌, ◌||◌}
+use Rattle.std.specs.Prelude.{◌≡◌, ℕ, nat_le, ◌==◌, List, Option, Some, None, Bool, true, false, not, ◌&&◌, ◌||◌}
 use Rattle.std.specs.Option.{option_and_then}
 use Rattle.place_sets.specs.Sets.{holds_at}
 use Rattle.cluster_defs.specs.Words.{Id, is_empty, is_listed}

@@ -1,6 +1,6 @@
-use Rattle.std.proofs.Common.{◌≡◌, take, get_or, true, subst, sym}
+use Rattle.std.proofs.Common.{take, get_or, subst, sym}
 use Rattle.std.proofs.lemmas.List.{take_more}
-use Rattle.cluster_state.specs.Marking.{HasAll, HasAt}
+use Rattle.cluster_state.specs.Marking.{HasAll}
 use Rattle.cluster_state.proofs.Marking.{grow_after, all_more}
 use Rattle.cluster_state.proofs.marks.mark_all.Goals as goal
 

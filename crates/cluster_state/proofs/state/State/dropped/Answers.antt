@@ -1,4 +1,4 @@
-use Rattle.std.proofs.Common.{◌≡◌, Some, sym, ap, ◌∙◌}
+use Rattle.std.proofs.Common.{Some, sym, ap, ◌∙◌}
 use Rattle.cluster_defs.specs.Purges.{purge_list, purging, dropped}
 use Rattle.cluster_state.specs.Plain.{facts_in}
 use Rattle.cluster_state.specs.Stands.{plain}

@@ -1,4 +1,4 @@
-use Rattle.std.proofs.Common.{◌≡◌, sym, ap, ◌∙◌}
+use Rattle.std.proofs.Common.{sym, ap, ◌∙◌}
 use Rattle.std.specs.HashMap.{get_by_text}
 use Rattle.cluster_state.specs.Seen.{handed_to, changed}
 use Rattle.cluster_state.proofs.Places.{beside_same, change_is, no_change_is}
