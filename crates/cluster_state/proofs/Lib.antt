@@ -13,7 +13,6 @@ pub mod Lists
 pub mod Multiplying
 pub mod Pieces
 pub mod Marking
-pub mod Waiting
 pub mod Places
 pub mod Purging
 pub mod Steps

@@ -5,4 +5,3 @@ pub mod Seen
 pub mod Settling
 pub mod Standing
 pub mod Stands
-pub mod Waiting

@@ -148,12 +148,14 @@ fn finish<R: Abort>(
         engine: Some(engine),
         moment: 0,
     };
-    tasks.settle(&id, settled, None);
+    tasks
+        .settle(&id, settled, None)
+        .expect(rt, "memory is ample");
 }
 
 fn hand<R: Abort>(rt: &R, alloc: Global, tasks: &mut Tasks, id: &str, engine: u32) {
     let id = text(rt, alloc, id);
-    tasks.hand(&id, engine);
+    tasks.hand(&id, engine).expect(rt, "memory is ample");
 }
 
 fn join<R: Abort>(rt: &R, alloc: Global, state: &mut State, number: u32) {
