@@ -19,8 +19,9 @@ use std::alloc::Global;
 use std::process::Abort;
 use std::sync::{Arc, Wait};
 use std::thread::Threads;
+use std::time::Clock;
 use thread_edges::clock::ListClock;
-use thread_edges::gate::{HoldGate, Point};
+use thread_edges::event_gate::EventGate;
 use thread_edges::memory::{Links, MemDialer, MemListener};
 use thread_edges::spawner::Spawner;
 use thread_edges::words::ListWords;
@@ -37,17 +38,21 @@ pub type MemShown = Shown<
 
 /// How a command ended: its status, what it printed, and what it said.
 #[derive(Drop)]
-pub struct Stood {
+pub struct Outcome {
     pub status: u8,
     pub shown: MemShown,
     pub output: MemSink,
     pub errors: MemSink,
 }
 
-impl Stood {
-    /// Whether it ended with this status, printed this and said this.
+impl Outcome {
+    /// Whether it ended with this status, printed this and said what begins so, and nothing where that is nothing.
     pub fn is(&self, status: u8, printed: &[u8], said: &[u8]) -> bool {
-        self.status == status && self.output.written() == printed && self.errors.written() == said
+        let errors = self.errors.written();
+        self.status == status
+            && self.output.written() == printed
+            && errors.starts_with(said)
+            && errors.is_empty() == said.is_empty()
     }
 }
 
@@ -105,9 +110,8 @@ pub fn ports_of<R: Abort>(
     }
 }
 
-/// Does what a line asks for, over these ports, a link that gives these octets, a disk and a spawner. Beats and time don't
-/// come before the command has long ended.
-pub fn stood<R: Wait + Abort + Drop + Copy + Send + Sync + 'static, H: Threads + Drop>(
+/// Does what a line asks for, over these ports, a link that gives these octets, a disk and a spawner.
+pub fn stood<R: Wait + Clock + Abort + Drop + Copy + Send + Sync + 'static, H: Threads + Drop>(
     rt: R,
     alloc: Global,
     line: &str,
@@ -115,12 +119,8 @@ pub fn stood<R: Wait + Abort + Drop + Copy + Send + Sync + 'static, H: Threads +
     octets: &[u8],
     disk: MemDisk,
     mut spawner: Spawner<H>,
-) -> Stood {
-    let held = [(Point::Beat, 0), (Point::Time, 0)];
-    let gate = HoldGate::new(alloc, &held, (Point::Accepted, 9), 100).expect(
-        &rt,
-        "memory is ample",
-    );
+) -> Outcome {
+    let gate = EventGate::new(alloc, rt).expect(&rt, "memory is ample");
     let Ok(gate) = Arc::new(alloc, gate) else {
         panic!(rt; "memory is ample");
     };
@@ -143,7 +143,7 @@ pub fn stood<R: Wait + Abort + Drop + Copy + Send + Sync + 'static, H: Threads +
         &mut errors,
         new_chooser(&rt, alloc),
     );
-    Stood {
+    Outcome {
         status,
         shown,
         output,

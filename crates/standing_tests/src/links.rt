@@ -1,11 +1,12 @@
 //! The commands over a link to a controller.
 
-use crate::fixture::{Stood, disk_of, ports_of, stood};
+use crate::fixture::{Outcome, disk_of, ports_of, stood};
 use standing_commands::shown::Shown;
 use std::alloc::Global;
 use std::process::Abort;
 use std::sync::Wait;
 use std::thread::Threads;
+use std::time::Clock;
 use thread_edges::spawner::Spawner;
 
 /// The greeting and the READY that both sides send, and the answer with the status `ok` to the first request of a client.
@@ -17,12 +18,12 @@ const REFUSED: &[u8] =
     b"\xff\0\0\0\0\0\0\0\0\x7f\x03\0NULL\0\0\0\0\0\0\0\0\0\0\0\0\0\0\0\0\0\0\0\0\0\0\0\0\0\0\0\0\0\0\0\0\0\0\0\0\0\0\0\0\0\0\0\0\0\0\0\0\x04\x1c\x05READY\x0bSocket-Type\0\0\0\x06ROUTER\x01\x09<IDS|MSG>\x01@2676ab82eb69a91482db07a2549e5250207c97e3d9e71dceddd39a513f8a1fd1\x01){\"msg_id\":\"a\",\"msg_type\":\"execute_reply\"}\x011{\"msg_id\":\"00000000-0000-4000-8000-000000000000\"}\x01\x02{}\0\x12{\"status\":\"error\"}";
 
 /// Does what a line asks for over a link that gives these octets.
-fn over_link<R: Wait + Threads + Abort + Drop + Copy + Send + Sync + 'static>(
+fn over_link<R: Wait + Threads + Clock + Abort + Drop + Copy + Send + Sync + 'static>(
     rt: R,
     alloc: Global,
     line: &str,
     octets: &[u8],
-) -> Stood {
+) -> Outcome {
     let ports = ports_of(&rt, alloc, b"", &[]);
     let disk = disk_of(&rt, alloc, b"");
     stood(
