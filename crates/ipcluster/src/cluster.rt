@@ -17,7 +17,7 @@ use edges::standard::StdSink;
 use load_schemes::chooser::Chooser;
 use load_schemes::place::place_of;
 use standing_commands::standing::standing;
-use std::alloc::{AllocError, Global};
+use std::alloc::AllocError;
 use std::net::TcpListener;
 use std::sync::{Arc, Wait};
 use std::thread::Threads;
@@ -28,39 +28,16 @@ use thread_edges::sockets::{TcpDial, TcpPort};
 use thread_edges::spawner::Spawner;
 use thread_edges::system::{OsWords, SystemClock};
 
-/// Where a cluster is: its host, and the first of its ports.
-#[derive(Clone, Copy, Debug)]
-struct Address<'a> {
-    host: &'a str,
-    port: u16,
-}
-
-/// Why a command isn't begun.
-#[derive(Clone, Copy, Debug)]
-enum SetupError {
-    /// A port wasn't opened.
-    Port,
-    /// The file of the database wasn't opened.
-    Database,
-    OutOfMemory,
-}
-
-impl From<AllocError> for SetupError {
-    fn from(_: AllocError) -> Self {
-        SetupError::OutOfMemory
-    }
-}
-
 /// Listens at a port.
-fn open_port(rt: &HostRuntime, host: &str, port: u16) -> Result<TcpPort, SetupError> {
+fn open_port(rt: &HostRuntime, host: &str, port: u16) -> Result<TcpPort, StandingEnding> {
     match TcpListener::bind(rt, (host, port)) {
         Ok(listener) => Ok(TcpPort::new(listener)),
-        Err(_) => Err(SetupError::Port),
+        Err(_) => Err(StandingEnding::ListenerFault),
     }
 }
 
 /// Listens at the four ports from the first one on.
-fn open_ports(rt: &HostRuntime, host: &str, first: u16) -> Result<Ports<TcpPort>, SetupError> {
+fn open_ports(rt: &HostRuntime, host: &str, first: u16) -> Result<Ports<TcpPort>, StandingEnding> {
     Ok(Ports {
         hub: open_port(rt, host, first)?,
         task: open_port(rt, host, first.saturating_add(1))?,
@@ -69,26 +46,18 @@ fn open_ports(rt: &HostRuntime, host: &str, first: u16) -> Result<Ports<TcpPort>
     })
 }
 
-/// The file of a database as a disk.
-fn open_disk(rt: &HostRuntime, path: &str) -> Result<FileDisk, SetupError> {
-    match open_for_changes(rt, path) {
-        Ok(file) => Ok(FileDisk::new(file)),
-        Err(_) => Err(SetupError::Database),
-    }
-}
-
 /// A port in memory at which nobody comes.
-fn still_port(alloc: Global) -> Result<MemListener, SetupError> {
-    Ok(MemListener::new(alloc, Links::new(alloc), &[])?)
+fn still_port(rt: &HostRuntime) -> Result<MemListener, AllocError> {
+    MemListener::new(rt.alloc(), Links::new(rt.alloc()), &[])
 }
 
 /// Four of them, for a command that has no ports.
-fn still_ports(alloc: Global) -> Result<Ports<MemListener>, SetupError> {
+fn still_ports(rt: &HostRuntime) -> Result<Ports<MemListener>, AllocError> {
     Ok(Ports {
-        hub: still_port(alloc)?,
-        task: still_port(alloc)?,
-        mux: still_port(alloc)?,
-        engine: still_port(alloc)?,
+        hub: still_port(rt)?,
+        task: still_port(rt)?,
+        mux: still_port(rt)?,
+        engine: still_port(rt)?,
     })
 }
 
@@ -99,14 +68,13 @@ fn stand<
     D: Disk + Drop + Send + Sync + 'static,
     E: Sink,
 >(
-    rt: HostRuntime,
-    handle: H,
+    (rt, handle): (HostRuntime, H),
     words: &WordList,
-    at: &Address,
+    (host, port): (&str, u16),
     ports: Ports<L>,
     disk: D,
     errors: &mut E,
-) -> Result<u8, SetupError> {
+) -> Result<u8, AllocError> {
     let alloc = rt.alloc();
     let Ok(choose) = Box::new(
         alloc,
@@ -115,57 +83,27 @@ fn stand<
             ensures { result ≡ pick scheme loads.now word }
         { place_of(scheme, loads, word) },
     ) else {
-        return Err(SetupError::OutOfMemory);
+        return Err(AllocError);
     };
-    let mut dialer = TcpDial::new(rt, String::from_str(alloc, at.host)?, at.port);
-    let mut spawner = Spawner::beside(alloc, handle)?;
     let Ok(gate) = Arc::new(alloc, EventGate::new(alloc, rt)?) else {
-        return Err(SetupError::OutOfMemory);
+        return Err(AllocError);
     };
-    let mut output = StdSink::new(rt.stdout());
     let (status, _shown) = standing(
         handle,
         alloc,
         words,
         ports,
-        &mut dialer,
+        &mut TcpDial::new(rt, String::from_str(alloc, host)?, port),
         disk,
         SystemClock::new(rt),
         OsWords::new(rt),
-        &mut spawner,
+        &mut Spawner::beside(alloc, handle)?,
         gate,
-        &mut output,
+        &mut StdSink::new(rt.stdout()),
         errors,
         Chooser::new(choose),
     );
     Ok(status)
-}
-
-/// Serves a cluster over the file of a database.
-fn serve<H: Threads + Wait + Drop + Copy + Send + Sync + 'static, E: Sink>(
-    rt: HostRuntime,
-    handle: H,
-    words: &WordList,
-    at: &Address,
-    database: &str,
-    errors: &mut E,
-) -> Result<u8, SetupError> {
-    let disk = open_disk(&rt, database)?;
-    let ports = open_ports(&rt, at.host, at.port)?;
-    stand(rt, handle, words, at, ports, disk, errors)
-}
-
-/// Works or asks over a link to a cluster, with neither ports nor a database.
-fn dial<H: Threads + Wait + Drop + Copy + Send + Sync + 'static, E: Sink>(
-    rt: HostRuntime,
-    handle: H,
-    words: &WordList,
-    at: &Address,
-    errors: &mut E,
-) -> Result<u8, SetupError> {
-    let alloc = rt.alloc();
-    let disk = MemDisk::new(alloc, b"")?;
-    stand(rt, handle, words, at, still_ports(alloc)?, disk, errors)
 }
 
 /// Does what a command asks for that is about a cluster at its ports.
@@ -183,24 +121,23 @@ pub fn run_cluster<H: Threads + Wait + Drop + Copy + Send + Sync + 'static, E: S
             database,
             ..
         } => {
-            let at = Address {
-                host: host.as_str(),
-                port: *port,
+            let Ok(file) = open_for_changes(&rt, database.as_str()) else {
+                return Err(StandingEnding::Plain(Ending::DiskFault));
             };
-            serve(rt, handle, words, &at, database.as_str(), errors)
+            let ports = open_ports(&rt, host.as_str(), *port)?;
+            let at = (host.as_str(), *port);
+            stand((rt, handle), words, at, ports, FileDisk::new(file), errors)
         }
         StandingCommand::Engine { host, port, .. } | StandingCommand::Client { host, port, .. } => {
-            let at = Address {
-                host: host.as_str(),
-                port: *port,
+            let (Ok(ports), Ok(disk)) = (still_ports(&rt), MemDisk::new(rt.alloc(), b"")) else {
+                return Err(StandingEnding::Plain(Ending::OutOfMemory));
             };
-            dial(rt, handle, words, &at, errors)
+            let at = (host.as_str(), *port);
+            stand((rt, handle), words, at, ports, disk, errors)
         }
     };
     match status {
         Ok(status) => Ok(status),
-        Err(SetupError::Port) => Err(StandingEnding::ListenerFault),
-        Err(SetupError::Database) => Err(StandingEnding::Plain(Ending::DiskFault)),
-        Err(SetupError::OutOfMemory) => Err(StandingEnding::Plain(Ending::OutOfMemory)),
+        Err(AllocError) => Err(StandingEnding::Plain(Ending::OutOfMemory)),
     }
 }
