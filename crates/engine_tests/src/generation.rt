@@ -1,11 +1,11 @@
-//! The tape and the summary, by worked values and by the plain model in Python.
+//! The tape and the summary, by worked values and by a plain model in Python.
 
 use generated_work::draws::next_draw;
 use generated_work::generator::{Generator, generate};
 use generated_work::summary::Summary;
 use sha2::{Digest, Sha256};
 
-/// The records of the tape of the seed 1 and two tasks, as the model writes them.
+/// The records of the tape of the seed 1 and two tasks, as an independent model writes them.
 const RECORDS: [&[u8]; 11] = [
     b"\x01\x00\x00\x00\x00\x00\x00\x00\x00\x00\x00\x00\x00\x00\x00\x00\x00\x00\x00\x00\x01\x03\x01\x02e0",
     b"\x06\x00\x00\x00\x00\x00\x00\x00\x00\x00\x00\x00\x00\x00\x00\x00\x00\x00\x00\x00\x01\x06\x00\x00\x00\t<IDS|MSG>\x00\x00\x00@4e433e9bcf899be6ee2aef6cc440960a7fc95683601fbffab3de7fa035d66c98\x00\x00\x00\x84{\"msg_id\":\"e0-0\",\"session\":\"e0\",\"username\":\"e0\",\"date\":\"1970-01-01T00:00:00.000Z\",\"msg_type\":\"registration_request\",\"version\":\"5.3\"}\x00\x00\x00\x02{}\x00\x00\x00\x02{}\x00\x00\x00\x0d{\"uuid\":\"e0\"}",
@@ -20,7 +20,7 @@ const RECORDS: [&[u8]; 11] = [
     b"\x06\x00\x00\x00\x00\x00\x00\x00\x00\x00\x00\x00\x00\x00\x00\x00\x00\x00\x00\x00\x05\x06\x00\x00\x00\t<IDS|MSG>\x00\x00\x00@29bd4e98c90aff0eadefb6fd089429f966c67e0874547581b6dab76cad012991\x00\x00\x00\x81{\"msg_id\":\"t2\",\"session\":\"work\",\"username\":\"work\",\"date\":\"1970-01-01T00:00:00.000Z\",\"msg_type\":\"execute_request\",\"version\":\"5.3\"}\x00\x00\x00\x02{}\x00\x00\x00\x02{}\x00\x00\x00u{\"code\":\"575+401\",\"silent\":false,\"store_history\":true,\"user_expressions\":{},\"allow_stdin\":false,\"stop_on_error\":true}",
 ];
 
-/// Seeds, numbers of tasks, and the SHA-256 digest of the tape, as the model makes it.
+/// Seeds, numbers of tasks, and the SHA-256 digest of the tape, as an independent model makes it.
 const DIGESTS: &[(u32, u32, &str)] = &[
     (
         0,
