@@ -18,3 +18,4 @@ pub mod Purging
 pub mod Steps
 pub mod Told
 pub mod Targets
+pub mod Waiting

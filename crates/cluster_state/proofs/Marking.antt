@@ -1,82 +1,116 @@
 -- Which changes of the tasks the sets of places outlast: all, where the places that change were put in before.
-use Rattle.std.proofs.Common.{◌≡◌, ℕ, List, [], ◌∷◌, ◌++◌, length, Bool, true, false, not, ◌&&◌, cond, Some, ◌||◌, ◌⊎◌, inl, inr, ⊎_elim, refl, sym, ◌∙◌, subst}
+use Rattle.std.proofs.Common.{◌≡◌, ℕ, map, bytes_eq, List, [], ◌∷◌, ◌++◌, length, Bool, true, false, not, ◌&&◌, cond, Some, None, ◌||◌, ◌⊎◌, inl, inr, ⊎_elim, refl, sym, ◌∙◌, subst}
+use Rattle.std.specs.Prelude.{slice_get}
 use Rattle.std.specs.Ordering.{nat_cmp}
 use Rattle.std.specs.BTreeMap.{is_at}
 use Rattle.std.specs.BTreeSet.{BTreeSet}
 use Rattle.place_sets.specs.Sets.{has, Covers, Apart}
-use Rattle.place_sets.proofs.Covering.{covers_grown, covers_at, covers_changed, covers_more, first_or_later, same_place}
+use Rattle.place_sets.proofs.Covering.{covers_grown, covers_at, covers_changed, covers_more, first_or_later, same_place, off_from}
 use Rattle.cluster_state.specs.declared.marks.Marks.{Marks}
 use Rattle.std.specs.Option.{is_some}
 use Rattle.cluster_defs.specs.declared.attempt.Attempt.{Attempt}
 use Rattle.cluster_defs.specs.declared.attempt.Attempt.TheVariants.{Never, Running, EndedOk, EndedBadly, Lost, Declined}
 use Rattle.cluster_defs.specs.Tasks.{runs, runs_at, after_end, lost}
-use Rattle.cluster_state.specs.Seen.{Seen, attempted, ended_on, lost_all, on_unsettled}
-use Rattle.cluster_state.specs.Standing.{is_open, final_at, direct_at, runs_open, careful}
-use Rattle.cluster_state.specs.Marking.{Marked, HasAt, HasAll, AllGrow, Aside, is_among}
+use Rattle.cluster_state.specs.Seen.{Seen, place_in, attempted, ended_on, lost_all, on_unsettled}
+use Rattle.cluster_state.specs.Standing.{final_at, direct_at, runs_open}
+use Rattle.cluster_state.specs.Marking.{Marked, HasAt, HasAll, Woken, AllWoken, AllGrow, Aside}
+use Rattle.cluster_state.specs.Waiting.{settled_in, ready, doubtful, is_among, Awaited}
+use Rattle.cluster_state.specs.Places.{Alike, name}
+use Rattle.cluster_state.proofs.Waiting.{Outside, ready_kept, doubtful_kept, settle_outside, others_settled, one_place, alike_settled, all_agree_at, more_settled, get_more}
+use Rattle.cluster_defs.specs.Words.{Id}
+use Rattle.std.proofs.lemmas.Bool.{both_ways}
 
 pub marked_grown : (ts : List Seen) (m n : Marks) → Marked ts m → AllGrow m n → Marked ts n
 marked_grown ts m n b g = record {
-  unsettled = covers_grown is_open ts m.unsettled n.unsettled b.unsettled g.unsettled;
   finals = covers_grown final_at ts m.finals n.finals b.finals g.finals;
   directs = covers_grown direct_at ts m.directs n.directs b.directs g.directs;
   running = covers_grown runs_open ts m.running n.running b.running g.running;
-  careful = covers_grown careful ts m.careful n.careful b.careful g.careful;
+  ready = covers_grown (ready ts) ts m.ready n.ready b.ready g.ready;
+  doubtful = covers_grown (doubtful ts) ts m.doubtful n.doubtful b.doubtful g.doubtful;
 }
 
+-- a place that isn't in a set is none that is
+not_there : (s : BTreeSet ℕ) (i place : ℕ) → has s i ≡ false → has s place ≡ true → i ≡ place → ⊥
+not_there s i place off on same = both_ways (has s place) (subst (λ k. has s k ≡ false) same off) on
+
 -- any change of the task at a place
-pub marked_at : (ts us : List Seen) (m : Marks) (place : ℕ) → Marked ts m → HasAt place m → Apart place ts us → Marked us m
-marked_at ts us m place b h apart = record {
-  unsettled = covers_at is_open ts us m.unsettled place b.unsettled h.unsettled apart;
+pub marked_at : (ts us : List Seen) (m : Marks) (place : ℕ) → Marked ts m → HasAt place m → Apart place ts us → Alike ts us → Marked us m
+marked_at ts us m place b h apart alike = record {
   finals = covers_at final_at ts us m.finals place b.finals h.finals apart;
   directs = covers_at direct_at ts us m.directs place b.directs h.directs apart;
   running = covers_at runs_open ts us m.running place b.running h.running apart;
-  careful = covers_at careful ts us m.careful place b.careful h.careful apart;
+  ready = ready_kept ts us m.ready b.ready (outside m.ready h.woken.ready);
+  doubtful = doubtful_kept ts us m.doubtful b.doubtful (outside m.doubtful h.woken.doubtful);
 }
+  where
+    outside : (s : BTreeSet ℕ) → has s place ≡ true → Outside ts us s
+    outside s on = λ i off. (apart i (not_there s i place off on), all_agree_at ts us (alike_settled ts us alike) (slice_get ts i))
+
+-- the task of an id is settled, with the places of those that wait for it
+pub marked_settled : (ts us : List Seen) (m : Marks) (id : Id) (place : ℕ) (places : List ℕ) → Marked ts m → HasAt place m → AllWoken places m → place_in id ts ≡ Some place → Awaited id ts places → Apart place ts us → map name us ≡ map name ts → Marked us m
+marked_settled ts us m id place places b h woken at awaited apart names = record {
+  finals = covers_at final_at ts us m.finals place b.finals h.finals apart;
+  directs = covers_at direct_at ts us m.directs place b.directs h.directs apart;
+  running = covers_at runs_open ts us m.running place b.running h.running apart;
+  ready = ready_kept ts us m.ready b.ready (settle_outside ts us id place places m.ready awaited (λ i on. (woken i on).ready) h.woken.ready apart others);
+  doubtful = doubtful_kept ts us m.doubtful b.doubtful (settle_outside ts us id place places m.doubtful awaited (λ i on. (woken i on).doubtful) h.woken.doubtful apart others);
+}
+  where
+    others : (j : Id) → bytes_eq j id ≡ false → settled_in ts j ≡ settled_in us j
+    others j off = others_settled ts us id j place names apart at (λ same. one_place ts id j place at same) off
 
 -- any changes of the tasks at some places
 module _ (ts us : List Seen) (places : List ℕ) (aside : Aside places ts us) where
-  covers_aside : (p : Seen → Bool) (s : BTreeSet ℕ) → Covers p ts s → ((i : ℕ) → is_among i places ≡ true → has s i ≡ true) → Covers p us s
-  covers_aside p s covers there = covers_changed p ts us s covers (λ i off. aside i (
-      elim (is_among i places) as (λ b. is_among i places ≡ b → b ≡ false) [
-        | true ↦ λ on. sym (there i on) ∙ off
-        | false ↦ λ _. refl
-      ] refl))
+  none_of : (s : BTreeSet ℕ) → ((i : ℕ) → is_among i places ≡ true → has s i ≡ true) → (i : ℕ) → has s i ≡ false → is_among i places ≡ false
+  none_of s there i off = off_from (is_among i places) (λ on. both_ways (has s i) off (there i on))
 
-  pub marked_aside : (m : Marks) → Marked ts m → HasAll places m → Marked us m
-  marked_aside m b h = record {
-    unsettled = covers_aside is_open m.unsettled b.unsettled (λ i on. (h i on).unsettled);
+  covers_aside : (p : Seen → Bool) (s : BTreeSet ℕ) → Covers p ts s → ((i : ℕ) → is_among i places ≡ true → has s i ≡ true) → Covers p us s
+  covers_aside p s covers there = covers_changed p ts us s covers (λ i off. aside i (none_of s there i off))
+
+  outside_aside : Alike ts us → (s : BTreeSet ℕ) → ((i : ℕ) → is_among i places ≡ true → has s i ≡ true) → Outside ts us s
+  outside_aside alike s there = λ i off. (aside i (none_of s there i off), all_agree_at ts us (alike_settled ts us alike) (slice_get ts i))
+
+  pub marked_aside : (m : Marks) → Marked ts m → HasAll places m → Alike ts us → Marked us m
+  marked_aside m b h alike = record {
     finals = covers_aside final_at m.finals b.finals (λ i on. (h i on).finals);
     directs = covers_aside direct_at m.directs b.directs (λ i on. (h i on).directs);
     running = covers_aside runs_open m.running b.running (λ i on. (h i on).running);
-    careful = covers_aside careful m.careful b.careful (λ i on. (h i on).careful);
+    ready = ready_kept ts us m.ready b.ready (outside_aside alike m.ready (λ i on. (h i on).woken.ready));
+    doubtful = doubtful_kept ts us m.doubtful b.doubtful (outside_aside alike m.doubtful (λ i on. (h i on).woken.doubtful));
   }
 
--- a task more
-pub marked_more : (ts : List Seen) (t : Seen) (m : Marks) → Marked ts m → HasAt (length ts) m → Marked (ts ++ t ∷ []) m
-marked_more ts t m b h = record {
-  unsettled = covers_more is_open ts t m.unsettled b.unsettled h.unsettled;
-  finals = covers_more final_at ts t m.finals b.finals h.finals;
-  directs = covers_more direct_at ts t m.directs b.directs h.directs;
-  running = covers_more runs_open ts t m.running b.running h.running;
-  careful = covers_more careful ts t m.careful b.careful h.careful;
-}
+-- a task more, which isn't settled
+module _ (ts : List Seen) (t : Seen) (none : t.settled ≡ None) where
+  outside_more : (s : BTreeSet ℕ) → has s (length ts) ≡ true → Outside ts (ts ++ t ∷ []) s
+  outside_more s on = λ i off. (get_more ts t i (not_there s i (length ts) off on), all_agree_at ts (ts ++ t ∷ []) (more_settled ts t none) (slice_get ts i))
+
+  pub marked_more : (m : Marks) → Marked ts m → HasAt (length ts) m → Marked (ts ++ t ∷ []) m
+  marked_more m b h = record {
+    finals = covers_more final_at ts t m.finals b.finals h.finals;
+    directs = covers_more direct_at ts t m.directs b.directs h.directs;
+    running = covers_more runs_open ts t m.running b.running h.running;
+    ready = ready_kept ts (ts ++ t ∷ []) m.ready b.ready (outside_more m.ready h.woken.ready);
+    doubtful = doubtful_kept ts (ts ++ t ∷ []) m.doubtful b.doubtful (outside_more m.doubtful h.woken.doubtful);
+  }
+
+woken_grown : (place : ℕ) (m n : Marks) → Woken place m → AllGrow m n → Woken place n
+woken_grown place m n h g = record { ready = g.ready place h.ready; doubtful = g.doubtful place h.doubtful }
 
 pub has_grown : (place : ℕ) (m n : Marks) → HasAt place m → AllGrow m n → HasAt place n
 has_grown place m n h g = record {
-  unsettled = g.unsettled place h.unsettled;
   finals = g.finals place h.finals;
   directs = g.directs place h.directs;
   running = g.running place h.running;
-  careful = g.careful place h.careful;
+  woken = woken_grown place m n h.woken g;
 }
 
 pub grow_after : (l m n : Marks) → AllGrow l m → AllGrow m n → AllGrow l n
 grow_after l m n a b = record {
-  unsettled = λ i on. b.unsettled i (a.unsettled i on);
   finals = λ i on. b.finals i (a.finals i on);
   directs = λ i on. b.directs i (a.directs i on);
   running = λ i on. b.running i (a.running i on);
-  careful = λ i on. b.careful i (a.careful i on);
+  ready = λ i on. b.ready i (a.ready i on);
+  doubtful = λ i on. b.doubtful i (a.doubtful i on);
 }
 
 among_end : (ps : List ℕ) (p i : ℕ) → is_among i (ps ++ p ∷ []) ≡ true → (is_among i ps ≡ true) ⊎ (i ≡ p)
@@ -95,6 +129,10 @@ among_end (q ∷ ps) p i on =
 -- the sets have some places, and then one more
 pub all_more : (ps : List ℕ) (p : ℕ) (m n : Marks) → HasAll ps m → AllGrow m n → HasAt p n → HasAll (ps ++ p ∷ []) n
 all_more ps p m n h g there = λ i on. ⊎_elim (λ before. has_grown i m n (h i before) g) (λ e. subst (λ k. HasAt k n) (sym e) there) (among_end ps p i on)
+
+-- the same of the sets that hang on how other tasks were settled
+pub woken_more : (ps : List ℕ) (p : ℕ) (m n : Marks) → AllWoken ps m → AllGrow m n → Woken p n → AllWoken (ps ++ p ∷ []) n
+woken_more ps p m n h g there = λ i on. ⊎_elim (λ before. woken_grown i m n (h i before) g) (λ e. subst (λ k. Woken k n) (sym e) there) (among_end ps p i on)
 
 -- ATTEMPTS THAT END
 

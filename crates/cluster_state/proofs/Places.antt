@@ -8,10 +8,10 @@ use Rattle.std.proofs.lemmas.Bool.{both_ways}
 use Rattle.cluster_defs.specs.Words.{Id, or_else}
 use Rattle.cluster_defs.proofs.Options.{same_id}
 use Rattle.cluster_state.specs.Seen.{Seen, place_in, seen_in, changed}
-use Rattle.cluster_state.specs.declared.marks.Marks.{Marks}
-use Rattle.cluster_state.specs.Marking.{Marked, Aside, is_among}
+use Rattle.cluster_state.specs.Marking.{Aside}
+use Rattle.cluster_state.specs.Waiting.{is_among}
 use Rattle.place_sets.specs.Sets.{Apart, at_place, at_places}
-use Rattle.cluster_state.specs.Places.{name, settling, IsSame, Alike, Beside}
+use Rattle.cluster_state.specs.Places.{name, settling, asking, IsSame, Alike, Placed}
 
 -- PLACES HANG ON IDS ALONE
 
@@ -53,13 +53,13 @@ map_set of (t ∷ ts) zero d y lt same = ap (λ v. v ∷ map of ts) same
 map_set of (t ∷ ts) (suc p) d y lt same = ap (λ vs. of t ∷ vs) (map_set of ts p d y (omega arith) same)
 
 pub alike_set : (ts : List Seen) (p : ℕ) (d y : Seen) → p < length ts → IsSame (get_or ts p d) y → Alike ts (set ts p y)
-alike_set ts p d y lt s = record { names = map_set name ts p d y lt s.name; settled = map_set settling ts p d y lt s.settled }
+alike_set ts p d y lt s = record { names = map_set name ts p d y lt s.name; requests = map_set asking ts p d y lt s.request; settled = map_set settling ts p d y lt s.settled }
 
 pub alike_at : (f : Seen → Seen) → ((t : Seen) → IsSame t (f t)) → (p : ℕ) (ts : List Seen) → Alike ts (at_place f p ts)
-alike_at f same p ts = record { names = map_at name f (λ t. (same t).name) p ts; settled = map_at settling f (λ t. (same t).settled) p ts }
+alike_at f same p ts = record { names = map_at name f (λ t. (same t).name) p ts; requests = map_at asking f (λ t. (same t).request) p ts; settled = map_at settling f (λ t. (same t).settled) p ts }
 
 pub alike_after : (ts us vs : List Seen) → Alike ts us → Alike us vs → Alike ts vs
-alike_after ts us vs a b = record { names = b.names ∙ a.names; settled = b.settled ∙ a.settled }
+alike_after ts us vs a b = record { names = b.names ∙ a.names; requests = b.requests ∙ a.requests; settled = b.settled ∙ a.settled }
 
 -- AT ONE PLACE AFTER ANOTHER
 
@@ -131,25 +131,17 @@ pub found_seen : (id : Id) (ts : List Seen) → option_and_then (slice_get ts) (
 found_seen id [] = refl
 found_seen id (t ∷ ts) = step_seen (bytes_eq t.row.id id) (place_in id ts) t ts (seen_in ts id) (found_seen id ts)
 
--- WHAT IS KEPT BESIDE THE TASKS
+-- THE PLACE OF EACH ID
 
-pub beside_same : (ts new : List Seen) (m n : Marks) (g : Id → Option ℕ) → Beside ts m g → map name new ≡ map name ts → Marked new n → Beside new n g
-beside_same ts new m n g b names marked = record { marked = marked; places = λ id. b.places id ∙ sym (same_place id ts new names) }
+pub placed_same : (ts us : List Seen) (g : Id → Option ℕ) → Placed ts g → map name us ≡ map name ts → Placed us g
+placed_same ts us g placed names id = placed id ∙ sym (same_place id ts us names)
 
-pub beside_more : (ts new : List Seen) (t : Seen) (m n : Marks) (g h : Id → Option ℕ) → Beside ts m g → new ≡ ts ++ t ∷ [] → Marked new n → ((j : Id) → h j ≡ or_else (g j) (cond (bytes_eq t.row.id j) (Some (length ts)) None)) → Beside new n h
-beside_more ts new t m n g h b is marked more = record {
-  marked = marked;
-  places = λ j. more j ∙ ap (λ o. or_else o (cond (bytes_eq t.row.id j) (Some (length ts)) None)) (b.places j) ∙ sym (push_place ts t j) ∙ ap (place_in j) (sym is);
-}
+pub placed_more : (ts us : List Seen) (t : Seen) (g h : Id → Option ℕ) → Placed ts g → us ≡ ts ++ t ∷ [] → ((j : Id) → h j ≡ or_else (g j) (cond (bytes_eq t.row.id j) (Some (length ts)) None)) → Placed us h
+placed_more ts us t g h placed is more j =
+    more j ∙ ap (λ o. or_else o (cond (bytes_eq t.row.id j) (Some (length ts)) None)) (placed j) ∙ sym (push_place ts t j) ∙ ap (place_in j) (sym is)
 
-pub beside_kept : (ts new : List Seen) (m n : Marks) (g h : Id → Option ℕ) → Beside ts m g → new ≡ ts → Marked new n → ((j : Id) → h j ≡ g j) → Beside new n h
-beside_kept ts new m n g h b is marked more = record { marked = marked; places = λ j. more j ∙ b.places j ∙ ap (place_in j) (sym is) }
-
-pub change_is : (f : Seen → Seen) (id : Id) (p : ℕ) (ts new : List Seen) (m : Marks) (g : Id → Option ℕ) → Beside ts m g → Some p ≡ g id → new ≡ at_place f p ts → new ≡ changed id f ts
-change_is f id p ts new m g b found is = is ∙ at_is_changed f id ts p (sym (b.places id) ∙ sym found)
-
-pub no_change_is : (f : Seen → Seen) (id : Id) (ts : List Seen) (m : Marks) (g : Id → Option ℕ) → Beside ts m g → None ≡ g id → ts ≡ changed id f ts
-no_change_is f id ts m g b none = sym (none_is_changed f id ts (sym (b.places id) ∙ sym none))
+pub placed_kept : (ts us : List Seen) (g h : Id → Option ℕ) → Placed ts g → us ≡ ts → ((j : Id) → h j ≡ g j) → Placed us h
+placed_kept ts us g h placed is same j = same j ∙ placed j ∙ ap (place_in j) (sym is)
 
 pub apart_set : (ts : List Seen) (p : ℕ) (y : Seen) → Apart p ts (set ts p y)
 apart_set [] p y i other = refl

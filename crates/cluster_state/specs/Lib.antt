@@ -5,3 +5,4 @@ pub mod Seen
 pub mod Settling
 pub mod Standing
 pub mod Stands
+pub mod Waiting

@@ -1,20 +1,14 @@
 -- How a task stands.
-use Rattle.std.specs.Prelude.{Bool, false, Option, Some, None, not, ◌&&◌, ◌||◌, ◌==◌}
+use Rattle.std.specs.Prelude.{Bool, not, ◌&&◌}
 use Rattle.std.specs.Option.{is_some}
 use Rattle.cluster_defs.specs.Facts.{Facts, nothing_yet}
 use Rattle.cluster_defs.specs.Tasks.{runs}
-use Rattle.cluster_defs.specs.Words.{is_empty}
-use Rattle.cluster_defs.specs.Requests.{Request, is_direct, is_bound}
 use Rattle.cluster_defs.specs.Scheduling.{is_final, ready_for}
 use Rattle.cluster_state.specs.Seen.{Seen}
 
 -- what one task tells
 abbrev pub alone : Seen → Facts
 alone t = record nothing_yet { request_of = λ id. t.request; task = λ id. t.attempts; settled = λ id. t.settled }
-
--- whether it isn't settled
-abbrev pub is_open : Seen → Bool
-is_open t = not (is_some t.settled)
 
 -- whether it isn't settled, and its attempts are over
 abbrev pub final_at : Seen → Bool
@@ -27,13 +21,3 @@ direct_at t = is_some (ready_for (alone t) t.row.id)
 -- whether it isn't settled, and an attempt is current
 abbrev pub runs_open : Seen → Bool
 runs_open t = not (is_some t.settled) && runs t.attempts.last
-
--- whether a request says something by which it may fail without an attempt
-abbrev pub careful_as : Option Request → Bool
-careful_as None = false
-careful_as (Some r) =
-    not (is_direct r) && (r.invalid || ((not (is_empty r.after.ids) || is_bound r || not (is_empty r.follow.ids)) || not (r.timeout == 0)))
-
--- whether it isn't settled, and may fail without an attempt
-abbrev pub careful : Seen → Bool
-careful t = not (is_some t.settled) && careful_as t.request

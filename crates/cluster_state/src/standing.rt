@@ -1,18 +1,13 @@
 //! How tasks stand: what of them is due without a look at others.
 
-ghost use Rattle.std.specs.Prelude.{◌≡◌, ◌||◌, not, Some};
-ghost use Rattle.cluster_defs.specs.Scheduling.{verdict_at, verdict, ready_for};
+ghost use Rattle.std.specs.Prelude.{◌≡◌};
+ghost use Rattle.cluster_defs.specs.Scheduling.{verdict_at, verdict, ready_for, rests};
 ghost use Rattle.place_sets.specs.Sets.{holds_at};
-ghost use Rattle.cluster_state.specs.Standing.{alone, is_open, final_at, direct_at, runs_open, careful_as, careful};
-ghost use Rattle.cluster_defs.specs.Words.{is_empty};
-ghost use Rattle.cluster_defs.specs.Requests.{is_bound};
-ghost use Rattle.cluster_state.specs.Seen.{request_as};
+ghost use Rattle.cluster_state.specs.Standing.{alone, final_at, direct_at, runs_open};
 
 use crate::attempts::{is_never, runs};
-use crate::request::Request;
 use crate::task::Task;
 use cluster_defs::attempt::Attempt;
-use cluster_types::message::Ids;
 use cluster_types::verdict::{Cause, Verdict};
 
 /// The verdict and cause that the last attempt leads to, where no retry is left or one is.
@@ -72,16 +67,6 @@ pub fn is_direct_at(tasks: &[Task], place: usize) -> bool
     }
 }
 
-/// Whether the task at a place isn't settled.
-pub fn is_open_at(tasks: &[Task], place: usize) -> bool
-    ensures { result ≡ holds_at is_open tasks.now place }
-{
-    match tasks.get(place) {
-        Some(task) => task.settled().is_none(),
-        None => false,
-    }
-}
-
 /// Whether the task at a place isn't settled, and an attempt is current.
 pub fn runs_open_at(tasks: &[Task], place: usize) -> bool
     ensures { result ≡ holds_at runs_open tasks.now place }
@@ -92,40 +77,9 @@ pub fn runs_open_at(tasks: &[Task], place: usize) -> bool
     }
 }
 
-/// Whether no id is listed.
-#[tactic(auto, using(crate::proofs::Lists::none_listed))]
-fn is_empty(ids: &Ids) -> bool
-    ensures { result ≡ is_empty ids.now }
+/// Whether a task is unsettled, without a current attempt.
+pub fn rests(task: &Task) -> bool
+    ensures { result ≡ rests (alone task.now) task.now.row.id }
 {
-    ids.is_empty()
-}
-
-/// Whether a request names other tasks or targets.
-fn is_bound(request: &Request) -> bool
-    ensures { result ≡ (not (is_empty request.now.after.ids) || is_bound (request_as request.now) || not (is_empty request.now.follow.ids)) }
-{
-    !is_empty(&request.after.ids) || !is_empty(&request.listed) || !is_empty(&request.follow.ids)
-}
-
-/// Whether a request says something by which it may fail without an attempt.
-fn is_careful_request(request: &Request) -> bool
-    ensures { result ≡ careful_as (Some (request_as request.now)) }
-{
-    request.direct_to.is_none() && (request.invalid || is_bound(request) || request.timeout != 0)
-}
-
-/// Whether the task at a place isn't settled, and may fail without an attempt.
-pub fn is_careful_at(tasks: &[Task], place: usize) -> bool
-    ensures { result ≡ holds_at careful tasks.now place }
-{
-    match tasks.get(place) {
-        Some(task) => is_careful(task),
-        None => false,
-    }
-}
-
-fn is_careful(task: &Task) -> bool
-    ensures { result ≡ careful task.now }
-{
-    task.settled().is_none() && is_careful_request(task.request())
+    task.settled().is_none() && !runs(task.attempts().last)
 }

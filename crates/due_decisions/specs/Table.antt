@@ -10,22 +10,19 @@ use Rattle.cluster_types.specs.declared.entry.Entry.TheVariants.{Settle}
 use Rattle.cluster_defs.specs.declared.engine.Engine.{Engine}
 use Rattle.cluster_defs.specs.Words.{Id, or_else}
 use Rattle.cluster_defs.specs.Engines.{lists_number}
-use Rattle.cluster_defs.specs.Tasks.{Task, Settled, runs_at}
+use Rattle.cluster_defs.specs.Tasks.{Task, runs_at}
 use Rattle.cluster_defs.specs.Dependencies.{met, on_engine}
 use Rattle.cluster_defs.specs.Requests.{Request, is_direct, is_target}
 use Rattle.cluster_defs.specs.Facts.{Facts, nothing_yet, is_direct_id}
 use Rattle.cluster_defs.specs.Scheduling.{lose_due, verdict, is_final, settle_as, rests, failing_as, ready_for, hand_to, may_run_as, excludes, pick}
 use Rattle.place_sets.specs.Sets.{holds_at}
-use Rattle.cluster_state.specs.Seen.{Seen, seen_in}
+use Rattle.cluster_state.specs.Seen.{Seen}
 pub use Rattle.cluster_state.specs.Standing.{alone, final_at, direct_at}
+pub use Rattle.cluster_state.specs.Waiting.{settled_in, ready_as, ready, doubtful}
 use Rattle.cluster_state.specs.Plain.{Plain}
 use Rattle.due_decisions.specs.declared.rooms.Room.{Room}
 
 -- FACTS OF A PART OF THE DATA
-
--- how the ids of a table were settled
-abbrev pub settled_in : List Seen → Id → Option Settled
-settled_in ts id = option_and_then (λ t. t.settled) (seen_in ts id)
 
 -- the attempts of one task, the live engines and how all tasks were settled
 abbrev pub among : List Seen → List Engine → ℕ → Task → Facts
@@ -92,14 +89,6 @@ noted_at ts place r = if holds_at (loads r.engine) ts place then record r { load
 -- the tasks at some places
 abbrev pub tally : List Seen → List ℕ → Room → Room
 tally ts places r = record r { load = r.load + count_by (holds_at (loads r.engine) ts) places }
-
--- a Submit that waits, with attempts left and what it waits for met
-abbrev pub ready_as : List Seen → Task → Option Request → Bool
-ready_as ts a None = false
-ready_as ts a (Some r) = not (is_direct r) && nat_le a.spent r.retries && met r.after (settled_in ts)
-
-abbrev pub ready : List Seen → Seen → Bool
-ready ts t = rests (alone t) t.row.id && ready_as ts t.attempts t.request
 
 -- an engine where what it follows is met, that is a target and didn't decline it
 abbrev pub takes_as : List Seen → ℕ → Option Request → Bool

@@ -8,21 +8,16 @@ ghost use Rattle.cluster_defs.specs.Scheduling.{rests, excludes, usable, usable_
 ghost use Rattle.cluster_state.specs.Seen.{request_as, attempts_as, settled_as};
 ghost use Rattle.due_decisions.specs.Table.{settled_in, alone, among, failing_in};
 
-use crate::dependencies::{is_asked, is_empty, is_scattered, is_unreachable, settled_in};
+use crate::dependencies::is_scattered;
 use cluster_defs::engine::Engine;
-use cluster_state::attempts::{Attempts, runs};
+use cluster_state::attempts::Attempts;
+use cluster_state::dependencies::{is_asked, is_empty, is_unreachable, settled_in};
 use cluster_state::request::Request;
+use cluster_state::standing::rests;
+use cluster_state::table::Table;
 use cluster_state::task::{Settled, Task};
-use cluster_state::tasks::Tasks;
 use cluster_types::text::Text;
 use cluster_types::verdict::Cause;
-
-/// Whether a task is unsettled, without a current attempt.
-pub fn rests(task: &Task) -> bool
-    ensures { result ≡ rests (alone task.now) task.now.row.id }
-{
-    task.settled().is_none() && !runs(task.attempts().last)
-}
 
 /// Whether an engine is live.
 pub fn is_live(engines: &[Engine], engine: u32) -> bool
@@ -122,71 +117,71 @@ fn spoils(
 
 /// Whether an id finished so that the task can't run for it.
 fn spoils_for(
-    tasks: &Tasks,
+    table: &Table,
     engines: &[Engine],
     attempts: &Attempts,
     request: &Request,
     id: &Text,
 ) -> bool
-    ensures { result ≡ spoils (among [] engines.now 0 (attempts_as attempts.now)) [] (request_as request.now) (settled_in tasks.now id.now) }
+    ensures { result ≡ spoils (among [] engines.now 0 (attempts_as attempts.now)) [] (request_as request.now) (settled_in table.now id.now) }
 {
-    spoils(engines, attempts, request, settled_in(tasks, id))
+    spoils(engines, attempts, request, settled_in(table, id))
 }
 
 /// Whether an id that is followed did so.
-fn any_spoils(tasks: &Tasks, engines: &[Engine], attempts: &Attempts, request: &Request) -> bool
-    ensures { result ≡ list_any (λ i. spoils (among [] engines.now 0 (attempts_as attempts.now)) [] (request_as request.now) (settled_in tasks.now i)) request.now.follow.ids }
+fn any_spoils(table: &Table, engines: &[Engine], attempts: &Attempts, request: &Request) -> bool
+    ensures { result ≡ list_any (λ i. spoils (among [] engines.now 0 (attempts_as attempts.now)) [] (request_as request.now) (settled_in table.now i)) request.now.follow.ids }
 {
     request
         .follow
         .ids
         .as_slice()
         .iter()
-        .any(|id| spoils_for(tasks, engines, attempts, request, id))
+        .any(|id| spoils_for(table, engines, attempts, request, id))
 }
 
 /// Whether each id that is followed did so.
-fn all_spoil(tasks: &Tasks, engines: &[Engine], attempts: &Attempts, request: &Request) -> bool
-    ensures { result ≡ list_all (λ i. spoils (among [] engines.now 0 (attempts_as attempts.now)) [] (request_as request.now) (settled_in tasks.now i)) request.now.follow.ids }
+fn all_spoil(table: &Table, engines: &[Engine], attempts: &Attempts, request: &Request) -> bool
+    ensures { result ≡ list_all (λ i. spoils (among [] engines.now 0 (attempts_as attempts.now)) [] (request_as request.now) (settled_in table.now i)) request.now.follow.ids }
 {
     request
         .follow
         .ids
         .as_slice()
         .iter()
-        .all(|id| spoils_for(tasks, engines, attempts, request, id))
+        .all(|id| spoils_for(table, engines, attempts, request, id))
 }
 
 /// Whether the followed ids finished so that the task can't run.
 fn is_follow_spoilt(
-    tasks: &Tasks,
+    table: &Table,
     engines: &[Engine],
     attempts: &Attempts,
     request: &Request,
 ) -> bool
-    ensures { result ≡ follow_spoilt (among tasks.now engines.now 0 (attempts_as attempts.now)) [] (request_as request.now) request.now.follow.all }
+    ensures { result ≡ follow_spoilt (among table.now engines.now 0 (attempts_as attempts.now)) [] (request_as request.now) request.now.follow.all }
 {
     if request.follow.all {
-        any_spoils(tasks, engines, attempts, request) || is_scattered(tasks, &request.follow.ids)
+        any_spoils(table, engines, attempts, request) || is_scattered(table, &request.follow.ids)
     } else {
-        all_spoil(tasks, engines, attempts, request)
+        all_spoil(table, engines, attempts, request)
     }
 }
 
 /// Whether ids are followed, and the task can't run for them.
-fn is_follow_dead(tasks: &Tasks, engines: &[Engine], attempts: &Attempts, request: &Request) -> bool
-    ensures { result ≡ follow_dead (among tasks.now engines.now 0 (attempts_as attempts.now)) [] (request_as request.now) }
+fn is_follow_dead(table: &Table, engines: &[Engine], attempts: &Attempts, request: &Request) -> bool
+    ensures { result ≡ follow_dead (among table.now engines.now 0 (attempts_as attempts.now)) [] (request_as request.now) }
 {
-    !is_empty(&request.follow.ids) && is_follow_spoilt(tasks, engines, attempts, request)
+    !is_empty(&request.follow.ids) && is_follow_spoilt(table, engines, attempts, request)
 }
 
 /// Whether a Submit can't run for good.
-fn is_dead(tasks: &Tasks, engines: &[Engine], attempts: &Attempts, request: &Request) -> bool
-    ensures { result ≡ is_dead (among tasks.now engines.now 0 (attempts_as attempts.now)) [] (request_as request.now) }
+fn is_dead(table: &Table, engines: &[Engine], attempts: &Attempts, request: &Request) -> bool
+    ensures { result ≡ is_dead (among table.now engines.now 0 (attempts_as attempts.now)) [] (request_as request.now) }
 {
-    is_unreachable(&request.after, tasks)
+    is_unreachable(&request.after, table)
         || has_no_target(engines, attempts, request)
-        || is_follow_dead(tasks, engines, attempts, request)
+        || is_follow_dead(table, engines, attempts, request)
 }
 
 /// Whether a request waited past its timeout, at a moment in milliseconds.
@@ -202,17 +197,17 @@ fn is_timed_out(request: &Request, now: u64) -> bool
 
 /// Why a Submit fails without an attempt, by the order of the causes.
 fn cause(
-    tasks: &Tasks,
+    table: &Table,
     engines: &[Engine],
     now: u64,
     attempts: &Attempts,
     request: &Request,
 ) -> Option<Cause>
-    ensures { result ≡ failing (among tasks.now engines.now now (attempts_as attempts.now)) [] (request_as request.now) }
+    ensures { result ≡ failing (among table.now engines.now now (attempts_as attempts.now)) [] (request_as request.now) }
 {
     if request.invalid {
         Some(Cause::InvalidDependency)
-    } else if is_dead(tasks, engines, attempts, request) {
+    } else if is_dead(table, engines, attempts, request) {
         Some(Cause::ImpossibleDependency)
     } else if is_timed_out(request, now) {
         Some(Cause::TaskTimeout)
@@ -223,27 +218,27 @@ fn cause(
 
 /// Why a task with this request fails without an attempt. A direct request doesn't.
 fn failing_request(
-    tasks: &Tasks,
+    table: &Table,
     engines: &[Engine],
     now: u64,
     attempts: &Attempts,
     request: &Request,
 ) -> Option<Cause>
-    ensures { result ≡ failing_as (among tasks.now engines.now now (attempts_as attempts.now)) [] (Some (request_as request.now)) }
+    ensures { result ≡ failing_as (among table.now engines.now now (attempts_as attempts.now)) [] (Some (request_as request.now)) }
 {
     if request.direct_to.is_some() {
         None
     } else {
-        cause(tasks, engines, now, attempts, request)
+        cause(table, engines, now, attempts, request)
     }
 }
 
 /// Why a task fails without an attempt, if it does.
-pub fn failing(tasks: &Tasks, engines: &[Engine], now: u64, task: &Task) -> Option<Cause>
-    ensures { result ≡ failing_in tasks.now engines.now now task.now }
+pub fn failing(table: &Table, engines: &[Engine], now: u64, task: &Task) -> Option<Cause>
+    ensures { result ≡ failing_in table.now engines.now now task.now }
 {
     if rests(task) {
-        failing_request(tasks, engines, now, task.attempts(), task.request())
+        failing_request(table, engines, now, task.attempts(), task.request())
     } else {
         None
     }

@@ -6,10 +6,12 @@ ghost use Rattle.std.specs.Option.{option_copied};
 ghost use Rattle.place_sets.specs.Sets.{holds_at};
 ghost use Rattle.due_decisions.specs.Table.{direct_at, direct_of, direct_in, ready, takes, fits, rooms_for, picked, hand_of, hand_in};
 
-use crate::dependencies::{is_met, is_met_on};
-use crate::failing::{is_excluded, is_target, rests};
+use crate::dependencies::is_met_on;
+use crate::failing::{is_excluded, is_target};
 use crate::rooms::Room;
+use cluster_state::readiness::is_ready;
 use cluster_state::standing::{is_direct_at, ready_for};
+use cluster_state::table::Table;
 use cluster_state::task::Task;
 use cluster_state::tasks::Tasks;
 use cluster_types::config::Scheme;
@@ -57,57 +59,47 @@ pub fn direct_due(tasks: &Tasks) -> Result<Option<Entry>, AllocError>
     }
 }
 
-/// Whether a task is a Submit that waits, with attempts left and what it waits for met.
-fn is_ready(tasks: &Tasks, task: &Task) -> bool
-    ensures { result ≡ ready tasks.now task.now }
-{
-    rests(task)
-        && task.request().direct_to.is_none()
-        && task.attempts().spent <= u64::from(task.request().retries)
-        && is_met(&task.request().after, tasks)
-}
-
 /// Whether a task may run on an engine, as far as the two go together.
-fn takes(tasks: &Tasks, task: &Task, engine: u32) -> bool
-    ensures { result ≡ takes tasks.now task.now engine }
+fn takes(table: &Table, task: &Task, engine: u32) -> bool
+    ensures { result ≡ takes table.now task.now engine }
 {
-    is_met_on(&task.request().follow, tasks, engine)
+    is_met_on(&task.request().follow, table, engine)
         && is_target(task.request(), engine)
         && !is_excluded(task.attempts(), engine)
 }
 
 /// Whether a task may run on one of some engines, as far as the two go together.
-fn any_takes(tasks: &Tasks, rooms: &[Room], task: &Task) -> bool
-    ensures { result ≡ list_any (λ r. takes tasks.now task.now r.engine) rooms.now }
+fn any_takes(table: &Table, rooms: &[Room], task: &Task) -> bool
+    ensures { result ≡ list_any (λ r. takes table.now task.now r.engine) rooms.now }
 {
-    rooms.iter().any(|r| takes(tasks, task, r.engine))
+    rooms.iter().any(|r| takes(table, task, r.engine))
 }
 
 /// Whether a task waits, and may run on one of some engines.
-fn may_run(tasks: &Tasks, rooms: &[Room], task: &Task) -> bool
-    ensures { result ≡ list_any (λ r. fits tasks.now task.now r.engine) rooms.now }
+fn may_run(table: &Table, rooms: &[Room], task: &Task) -> bool
+    ensures { result ≡ list_any (λ r. fits table.now task.now r.engine) rooms.now }
 {
-    is_ready(tasks, task) && any_takes(tasks, rooms, task)
+    is_ready(table, task) && any_takes(table, rooms, task)
 }
 
 /// Whether the task at a place does.
-fn may_run_at(tasks: &Tasks, rooms: &[Room], place: usize) -> bool
-    ensures { result ≡ holds_at (λ t. list_any (λ r. fits tasks.now t r.engine) rooms.now) tasks.now place }
+fn may_run_at(table: &Table, rooms: &[Room], place: usize) -> bool
+    ensures { result ≡ holds_at (λ t. list_any (λ r. fits table.now t r.engine) rooms.now) table.now place }
 {
-    match tasks.as_slice().get(place) {
-        Some(task) => may_run(tasks, rooms, task),
+    match table.as_slice().get(place) {
+        Some(task) => may_run(table, rooms, task),
         None => false,
     }
 }
 
 /// The place of the lowest such task.
-fn waiting_place(tasks: &Tasks, places: &BTreeSet<usize>, rooms: &[Room]) -> Option<usize>
-    ensures { result ≡ find (holds_at (λ t. list_any (λ r. fits tasks.now t r.engine) rooms.now) tasks.now) places.now.keys }
+fn waiting_place(table: &Table, places: &BTreeSet<usize>, rooms: &[Room]) -> Option<usize>
+    ensures { result ≡ find (holds_at (λ t. list_any (λ r. fits table.now t r.engine) rooms.now) table.now) places.now.keys }
 {
     places
         .iter()
         .copied()
-        .find(|p| may_run_at(tasks, rooms, *p))
+        .find(|p| may_run_at(table, rooms, *p))
 }
 
 /// The lowest such task.
@@ -117,31 +109,31 @@ fn waiting_task<'a>(tasks: &'a Tasks, rooms: &[Room]) -> Option<&'a Task>
     if rooms.is_empty() {
         None
     } else {
-        let places = &tasks.marks().unsettled;
+        let places = &tasks.marks().ready;
         let _many = places.len();
-        tasks.at(waiting_place(tasks, places, rooms))
+        tasks.at(waiting_place(tasks.table(), places, rooms))
     }
 }
 
 /// Whether a task waits, and may run on an engine.
-fn is_fitting(tasks: &Tasks, task: &Task, engine: u32) -> bool
-    ensures { result ≡ fits tasks.now task.now engine }
+fn is_fitting(table: &Table, task: &Task, engine: u32) -> bool
+    ensures { result ≡ fits table.now task.now engine }
 {
-    is_ready(tasks, task) && takes(tasks, task, engine)
+    is_ready(table, task) && takes(table, task, engine)
 }
 
 /// The rooms where a task may run.
 fn rooms_for(
     alloc: Global,
-    tasks: &Tasks,
+    table: &Table,
     rooms: &[Room],
     task: &Task,
 ) -> Result<Vec<Room>, AllocError>
-    ensures { IfOk result (λ v. v.items ≡ rooms_for tasks.now rooms.now task.now) }
+    ensures { IfOk result (λ v. v.items ≡ rooms_for table.now rooms.now task.now) }
 {
     rooms
         .iter()
-        .filter(|r| is_fitting(tasks, task, r.engine))
+        .filter(|r| is_fitting(table, task, r.engine))
         .copied()
         .collect(alloc)
 }
@@ -184,16 +176,16 @@ fn picked(
 /// The hand-out of a task to the engine that is picked of those where it may run.
 fn hand_of(
     alloc: Global,
-    tasks: &Tasks,
+    table: &Table,
     rooms: &[Room],
     chooser: &Chooser,
     scheme: Scheme,
     word: u64,
     task: &Task,
 ) -> Result<Option<Entry>, AllocError>
-    ensures { IfOk result (λ d. d ≡ hand_of tasks.now rooms.now scheme word task.now) }
+    ensures { IfOk result (λ d. d ≡ hand_of table.now rooms.now scheme word task.now) }
 {
-    let fitting = rooms_for(alloc, tasks, rooms, task)?;
+    let fitting = rooms_for(alloc, table, rooms, task)?;
     match picked(alloc, chooser, scheme, word, &fitting)? {
         Some(engine) => Ok(Some(Entry::Hand {
             id: task.id().clone()?,
@@ -215,7 +207,7 @@ pub fn hand_due(
     ensures { IfOk result (λ d. d ≡ hand_in tasks.now rooms.now scheme word) }
 {
     match waiting_task(tasks, rooms) {
-        Some(task) => hand_of(alloc, tasks, rooms, chooser, scheme, word, task),
+        Some(task) => hand_of(alloc, tasks.table(), rooms, chooser, scheme, word, task),
         None => Ok(None),
     }
 }

@@ -1,8 +1,6 @@
 //! Engines that have room, with their loads.
 
 ghost use Rattle.std.specs.Prelude.{◌≡◌, ◌&&◌, not, filter, map, IfOk, OnOk};
-ghost use Rattle.std.specs.List.Sorted.{IsStrictlySortedBy};
-ghost use Rattle.std.specs.Ordering.{nat_cmp};
 ghost use Rattle.cluster_defs.specs.Engines.{lists_number};
 ghost use Rattle.cluster_defs.specs.Facts.{is_direct_id};
 ghost use Rattle.due_decisions.specs.Table.{alone, loads, noted, noted_at, tally, leaves_room, rooms_in};
@@ -11,9 +9,8 @@ use crate::failing::is_live;
 use cluster_defs::engine::Engine;
 use cluster_state::attempts::{runs, runs_at};
 use cluster_state::task::Task;
-use cluster_state::tasks::Tasks;
+use cluster_state::tasks::{Tasks, places_in};
 use std::alloc::{AllocError, Global};
-use std::collections::BTreeSet;
 
 /// An engine, with how many Submits run on it.
 #[derive(Clone, Copy, Debug, PartialEq, Eq)]
@@ -87,15 +84,6 @@ fn note_all(rooms: &mut [Room], tasks: &[Task], places: &[usize]) -> Result<(), 
         note_at(rooms, tasks, *place)?;
     }
     Ok(())
-}
-
-/// The places in a set.
-fn places_in(alloc: Global, set: &BTreeSet<usize>) -> Result<Vec<usize>, AllocError>
-    ensures places { IfOk result (λ v. v.items ≡ set.now.keys) }
-    ensures sorted { OnOk result (IsStrictlySortedBy nat_cmp set.now.keys) }
-{
-    let _many = set.len();
-    set.iter().copied().collect(alloc)
 }
 
 /// The live engines in ascending order of last use, with nothing counted.

@@ -8,6 +8,7 @@ ghost use Rattle.due_decisions.specs.Table.{final_at, settle_of, settle_in, fail
 use crate::failing::failing;
 use cluster_defs::engine::Engine;
 use cluster_state::standing::{is_final_at, verdict};
+use cluster_state::table::Table;
 use cluster_state::task::Task;
 use cluster_state::tasks::Tasks;
 use cluster_types::entry::Entry;
@@ -56,49 +57,49 @@ pub fn settle_due(tasks: &Tasks) -> Result<Option<Entry>, AllocError>
 }
 
 /// Whether the task at a place fails without an attempt.
-fn is_failing_at(tasks: &Tasks, engines: &[Engine], now: u64, place: usize) -> bool
-    ensures { result ≡ holds_at (λ t. is_some (failing_in tasks.now engines.now now t)) tasks.now place }
+fn is_failing_at(table: &Table, engines: &[Engine], now: u64, place: usize) -> bool
+    ensures { result ≡ holds_at (λ t. is_some (failing_in table.now engines.now now t)) table.now place }
 {
-    match tasks.as_slice().get(place) {
-        Some(task) => failing(tasks, engines, now, task).is_some(),
+    match table.as_slice().get(place) {
+        Some(task) => failing(table, engines, now, task).is_some(),
         None => false,
     }
 }
 
 /// The place of the lowest such task.
 fn failing_place(
-    tasks: &Tasks,
+    table: &Table,
     places: &BTreeSet<usize>,
     engines: &[Engine],
     now: u64,
 ) -> Option<usize>
-    ensures { result ≡ find (holds_at (λ t. is_some (failing_in tasks.now engines.now now t)) tasks.now) places.now.keys }
+    ensures { result ≡ find (holds_at (λ t. is_some (failing_in table.now engines.now now t)) table.now) places.now.keys }
 {
     places
         .iter()
         .copied()
-        .find(|p| is_failing_at(tasks, engines, now, *p))
+        .find(|p| is_failing_at(table, engines, now, *p))
 }
 
 /// The lowest such task.
 fn failing_task<'a>(tasks: &'a Tasks, engines: &[Engine], now: u64) -> Option<&'a Task>
     ensures { option_copied result ≡ find (λ t. is_some (failing_in tasks.now engines.now now t)) tasks.now }
 {
-    let places = &tasks.marks().careful;
+    let places = &tasks.marks().doubtful;
     let _many = places.len();
-    tasks.at(failing_place(tasks, places, engines, now))
+    tasks.at(failing_place(tasks.table(), places, engines, now))
 }
 
 /// The settle of a task that fails without an attempt.
 fn fail_of(
-    tasks: &Tasks,
+    table: &Table,
     engines: &[Engine],
     now: u64,
     task: &Task,
 ) -> Result<Option<Entry>, AllocError>
-    ensures { IfOk result (λ d. d ≡ fail_of tasks.now engines.now now task.now) }
+    ensures { IfOk result (λ d. d ≡ fail_of table.now engines.now now task.now) }
 {
-    match failing(tasks, engines, now, task) {
+    match failing(table, engines, now, task) {
         Some(cause) => Ok(Some(Entry::Settle {
             id: task.id().clone()?,
             verdict: Verdict::Failed,
@@ -113,7 +114,7 @@ pub fn fail_due(tasks: &Tasks, engines: &[Engine], now: u64) -> Result<Option<En
     ensures { IfOk result (λ d. d ≡ fail_in tasks.now engines.now now) }
 {
     match failing_task(tasks, engines, now) {
-        Some(task) => fail_of(tasks, engines, now, task),
+        Some(task) => fail_of(tasks.table(), engines, now, task),
         None => Ok(None),
     }
 }

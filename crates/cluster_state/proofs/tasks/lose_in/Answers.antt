@@ -1,19 +1,29 @@
-use Rattle.std.proofs.Common.{◌≡◌, ◌++◌, length, take, drop, ap, ◌∙◌, arith}
-use Rattle.std.proofs.lemmas.List.{with_items_is}
+use Rattle.std.proofs.Common.{ap, subst, sym, ◌∙◌}
 use Rattle.place_sets.specs.Sets.{at_places}
 use Rattle.place_sets.proofs.Sweeping.{sweep}
 use Rattle.cluster_state.specs.Seen.{lost_all, on_unsettled}
+use Rattle.cluster_state.specs.Marking.{HasAll}
 use Rattle.cluster_state.specs.Standing.{runs_open}
-use Rattle.cluster_state.proofs.Marking.{idle_lost}
+use Rattle.cluster_state.proofs.Marking.{marked_grown, marked_aside, idle_lost}
 use Rattle.cluster_state.proofs.tasks.lose_in.Goals as goal
 
 pub returns-clause-ok : goal.returns-clause-ok
 returns-clause-ok c =
-    let ts = c.args.tasks.now.items in
-    let new = c.lose_each.new.tasks in
+    let ts = c.args.table.now in
     let f = on_unsettled lost_all in
-    let running = c.args.marks.now.running in
-    let whole : take c.args.tasks.now.len (new ++ drop (length new) ts) ≡ new = with_items_is c.args.tasks.now new (omega (arith, c.lose_each.auto.tasks, c.deref_mut.ensures.len)) in
-    whole ∙ c.in_ok-lose_each.ensures.ok ∙ ap (λ ps. at_places f ps c.deref_mut.result.now) (c.deref-2.ensures.value ∙ c.in_ok-places.ensures.places)
-    ∙ ap (at_places f running.keys) c.deref_mut.ensures.value
-    ∙ sweep runs_open f ts running c.in_ok-places.ensures.sorted c.requires.running (idle_lost)
+    c.in_ok-lose_each.ensures.ok ∙ ap (λ ps. at_places f ps ts) (c.deref-2.ensures.value ∙ c.in_ok-places.ensures.places)
+    ∙ sweep runs_open f ts c.args.marks.now.running c.in_ok-places.ensures.sorted c.requires.running idle_lost
+
+pub tidy_all-requires : goal.tidy_all-requires
+tidy_all-requires c =
+    let ps = c.deref-2.result.now in
+    let m = c.mark_all.new.marks in
+    let there : HasAll ps m = subst (λ qs. HasAll qs m) (c.deref.ensures.value ∙ sym c.deref-2.ensures.value) c.in_ok-mark_all.ensures.there in
+    marked_aside c.args.table.now c.lose_each.new.self ps c.lose_each.ensures.aside m (marked_grown c.args.table.now c.args.marks.now m c.requires c.mark_all.ensures.grow) there c.lose_each.ensures.same
+
+pub returns-in_err-lose_each-clause-marked : goal.returns-in_err-lose_each-clause-marked
+returns-in_err-lose_each-clause-marked c =
+    let ps = c.deref-2.result.now in
+    let m = c.mark_all.new.marks in
+    let there : HasAll ps m = subst (λ qs. HasAll qs m) (c.deref.ensures.value ∙ sym c.deref-2.ensures.value) c.in_ok-mark_all.ensures.there in
+    marked_aside c.args.table.now c.lose_each.new.self ps c.lose_each.ensures.aside m (marked_grown c.args.table.now c.args.marks.now m c.requires c.mark_all.ensures.grow) there c.lose_each.ensures.same

@@ -6,7 +6,7 @@ use Rattle.due_decisions.proofs.failing.failing.Goals as goal
 
 pub returns-then-rests : goal.returns-then-rests
 returns-then-rests c =
-    let ts = c.args.tasks.now in
+    let ts = c.args.table.now in
     let live = c.args.engines.now in
     let now = c.args.now in
     let t = c.args.task.now in

@@ -12,6 +12,6 @@ use Rattle.due_decisions.proofs.settling.failing_task.Goals as goal
 pub returns : goal.returns
 returns c =
     let ts = c.args.tasks.now in
-    let s = c.marks.result.now.careful in
+    let s = c.marks.result.now.doubtful in
     let p : Seen → Bool = λ t. is_some (failing_in ts c.args.engines.now c.args.now t) in
-    c.at.ensures ∙ ap (option_and_then (slice_get ts)) (c.failing_place.ensures) ∙ find_covered p ts s c.len-many.ensures.ordered (failing_covers c.args.engines.now c.args.now ts s c.marks.ensures.careful)
+    c.at.ensures ∙ ap (option_and_then (slice_get ts)) (c.failing_place.ensures ∙ ap (λ xs. find (holds_at (λ t. is_some (failing_in xs c.args.engines.now c.args.now t)) xs) s.keys) c.table.ensures) ∙ find_covered p ts s c.len-many.ensures.ordered (failing_covers c.args.engines.now c.args.now ts s c.marks.ensures.doubtful)

@@ -1,0 +1,35 @@
+-- How many there are of each number: the item at its place, and none behind the end.
+use Rattle.std.specs.Prelude.{◌≡◌, ⊤, ℕ, ◌+◌, ◌==◌, List, slice_get, Option, Some, None, Bool, false, if◌then◌else◌}
+use Rattle.std.specs.Global.{Vec}
+
+abbrev pub or_zero : Option ℕ → ℕ
+or_zero None = 0
+or_zero (Some count) = count
+
+abbrev pub count_of : List ℕ → ℕ → ℕ
+count_of counts n = or_zero (slice_get counts n)
+
+-- whether a number is this one
+abbrev pub hits : Option ℕ → ℕ → Bool
+hits None n = false
+hits (Some m) n = m == n
+
+-- one of this number, and none of others
+abbrev pub one_at : Option ℕ → ℕ → ℕ
+one_at number n = if hits number n then 1 else 0
+
+-- one fewer of a number, where it can be told
+abbrev pub Lowered : List ℕ → ℕ → Option (Vec ℕ) → Type 0
+Lowered old number None = ⊤
+Lowered old number (Some new) = (n : ℕ) → count_of new.items n + one_at (Some number) n ≡ count_of old n
+
+-- one more of a number, where it can be told
+abbrev pub Raised : List ℕ → ℕ → Option (Vec ℕ) → Type 0
+Raised old number None = ⊤
+Raised old number (Some new) = (n : ℕ) → count_of new.items n ≡ count_of old n + one_at (Some number) n
+
+-- one fewer of the first number and one more of the second, where it can be told
+abbrev pub Moved : Option (Vec ℕ) → Option ℕ → Option ℕ → Option (Vec ℕ) → Type 0
+Moved None before after new = new ≡ None
+Moved (Some old) before after None = ⊤
+Moved (Some old) before after (Some new) = (n : ℕ) → count_of new.items n + one_at before n ≡ count_of old.items n + one_at after n

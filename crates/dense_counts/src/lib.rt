@@ -1,0 +1,4 @@
+//! How many there are of each of some small numbers.
+#![tactic(auto)]
+
+pub mod counts;

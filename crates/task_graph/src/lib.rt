@@ -1,0 +1,4 @@
+//! Which tasks wait for an id.
+#![tactic(auto)]
+
+pub mod waiters;
