@@ -19,3 +19,4 @@ pub mod Steps
 pub mod Told
 pub mod Targets
 pub mod Waiting
+pub mod Loading

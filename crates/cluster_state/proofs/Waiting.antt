@@ -1,6 +1,6 @@
 -- A task that is settled changes what is so of the tasks that wait for it alone.
 use Rattle.std.proofs.Common.{◌≡◌, ℕ, zero, suc, length, arith, List, [], ◌∷◌, ◌++◌, map, Bool, true, false, not, ◌&&◌, ◌||◌, cond, refl, sym, ap, ◌∙◌, subst, Option, Some, None, bytes_eq}
-use Rattle.std.specs.Prelude.{⊤, slice_get, nat_le, ◌==◌, option_map, Result, Ok, Err, OnOk, OnErr}
+use Rattle.std.specs.Prelude.{⊤, slice_get, nat_le, ◌==◌, option_map}
 use Rattle.std.specs.Ordering.{nat_cmp}
 use Rattle.std.specs.BTreeMap.{is_at}
 use Rattle.std.specs.List.{list_any, list_all}
@@ -17,9 +17,7 @@ use Rattle.cluster_defs.specs.Scheduling.{rests}
 use Rattle.cluster_defs.proofs.Options.{same_id, id_self}
 use Rattle.cluster_state.specs.Seen.{Seen, seen_in, place_in}
 use Rattle.cluster_state.specs.Standing.{alone}
-use Rattle.cluster_state.specs.Places.{name, settling, asking, Alike, Beside}
-use Rattle.cluster_state.specs.declared.marks.Marks.{Marks}
-use Rattle.cluster_state.specs.Marking.{Marked}
+use Rattle.cluster_state.specs.Places.{name, settling, asking, Alike}
 use Rattle.task_graph.specs.Listing.{Lists, waiting_for}
 use Rattle.std.proofs.lemmas.Bool.{both_ways, eqb-true, eq-eqb}
 use Rattle.cluster_state.specs.Waiting.{settled_in, ready_as, ready, doubtful_as, doubtful, awaits_as, awaits, is_among, Awaited, Indexed, IsNoted, WaitsGrow}
@@ -215,10 +213,6 @@ by_requests id (t ∷ ts) (suc i) = by_requests id ts i
 pub indexed_same : (ts us : List Seen) (waits : Lists) → Indexed ts waits → map asking us ≡ map asking ts → Indexed us waits
 indexed_same ts us waits is same = λ id i on. is id i (by_requests id ts i ∙ ap (λ os. waits_in id (slice_get os i)) (sym same) ∙ sym (by_requests id us i) ∙ on)
 
--- what is kept beside the tasks, after a change of them that leaves their requests
-pub beside_same : (ts us : List Seen) (m n : Marks) (waits : Lists) → Beside ts m waits → map asking us ≡ map asking ts → Marked us n → Beside us n waits
-beside_same ts us m n waits b same marked = record { marked = marked; indexed = indexed_same ts us waits b.indexed same }
-
 pub indexed_grown : (ts : List Seen) (old new : Lists) → Indexed ts old → WaitsGrow old new → Indexed ts new
 indexed_grown ts old new is grow = λ id i on. grow id i (is id i on)
 
@@ -232,10 +226,6 @@ indexed_more ts t waits is noted = λ id i on.
           (noted id (ap (holds (awaits id)) (sym (get_last ts t)) ∙ subst (λ k. holds_at (awaits id) (ts ++ t ∷ []) k ≡ true) at on))
       | false ↦ λ off. is id i (ap (holds (awaits id)) (sym (get_more ts t i (λ e. both_ways (i == length ts) off (eq-eqb i (length ts) e)))) ∙ on)
     ] refl
-
-pub indexed_pushed : {E : Type 0} (r : Result ⊤ E) (ts us : List Seen) (t : Seen) (waits : Lists) → OnOk r (us ≡ ts ++ t ∷ []) → OnErr r (us ≡ ts) → Indexed ts waits → ((id : Id) → awaits id t ≡ true → is_among (length ts) (waiting_for waits id) ≡ true) → Indexed us waits
-indexed_pushed (Ok x) ts us t waits ok err is noted = subst (λ xs. Indexed xs waits) (sym ok) (indexed_more ts t waits is noted)
-indexed_pushed (Err e) ts us t waits ok err is noted = subst (λ xs. Indexed xs waits) (sym err) is
 
 -- A PLACE MORE WITH AN ID
 

@@ -6,3 +6,4 @@ pub mod Settling
 pub mod Standing
 pub mod Stands
 pub mod Waiting
+pub mod Loading

@@ -7,6 +7,7 @@ pub mod copies;
 pub mod dependencies;
 pub mod engines;
 pub mod entries;
+pub mod loads;
 pub mod marks;
 pub mod messages;
 pub mod outcomes;

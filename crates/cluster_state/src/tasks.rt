@@ -1,22 +1,26 @@
 //! All tasks, with what is kept beside them.
 
-ghost use Rattle.std.specs.Prelude.{◌≡◌, ◌++◌, ◌∷◌, [], length, map, slice_get, Some, None, IfOk, OnOk, OnErr};
+ghost use Rattle.std.specs.Prelude.{◌≡◌, ◌++◌, ◌∷◌, [], length, map, slice_get, Some, None, IfOk, IfSome, OnOk, OnErr};
 ghost use Rattle.std.specs.List.Sorted.{IsStrictlySortedBy};
 ghost use Rattle.std.specs.Option.{option_copied, option_and_then};
 ghost use Rattle.std.specs.Ordering.{nat_cmp};
 ghost use Rattle.place_sets.specs.Sets.{at_place};
+ghost use Rattle.dense_numbers.specs.Counts.{Moved};
 ghost use Rattle.cluster_state.specs.Seen.{ending_as, settled_as, handed_to, ended_on, lost_all, replied_with, settled_with, purged_out, seen_in, place_in, changed, on_unsettled};
 ghost use Rattle.cluster_state.specs.Marking.{Marked};
+ghost use Rattle.cluster_state.specs.Loading.{Counts, Counted};
 ghost use Rattle.cluster_state.specs.Places.{Alike, asking};
 ghost use Rattle.cluster_state.specs.Waiting.{Awaited, IsNoted, WaitsGrow};
 
 use crate::attempts::Ending;
+use crate::loads::{loaded, loaded_at, tallied};
 use crate::marks::{Marks, mark, mark_all, no_marks, tidy, tidy_all, tidy_waiting_all, wake_all};
 use crate::table::Table;
 use crate::task::{Settled, Task};
 use cluster_types::message::Ids;
 use cluster_types::shared_message::SharedMessage;
 use cluster_types::text::Text;
+use dense_numbers::counts::moved;
 use std::alloc::{AllocError, Global};
 use std::collections::BTreeSet;
 use std::marker::Model;
@@ -31,6 +35,8 @@ pub struct Tasks {
     marks: Marks,
     /// Places of those that wait for an id.
     waiters: Waiters,
+    /// How many Submits run on each engine. There are none where a change failed half-way.
+    counts: Option<Vec<u32>>,
 }
 
 impl Model for Tasks {
@@ -42,7 +48,7 @@ impl Model for Tasks {
 
     ghost view = { λ t. t.table };
 
-    ghost invariant = { λ t. Beside t.table t.marks t.waiters };
+    ghost invariant = { λ t. Beside t.table t.marks t.waiters t.counts };
 }
 
 // Each change of a task: its place is put into all sets, the task is changed, and its place is taken out of the sets that
@@ -158,6 +164,40 @@ fn lose_in(table: &mut Table, marks: &mut Marks) -> Result<(), AllocError>
     Ok(())
 }
 
+/// Counts the Submits that run on each engine.
+fn counted_in(table: &Table, marks: &Marks) -> Result<Option<Vec<u32>>, AllocError>
+    requires { Marked table.now marks.now }
+    ensures { IfOk result (λ counts. Counted table.now counts) }
+{
+    let alloc = table.allocator();
+    let places = places_in(alloc, &marks.running)?;
+    tallied(alloc, table, &places)
+}
+
+/// Puts the counts of all Submits that run.
+fn count_anew(counts: &mut Option<Vec<u32>>, table: &Table, marks: &Marks) -> Result<(), AllocError>
+    requires { Marked table.now marks.now }
+    ensures ok { OnOk result (Counted table.now counts.new) }
+    ensures err { OnErr result (counts.new ≡ counts.old) }
+{
+    *counts = counted_in(table, marks)?;
+    Ok(())
+}
+
+/// Puts the counts that were kept, once a Submit that ran on one engine runs on another.
+fn follow(
+    counts: &mut Option<Vec<u32>>,
+    kept: Option<Vec<u32>>,
+    before: Option<u32>,
+    after: Option<u32>,
+) -> Result<(), AllocError>
+    ensures ok { OnOk result (Moved kept before after counts.new) }
+    ensures err { OnErr result (counts.new ≡ counts.old) }
+{
+    *counts = moved(kept, before, after)?;
+    Ok(())
+}
+
 /// Notes that the task at a place waits for some ids.
 fn note_waits(waiters: &mut Waiters, ids: &Ids, place: usize) -> Result<(), AllocError>
     ensures there { OnOk result (IsNoted ids.now place waiters.new) }
@@ -192,6 +232,7 @@ impl Tasks {
             table: Table::new(alloc),
             marks: no_marks(alloc),
             waiters: Waiters::new(alloc),
+            counts: Some(Vec::new(alloc)),
         }
     }
 
@@ -243,8 +284,11 @@ impl Tasks {
         ensures { OnOk result (self.new ≡ self.old ++ task ∷ []) }
     {
         let place = self.table.len();
+        let after = loaded(&task);
+        let kept = self.counts.take();
         note_waits(&mut self.waiters, &task.request().after.ids, place)?;
-        push_onto(&mut self.table, &mut self.marks, task)
+        push_onto(&mut self.table, &mut self.marks, task)?;
+        follow(&mut self.counts, kept, None, after)
     }
 
     /// Begins an attempt of a task on an engine.
@@ -252,7 +296,10 @@ impl Tasks {
         ensures { OnOk result (self.new ≡ changed id.now (handed_to engine) self.old) }
     {
         if let Some(place) = self.table.place_of(id) {
+            let before = loaded_at(&self.table, place);
+            let kept = self.counts.take();
             hand_in(&mut self.table, &mut self.marks, place, engine)?;
+            follow(&mut self.counts, kept, before, loaded_at(&self.table, place))?;
         }
         Ok(())
     }
@@ -268,7 +315,10 @@ impl Tasks {
         ensures { OnOk result (self.new ≡ changed id.now (replied_with header.now (ending_as how) reply) self.old) }
     {
         if let Some(place) = self.table.place_of(id) {
+            let before = loaded_at(&self.table, place);
+            let kept = self.counts.take();
             take_reply_in(&mut self.table, &mut self.marks, place, header, how, reply)?;
+            follow(&mut self.counts, kept, before, loaded_at(&self.table, place))?;
         }
         Ok(())
     }
@@ -283,8 +333,11 @@ impl Tasks {
         ensures { OnOk result (self.new ≡ changed id.now (settled_with (settled_as settled) outcome) self.old) }
     {
         if let Some(place) = self.table.place_of(id) {
+            let before = loaded_at(&self.table, place);
+            let kept = self.counts.take();
             let waiting = self.waiters.of(id);
             settle_in(&mut self.table, &mut self.marks, id, place, waiting, settled, outcome)?;
+            follow(&mut self.counts, kept, before, loaded_at(&self.table, place))?;
         }
         Ok(())
     }
@@ -294,7 +347,10 @@ impl Tasks {
         ensures { OnOk result (self.new ≡ changed id.now purged_out self.old) }
     {
         if let Some(place) = self.table.place_of(id) {
+            let before = loaded_at(&self.table, place);
+            let kept = self.counts.take();
             purge_in(&mut self.table, &mut self.marks, place)?;
+            follow(&mut self.counts, kept, before, loaded_at(&self.table, place))?;
         }
         Ok(())
     }
@@ -303,13 +359,32 @@ impl Tasks {
     pub fn end_on(&mut self, engine: u32) -> Result<(), AllocError>
         ensures { OnOk result (self.new ≡ map (on_unsettled (ended_on engine)) self.old) }
     {
-        end_in(&mut self.table, &mut self.marks, engine)
+        let _ = self.counts.take();
+        end_in(&mut self.table, &mut self.marks, engine)?;
+        count_anew(&mut self.counts, &self.table, &self.marks)
     }
 
     /// Ends the attempts of all unsettled tasks, by an Open.
     pub fn lose_all(&mut self) -> Result<(), AllocError>
         ensures { OnOk result (self.new ≡ map (on_unsettled lost_all) self.old) }
     {
-        lose_in(&mut self.table, &mut self.marks)
+        let _ = self.counts.take();
+        lose_in(&mut self.table, &mut self.marks)?;
+        count_anew(&mut self.counts, &self.table, &self.marks)
+    }
+
+    /// How many Submits run on each engine, where that was kept.
+    pub fn counts(&self) -> Option<&Vec<u32>>
+        ensures { IfSome result (λ counts. Counts self.now counts.now.items) }
+    {
+        self.counts.as_ref()
+    }
+
+    /// How many Submits run on each engine, counted anew. There is no answer where a load would pass the end of its
+    /// 32 bits.
+    pub fn counted(&self) -> Result<Option<Vec<u32>>, AllocError>
+        ensures { IfOk result (λ counts. Counted self.now counts) }
+    {
+        counted_in(&self.table, &self.marks)
     }
 }

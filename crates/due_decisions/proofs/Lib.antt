@@ -1,5 +1,5 @@
-pub mod Counted
 pub mod Lists
+pub mod OpenRooms
 pub mod OpenTasks
 pub mod Stand
 pub mod Whole

@@ -19,6 +19,7 @@ use Rattle.place_sets.specs.Sets.{holds_at}
 use Rattle.cluster_state.specs.Seen.{Seen}
 pub use Rattle.cluster_state.specs.Standing.{alone, final_at, direct_at}
 pub use Rattle.cluster_state.specs.Waiting.{settled_in, ready_as, ready, doubtful}
+pub use Rattle.cluster_state.specs.Loading.{loads, load_in}
 use Rattle.cluster_state.specs.Plain.{Plain}
 use Rattle.due_decisions.specs.declared.rooms.Room.{Room}
 
@@ -62,13 +63,6 @@ direct_in ts = option_and_then direct_of (find direct_at ts)
 
 -- (e) HAND A SUBMIT
 
--- whether a task is a Submit that runs on an engine
-abbrev pub loads : ℕ → Seen → Bool
-loads n t = not (is_some t.settled) && (runs_at n t.attempts.last && not (is_direct_id (alone t) t.row.id))
-
-abbrev pub load_in : List Seen → ℕ → ℕ
-load_in ts n = count_by (loads n) ts
-
 -- whether a load is below the bound `hwm`; 0 is no bound
 abbrev pub leaves_room : ℕ → ℕ → Bool
 leaves_room hwm load = hwm == 0 || nat_lt load hwm
@@ -77,18 +71,6 @@ leaves_room hwm load = hwm == 0 || nat_lt load hwm
 abbrev pub rooms_in : List Seen → List Engine → ℕ → List ℕ → List Room
 rooms_in ts live hwm by_use =
     filter (λ r. leaves_room hwm r.load) (map (λ n. record { engine = n; load = load_in ts n }) (filter (λ n. lists_number n live) by_use))
-
--- one Submit more on the engines where it runs
-abbrev pub noted : Seen → Room → Room
-noted t r = if loads r.engine t then record r { load = r.load + 1 } else r
-
--- the task at a place
-abbrev pub noted_at : List Seen → ℕ → Room → Room
-noted_at ts place r = if holds_at (loads r.engine) ts place then record r { load = r.load + 1 } else r
-
--- the tasks at some places
-abbrev pub tally : List Seen → List ℕ → Room → Room
-tally ts places r = record r { load = r.load + count_by (holds_at (loads r.engine) ts) places }
 
 -- an engine where what it follows is met, that is a target and didn't decline it
 abbrev pub takes_as : List Seen → ℕ → Option Request → Bool

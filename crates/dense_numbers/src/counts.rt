@@ -1,7 +1,7 @@
 //! A list of counts, one for each number up to the greatest that was counted.
 
 ghost use Rattle.std.specs.Prelude.{◌≡◌, ◌<◌, ◌==◌, ℕ, length, IfOk, OnOk, if◌then◌else◌, Some, None};
-ghost use Rattle.dense_counts.specs.Counts.{count_of, Lowered, Raised, Moved};
+ghost use Rattle.dense_numbers.specs.Counts.{count_of, Lowered, Raised, Moved};
 
 use std::alloc::AllocError;
 
@@ -94,15 +94,5 @@ pub fn moved(
     match lower_where(counts, before) {
         Some(counts) => raise_where(counts, after),
         None => Ok(None),
-    }
-}
-
-/// None of a number any more.
-pub fn clear(counts: &mut [u32], number: u32)
-    ensures { (n : ℕ) → count_of counts.new n ≡ (if number == n then 0 else count_of counts.old n) }
-{
-    let place = number as usize;
-    if place < counts.len() {
-        counts[place] = 0;
     }
 }

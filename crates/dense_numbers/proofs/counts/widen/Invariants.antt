@@ -1,6 +1,6 @@
 use Rattle.std.proofs.Common.{◌≡◌, ◌≤◌, ℕ, length}
-use Rattle.dense_counts.specs.Counts.{count_of}
-use Rattle.dense_counts.proofs.counts.widen.Given as goal
+use Rattle.dense_numbers.specs.Counts.{count_of}
+use Rattle.dense_numbers.proofs.counts.widen.Given as goal
 
 abbrev pub invariant-loop : goal.invariant-loop
 invariant-loop l = record {

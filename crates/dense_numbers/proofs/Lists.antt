@@ -1,8 +1,8 @@
 -- Counts after a change of one.
-use Rattle.std.proofs.Common.{◌≡◌, ap, sym, ◌∙◌, ℕ, zero, suc, ◌+◌, ◌<◌, ◌≤◌, List, [], ◌∷◌, ◌++◌, length, set, cond, Bool, true, false, refl, subst, Option, Some, None, arith}
+use Rattle.std.proofs.Common.{◌≡◌, ap, sym, ◌∙◌, ℕ, zero, suc, ◌+◌, ◌<◌, List, [], ◌∷◌, ◌++◌, length, set, cond, Bool, true, false, refl, subst, Option, Some, None, arith}
 use Rattle.std.specs.Prelude.{◌==◌, slice_get}
 use Rattle.std.proofs.lemmas.Bool.{both_ways, eqb-true, eq-eqb}
-use Rattle.dense_counts.specs.Counts.{or_zero, count_of}
+use Rattle.dense_numbers.specs.Counts.{or_zero, count_of}
 
 -- a count of none at the end
 pub none_more : (cs : List ℕ) (n : ℕ) → count_of (cs ++ 0 ∷ []) n ≡ count_of cs n
@@ -29,8 +29,3 @@ set_there cs p v lt n =
       | true ↦ λ on. subst (λ k. count_of (set cs p v) k ≡ v) (eqb-true p n on) (set_here cs p v lt)
       | false ↦ λ off. set_other cs p v n (λ e. both_ways (p == n) off (eq-eqb p n e))
     ] refl
-
-pub past_none : (cs : List ℕ) (p : ℕ) → length cs ≤ p → count_of cs p ≡ 0
-past_none [] p le = refl
-past_none (c ∷ cs) zero le = absurd (omega arith)
-past_none (c ∷ cs) (suc p) le = past_none cs p (omega arith)
