@@ -104,12 +104,12 @@ pushed_counted ts us t None new after counted is two moved = subst (λ o. Counte
 pushed_counted ts us t (Some old) None after counted is two moved = tt
 pushed_counted ts us t (Some old) (Some new) after counted is two moved =
     subst (λ xs. Counts xs new.items) (sym is) (λ n.
-      let more = count_more n ts t in
-      let here : one_at after n ≡ cond (loads n t) 1 0 = ap (λ o. one_at o n) two ∙ sym (one_of t n) in
-      let none : one_at None n ≡ 0 = refl in
-      let all = moved n in
-      let was = counted n in
-      omega (arith, more, here, none, all, was))
+    let more = count_more n ts t in
+    let here : one_at after n ≡ cond (loads n t) 1 0 = ap (λ o. one_at o n) two ∙ sym (one_of t n) in
+    let none : one_at None n ≡ 0 = refl in
+    let all = moved n in
+    let was = counted n in
+    omega (arith, more, here, none, all, was))
 
 -- SOME PLACES
 

@@ -116,8 +116,9 @@ others_settled ts us x j p names apart at once off =
 -- where the places of those that wait for an id, and its own, are in the set, the others agree
 pub settle_outside : (ts us : List Seen) (x : Id) (p : ℕ) (places : List ℕ) (s : BTreeSet ℕ) → Awaited x ts places → ((i : ℕ) → is_among i places ≡ true → has s i ≡ true) → has s p ≡ true → Apart p ts us → ((j : Id) → bytes_eq j x ≡ false → settled_in ts j ≡ settled_in us j) → Outside ts us s
 settle_outside ts us x p places s awaited marked here apart others = λ i off. (
-    apart i (λ e. both_ways (has s p) (subst (λ k. has s k ≡ false) e off) here),
-    agree (slice_get ts i) (off_from (holds (awaits x) (slice_get ts i)) (λ on. both_ways (has s i) off (marked i (awaited i on)))))
+  apart i (λ e. both_ways (has s p) (subst (λ k. has s k ≡ false) e off) here),
+  agree (slice_get ts i) (off_from (holds (awaits x) (slice_get ts i)) (λ on. both_ways (has s i) off (marked i (awaited i on)))),
+)
   where
     agree : (o : Option Seen) → holds (awaits x) o ≡ false → Agrees ts us o
     agree None off = tt
@@ -266,5 +267,5 @@ listed_end (i ∷ ids) id j on before here =
 pub added_noted : (ids : List Id) (id : Id) (p : ℕ) (old new : Lists) → IsNoted ids p old → Added id p old new → IsNoted (ids ++ id ∷ []) p new
 added_noted ids id p old new noted added = λ j on.
     subst (λ xs. is_among p xs ≡ true) (sym (added j)) (listed_end ids id j on
-      (λ before. put_before (bytes_eq id j) (waiting_for old j) p p (noted j before))
-      (λ here. put_there (bytes_eq id j) (waiting_for old j) p here))
+    (λ before. put_before (bytes_eq id j) (waiting_for old j) p p (noted j before))
+    (λ here. put_there (bytes_eq id j) (waiting_for old j) p here))

@@ -299,7 +299,12 @@ impl Tasks {
             let before = loaded_at(&self.table, place);
             let kept = self.counts.take();
             hand_in(&mut self.table, &mut self.marks, place, engine)?;
-            follow(&mut self.counts, kept, before, loaded_at(&self.table, place))?;
+            follow(
+                &mut self.counts,
+                kept,
+                before,
+                loaded_at(&self.table, place),
+            )?;
         }
         Ok(())
     }
@@ -318,7 +323,12 @@ impl Tasks {
             let before = loaded_at(&self.table, place);
             let kept = self.counts.take();
             take_reply_in(&mut self.table, &mut self.marks, place, header, how, reply)?;
-            follow(&mut self.counts, kept, before, loaded_at(&self.table, place))?;
+            follow(
+                &mut self.counts,
+                kept,
+                before,
+                loaded_at(&self.table, place),
+            )?;
         }
         Ok(())
     }
@@ -336,8 +346,21 @@ impl Tasks {
             let before = loaded_at(&self.table, place);
             let kept = self.counts.take();
             let waiting = self.waiters.of(id);
-            settle_in(&mut self.table, &mut self.marks, id, place, waiting, settled, outcome)?;
-            follow(&mut self.counts, kept, before, loaded_at(&self.table, place))?;
+            settle_in(
+                &mut self.table,
+                &mut self.marks,
+                id,
+                place,
+                waiting,
+                settled,
+                outcome,
+            )?;
+            follow(
+                &mut self.counts,
+                kept,
+                before,
+                loaded_at(&self.table, place),
+            )?;
         }
         Ok(())
     }
@@ -350,7 +373,12 @@ impl Tasks {
             let before = loaded_at(&self.table, place);
             let kept = self.counts.take();
             purge_in(&mut self.table, &mut self.marks, place)?;
-            follow(&mut self.counts, kept, before, loaded_at(&self.table, place))?;
+            follow(
+                &mut self.counts,
+                kept,
+                before,
+                loaded_at(&self.table, place),
+            )?;
         }
         Ok(())
     }

@@ -1,8 +1,8 @@
 -- Counts after a change of one.
-use Rattle.std.proofs.Common.{◌≡◌, ap, sym, ◌∙◌, ℕ, zero, suc, ◌+◌, ◌<◌, List, [], ◌∷◌, ◌++◌, length, set, cond, Bool, true, false, refl, subst, Option, Some, None, arith}
-use Rattle.std.specs.Prelude.{◌==◌, slice_get}
+use Rattle.std.proofs.Common.{◌≡◌, ap, ℕ, zero, suc, ◌<◌, List, [], ◌∷◌, ◌++◌, length, set, cond, true, false, refl, subst, arith}
+use Rattle.std.specs.Prelude.{◌==◌}
 use Rattle.std.proofs.lemmas.Bool.{both_ways, eqb-true, eq-eqb}
-use Rattle.dense_numbers.specs.Counts.{or_zero, count_of}
+use Rattle.dense_numbers.specs.Counts.{count_of}
 
 -- a count of none at the end
 pub none_more : (cs : List ℕ) (n : ℕ) → count_of (cs ++ 0 ∷ []) n ≡ count_of cs n

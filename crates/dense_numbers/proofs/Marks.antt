@@ -1,8 +1,8 @@
 -- Marks after one is set.
-use Rattle.std.proofs.Common.{◌≡◌, ap, sym, ◌∙◌, ℕ, zero, suc, ◌+◌, ◌<◌, ◌≤◌, List, [], ◌∷◌, ◌++◌, ◌||◌, length, set, Bool, true, false, refl, subst, arith}
-use Rattle.std.specs.Prelude.{◌==◌, slice_get}
+use Rattle.std.proofs.Common.{◌≡◌, ap, ℕ, zero, suc, ◌<◌, List, [], ◌∷◌, ◌++◌, ◌||◌, length, set, Bool, true, false, refl, subst, arith}
+use Rattle.std.specs.Prelude.{◌==◌}
 use Rattle.std.proofs.lemmas.Bool.{both_ways, eqb-true, eq-eqb}
-use Rattle.dense_numbers.specs.Flags.{or_false, is_set}
+use Rattle.dense_numbers.specs.Flags.{is_set}
 
 -- none more at the end
 pub none_more : (fs : List Bool) (n : ℕ) → is_set (fs ++ false ∷ []) n ≡ is_set fs n

@@ -13,4 +13,4 @@ returns-clause-ok c =
     more old new c.args.id.now list c.args.place
     (c.in_ok-list.ensures ∙ ap (λ o. places_in o ++ c.args.place ∷ []) (sym c.requires))
     (λ j. let sets = hash_map_updates_text (string_bytes c.in_ok-key.key) c.args.lists.now c.insert.new.self (Some list) c.in_ok-insert.ensures.updates j in
-      rw (c.in_ok-key.ensures.ok, c.as_str.ensures) at sets)
+    rw (c.in_ok-key.ensures.ok, c.as_str.ensures) at sets)

@@ -1,4 +1,4 @@
-use Rattle.std.proofs.Common.{◌≡◌, ℕ, List, cond, bytes_eq, string_bytes, Some, ap, sym, subst, ◌∙◌, ◌++◌, ◌∷◌, []}
+use Rattle.std.proofs.Common.{◌≡◌, ℕ, List, cond, bytes_eq, Some, ap, subst, ◌∙◌, ◌++◌, ◌∷◌, []}
 use Rattle.std.specs.HashMap.{get_by_text}
 use Rattle.std.proofs.lemmas.Map.Text.{hash_map_updates_text}
 use Rattle.task_graph.specs.Listing.{places_in, waiting_for}
@@ -13,8 +13,8 @@ returns-in_ok-push-in-Some-clause-ok c = λ _.
     let key = c.as_str.result.now in
     subst (λ i. (j : List ℕ) → waiting_for n.entries j ≡ cond (bytes_eq i j) (waiting_for m.entries j ++ c.args.place ∷ []) (waiting_for m.entries j)) c.as_str.ensures
     (more (get_by_text m) (get_by_text n) key list c.args.place
-      (c.in_ok-push-in-Some.ensures.items ∙ ap (λ o. places_in o ++ c.args.place ∷ []) (c.in-Some.ensures.value))
-      (hash_map_updates_text key m n (Some list) ((c.get_mut.follows.holds list).3 (has_one _ _ c.in-Some.ensures.value))))
+    (c.in_ok-push-in-Some.ensures.items ∙ ap (λ o. places_in o ++ c.args.place ∷ []) (c.in-Some.ensures.value))
+    (hash_map_updates_text key m n (Some list) ((c.get_mut.follows.holds list).3 (has_one _ _ c.in-Some.ensures.value))))
 
 pub returns-in_err-push-in-Some-clause-err : goal.returns-in_err-push-in-Some-clause-err
 returns-in_err-push-in-Some-clause-err c =
