@@ -105,6 +105,22 @@ fn stream_cut_at_every_octet(rt: HostRuntime) {
     assert_eq!(rt; (begun.at, begun.size), (77, None));
 }
 
+/// How many octets of a piece are of a body, but for its last one.
+fn filled<R: Abort>(rt: &R, reader: &mut FrameReader, piece: &[u8]) -> usize {
+    reader.fill(piece).expect(rt, "memory is ample")
+}
+
+#[test]
+fn a_body_is_filled_but_for_its_last_octet(rt: HostRuntime) {
+    let mut reader = FrameReader::new(rt.alloc());
+    assert!(rt; filled(&rt, &mut reader, b"\x00\x03") == 0);
+    let _ = fed(&rt, &mut reader, b"\x00\x03");
+    assert!(rt; filled(&rt, &mut reader, b"abcde") == 2);
+    assert!(rt; filled(&rt, &mut reader, b"cde") == 0);
+    let frames = fed(&rt, &mut reader, b"c").frames;
+    assert!(rt; frames.len() == 1 && frames.as_slice()[0].body.as_slice() == b"abc");
+}
+
 #[test]
 fn sizes(rt: HostRuntime) {
     for (last, fault) in [(0, None), (1, Some(FrameFault::FrameTooLong(0)))] {

@@ -7,3 +7,4 @@ pub mod Given
 pub mod Spelled
 pub mod Properties
 mod Rows
+pub mod Filled

@@ -108,3 +108,8 @@ IsSound (Ended fault at) body = Unit {0}
 abbrev pub first_body : List Frame → List ℕ → List ℕ
 first_body [] body = body
 first_body (f ∷ fs) body = f.body
+
+-- so many octets are of a body, and its last one isn't among them; where no body is begun they are none
+abbrev pub Fills : Stage → ℕ → Type 0
+Fills (Filling head size left) n = n < left
+Fills stage n = n ≡ 0

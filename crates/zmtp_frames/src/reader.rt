@@ -1,7 +1,7 @@
 //! A reader of frames that is fed in any pieces.
 
 ghost use Rattle.std.specs.Prelude.{◌≡◌, IfOk, OnOk, OnErr, ◌<◌, ◌≤◌, ◌++◌, List, ℕ, [], take, length};
-ghost use Rattle.zmtp_frames.specs.Stream.{start, step, reading_after, frames, begun_at, fault_at, listed, flagged, sized, IsSound, begun, first_body};
+ghost use Rattle.zmtp_frames.specs.Stream.{start, step, reading_after, frames, begun_at, fault_at, listed, flagged, sized, IsSound, Fills, begun, first_body};
 
 use crate::fault::FrameFault;
 use crate::frame::{Begun, Body, Fed, Frame, FrameList, Head, Stage};
@@ -198,6 +198,46 @@ impl FrameReader {
             left: left - 1,
         };
         Ok(None)
+    }
+
+    /// Takes octets of a body off the front of a piece, without its last one, and tells how many. There are none where no
+    /// body is begun.
+    pub fn fill(&mut self, piece: &[u8]) -> Result<usize, AllocError>
+        ensures after { IfOk result (λ n. self.new ≡ reading_after self.old (take n piece.now)) }
+        ensures fills { IfOk result (λ n. Fills self.old.stage n) }
+        ensures some { IfOk result (λ n. n ≤ length piece.now) }
+        ensures err { OnErr result (self.new ≡ self.old) }
+    {
+        match self.stage {
+            Stage::Filling { head, size, left } => self.fill_body(head, size, left, piece),
+            _ => Ok(0),
+        }
+    }
+
+    fn fill_body(
+        &mut self,
+        head: Head,
+        size: u64,
+        left: u64,
+        piece: &[u8],
+    ) -> Result<usize, AllocError>
+        requires stage { self.old.stage ≡ Stage.Filling head size left }
+        requires sound { IsSound (Stage.Filling head size left) self.old.body }
+        ensures after { IfOk result (λ n. self.new ≡ reading_after self.old (take n piece.now)) }
+        ensures fills { IfOk result (λ n. n < left) }
+        ensures some { IfOk result (λ n. n ≤ length piece.now) }
+        ensures err { OnErr result (self.new ≡ self.old) }
+    {
+        let taken = (left - 1).min(piece.len() as u64);
+        let octets = &piece[..taken as usize];
+        self.body.extend_from_slice(octets)?;
+        self.place = self.place.saturating_add(taken);
+        self.stage = Stage::Filling {
+            head,
+            size,
+            left: left - taken,
+        };
+        Ok(taken as usize)
     }
 
     /// The frame that is begun and isn't whole.

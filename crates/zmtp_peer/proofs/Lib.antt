@@ -4,3 +4,4 @@ pub mod Connected
 pub mod Faultless
 pub mod Sound
 mod Rows
+pub mod Bodies

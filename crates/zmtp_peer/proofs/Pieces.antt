@@ -1,5 +1,6 @@
 -- Octets one after another.
-use Rattle.std.proofs.Common.{◌≡◌, ℕ, List, [], ◌∷◌, ◌++◌, Option, Some, None, refl, sym, ap, ◌∙◌, append_assoc}
+use Rattle.std.proofs.Common.{◌≡◌, ℕ, ◌+◌, ◌-◌, length, arith, List, [], ◌∷◌, ◌++◌, take, drop, Option, Some, None, refl, sym, ap, ◌∙◌, append_assoc}
+use Rattle.std.proofs.lemmas.List.{take-append-drop, drop-drop, take_all, length-drop}
 use Rattle.zmtp_frames.specs.Greeting.{own_greeting}
 use Rattle.zmtp_peer.specs.PeerStream.{Talk, talk, talked, sent, identity, or_later, messages, listed, begins, peer_stream, with_piece}
 
@@ -36,3 +37,37 @@ piece_more octets piece =
       messages_append begins octets piece,
       append_assoc own_greeting (sent begins octets) (sent (talked begins octets) piece),
     ) refl
+
+-- WHAT IS LEFT OF A PIECE
+
+part : (n at : ℕ) (piece : List ℕ) → drop at piece ≡ take n (drop at piece) ++ drop (at + n) piece
+part n at piece = sym (take-append-drop n (drop at piece)) ∙ ap (λ (zs : List ℕ). take n (drop at piece) ++ zs) (drop-drop n at piece)
+
+-- some octets of what is left, and what is left behind them
+module _ (u v : Talk) (n at : ℕ) (piece : List ℕ) (is : v ≡ talked u (take n (drop at piece))) where
+  pub talked_on : talked v (drop (at + n) piece) ≡ talked u (drop at piece)
+  talked_on = ap (λ (t : Talk). talked t (drop (at + n) piece)) is ∙ sym (talked_append u (take n (drop at piece)) (drop (at + n) piece)) ∙ ap (talked u) (sym (part n at piece))
+
+  pub sent_on : (s g new : List ℕ) → new ≡ s ++ g → g ≡ sent u (take n (drop at piece)) → new ++ sent v (drop (at + n) piece) ≡ s ++ sent u (drop at piece)
+  sent_on s g new made gives =
+      ap (λ (zs : List ℕ). zs ++ sent v (drop (at + n) piece)) made ∙ append_assoc s g (sent v (drop (at + n) piece))
+      ∙ ap (λ (zs : List ℕ). s ++ zs) (ap (λ (zs : List ℕ). zs ++ sent v (drop (at + n) piece)) gives
+      ∙ ap (λ (t : Talk). sent u (take n (drop at piece)) ++ sent t (drop (at + n) piece)) is
+      ∙ sym (sent_append u (take n (drop at piece)) (drop (at + n) piece)) ∙ ap (sent u) (sym (part n at piece)))
+
+  pub identity_on : (s g new : Option (List ℕ)) → new ≡ or_later s g → g ≡ identity u (take n (drop at piece)) → or_later new (identity v (drop (at + n) piece)) ≡ or_later s (identity u (drop at piece))
+  identity_on s g new made gives =
+      ap (λ (o : Option (List ℕ)). or_later o (identity v (drop (at + n) piece))) made ∙ sym (or_assoc s g (identity v (drop (at + n) piece)))
+      ∙ ap (or_later s) (ap (λ (o : Option (List ℕ)). or_later o (identity v (drop (at + n) piece))) gives
+      ∙ ap (λ (t : Talk). or_later (identity u (take n (drop at piece))) (identity t (drop (at + n) piece))) is
+      ∙ sym (identity_append u (take n (drop at piece)) (drop (at + n) piece)) ∙ ap (identity u) (sym (part n at piece)))
+
+  pub messages_on : (s g new : List (List (List ℕ))) → new ≡ s ++ g → g ≡ messages u (take n (drop at piece)) → new ++ messages v (drop (at + n) piece) ≡ s ++ messages u (drop at piece)
+  messages_on s g new made gives =
+      ap (λ (zs : List (List (List ℕ))). zs ++ messages v (drop (at + n) piece)) made ∙ append_assoc s g (messages v (drop (at + n) piece))
+      ∙ ap (λ (zs : List (List (List ℕ))). s ++ zs) (ap (λ (zs : List (List (List ℕ))). zs ++ messages v (drop (at + n) piece)) gives
+      ∙ ap (λ (t : Talk). messages u (take n (drop at piece)) ++ messages t (drop (at + n) piece)) is
+      ∙ sym (messages_append u (take n (drop at piece)) (drop (at + n) piece)) ∙ ap (messages u) (sym (part n at piece)))
+
+pub rest_of : (at : ℕ) (piece : List ℕ) → take (length piece - at) (drop at piece) ≡ drop at piece
+rest_of at piece = take_all (length piece - at) (drop at piece) (let long : length (drop at piece) ≡ length piece - at = length-drop at piece in omega (arith, long))

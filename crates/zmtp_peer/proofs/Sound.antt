@@ -1,7 +1,7 @@
 -- What a peer's stream gives is within the limits.
-use Rattle.std.proofs.Common.{◌≡◌, ℕ, zero, suc, ◌+◌, ◌-◌, ◌*◌, ◌<◌, ◌≤◌, nat_lt, Bool, true, false, cond, List, [], ◌∷◌, ◌++◌, length, Option, Some, None, refl, ap, subst, All, arith}
+use Rattle.std.proofs.Common.{◌≡◌, ℕ, ◌+◌, ◌-◌, ◌*◌, ◌<◌, ◌≤◌, nat_lt, Bool, true, false, cond, List, [], ◌∷◌, ◌++◌, length, Option, Some, None, refl, ap, subst, All, arith}
 use Rattle.std.specs.Prelude.{◌==◌, nat_le, if◌then◌else◌, codes, IfSome}
-use Rattle.std.specs.Option.{unwrap_or, option_map, option_and_then}
+use Rattle.std.specs.Option.{unwrap_or, option_map}
 use Rattle.std.proofs.lemmas.Bool.{ltb-false, ltb-true, leb-true, eqb-true}
 use Rattle.std.proofs.lemmas.Bool.Decides.{nat_tests}
 use Rattle.std.proofs.lemmas.List.{length-append}
@@ -30,7 +30,7 @@ use Rattle.zmtp_peer.specs.declared.phase.Phase.TheVariants as phases
 use Rattle.zmtp_peer.specs.declared.phase.Heard.{Heard}
 use Rattle.zmtp_peer.specs.declared.phase.Gave.{Gave}
 use Rattle.zmtp_peer.specs.Message.{body_octets}
-use Rattle.zmtp_peer.specs.PeerStream.{Talk, begins, talk, talk_at, greet, hear, hear_as, nothing, greeting_phase, greeting_answer, shaken, refusal, heard, parts_after, message_of, begun_fault, size_fault, first_fault, ended_by, is_served, talked, identity, or_later, messages, listed}
+use Rattle.zmtp_peer.specs.PeerStream.{Talk, begins, talk, greet, hear, hear_as, nothing, greeting_phase, greeting_answer, shaken, refusal, heard, parts_after, begun_fault, size_fault, first_fault, ended_by, is_served, talked, identity, or_later, messages, listed}
 use Rattle.zmtp_peer.specs.Connection.{FollowsAs}
 use Rattle.zmtp_peer.specs.Limits.{IsShortMessage, IsShortIdentity, IsCounted, IsSound}
 use Rattle.zmtp_peer.proofs.Messages.{octets_more}

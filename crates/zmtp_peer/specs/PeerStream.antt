@@ -1,5 +1,5 @@
 -- What a peer's stream gives (RFC 23): a greeting, a handshake by the NULL mechanism, then traffic, octet by octet.
-use Rattle.std.specs.Prelude.{ℕ, ◌+◌, nat_lt, ◌==◌, List, [], ◌∷◌, ◌++◌, length, codes, bytes_eq, Option, Some, None, Bool, ◌||◌, if◌then◌else◌}
+use Rattle.std.specs.Prelude.{◌≡◌, ℕ, ◌+◌, nat_lt, ◌==◌, List, [], ◌∷◌, ◌++◌, length, codes, bytes_eq, Option, Some, None, Bool, true, false, ◌||◌, if◌then◌else◌}
 use Rattle.std.specs.Option.{unwrap_or}
 use Rattle.cluster_types.specs.Limits.{most_frames, message_limit}
 use Rattle.zmtp_frames.specs.declared.frame.Frame.{Frame}
@@ -120,6 +120,12 @@ greet t x =
     )
     else (record { phase = Greeting; greeting = t.greeting ++ x ∷ []; reader = t.reader; parts = t.parts }, nothing)
 
+-- whether frames are read
+abbrev pub hears : Phase → Bool
+hears Handshake = true
+hears Traffic = true
+hears _ = false
+
 -- an octet of a frame: the frame that it ends, if any, and then the faults of the one that isn't whole
 abbrev pub hear_as : Talk → Reading → Heard → List (List ℕ) → Talk × Gave
 hear_as t reader h parts = (
@@ -173,6 +179,12 @@ listed (Some m) = m ∷ []
 abbrev pub messages : Talk → List ℕ → List (List (List ℕ))
 messages t [] = []
 messages t (x ∷ xs) = listed (talk t x).1.message ++ messages (talk t x).0 xs
+
+-- these octets give nothing
+pub record IsQuiet (t : Talk) (xs : List ℕ) : Type 0 where
+  pub sent : sent t xs ≡ []
+  pub identity : identity t xs ≡ None
+  pub messages : messages t xs ≡ []
 
 -- the first fault
 abbrev pub fault_of : Phase → Option PeerFault

@@ -1,12 +1,12 @@
 //! A peer that is fed in any pieces.
 
-ghost use Rattle.std.specs.Prelude.{◌≡◌, All, IfOk, IfSome, OnOk, OnErr, IsErr, IsTrue, true, false, ◌<◌, List, ℕ, [], ◌∷◌, ◌++◌, length, Some, None, IfErr};
+ghost use Rattle.std.specs.Prelude.{◌≡◌, All, IfOk, IfSome, OnOk, OnErr, IsErr, IsTrue, true, false, ◌<◌, ◌≤◌, List, ℕ, [], ◌∷◌, ◌++◌, length, take, Some, None, IfErr};
 ghost use Rattle.std.specs.Option.{unwrap_or};
 ghost use Rattle.zmtp_frames.specs.Stream.{Reading, step};
 ghost use Rattle.zmtp_frames.specs.Command.{command_of};
 ghost use Rattle.zmtp_frames.specs.Greeting.{greeting_fault, own_greeting};
 ghost use Rattle.zmtp_peer.specs.Limits.{IsShortMessage, IsShortIdentity};
-ghost use Rattle.zmtp_peer.specs.PeerStream.{begins, is_served, refusal, shaken, quiet, heard, parts_after, message_of, begun_fault, size_fault, first_fault, ended_by, greet, hear, talk, talk_at, talked, sent, identity, messages, listed, fault_of};
+ghost use Rattle.zmtp_peer.specs.PeerStream.{begins, is_served, refusal, shaken, quiet, heard, parts_after, message_of, begun_fault, size_fault, first_fault, ended_by, greet, hear, talk, talk_at, talked, sent, identity, messages, listed, fault_of, hears, or_later, IsQuiet};
 
 use crate::fault::PeerFault;
 use crate::parts::Parts;
@@ -80,6 +80,16 @@ fn ended(phase: Phase, frame: Option<FrameFault>, fault: Option<PeerFault>) -> P
         (Some(fault), _) => Phase::Ended(PeerFault::Frame(fault)),
         (None, Some(fault)) => Phase::Ended(fault),
         (None, None) => phase,
+    }
+}
+
+/// Whether frames are read in a phase.
+fn hears(phase: Phase) -> bool
+    ensures { result ≡ hears phase }
+{
+    match phase {
+        Phase::Handshake | Phase::Traffic => true,
+        _ => false,
     }
 }
 
@@ -204,6 +214,32 @@ fn hear_frame(
     }
 }
 
+/// Puts what octets give behind what came before: the first identity stays.
+fn keep(
+    send: &mut Vec<u8>,
+    ready: &mut Option<Octets>,
+    messages: &mut FramesList,
+    gave: Gave,
+) -> Result<(), AllocError>
+    ensures send { OnOk result (send.new.items ≡ send.old.items ++ gave.send) }
+    ensures ready { OnOk result (ready.new ≡ or_later ready.old gave.ready) }
+    ensures messages { OnOk result (messages.new ≡ messages.old ++ listed gave.message) }
+{
+    let Gave {
+        send: more,
+        ready: given,
+        message,
+    } = gave;
+    send.extend_from_slice(more.as_slice())?;
+    if ready.is_none() {
+        *ready = given;
+    }
+    if let Some(message) = message {
+        messages.push(message)?;
+    }
+    Ok(())
+}
+
 /// A peer's stream of which some octets came. Contracts see what is known of it, and whether memory was wanting. It
 /// counts as spent while it takes octets, and stays so where memory was wanting.
 #[derive(Drop)]
@@ -295,19 +331,11 @@ impl Peer {
         let mut send = Vec::new(alloc);
         let mut ready = None;
         let mut messages = FramesList::new(alloc);
-        for x in piece {
-            let Gave {
-                send: more,
-                ready: given,
-                message,
-            } = self.octet(*x)?;
-            send.extend_from_slice(more.as_slice())?;
-            if ready.is_none() {
-                ready = given;
-            }
-            if let Some(message) = message {
-                messages.push(message)?;
-            }
+        let mut at = 0;
+        while at < piece.len() {
+            let (taken, gave) = self.next(&piece[at..])?;
+            at += taken;
+            keep(&mut send, &mut ready, &mut messages, gave)?;
         }
         Ok(PeerFed {
             send: Octets::from_vec(send)?,
@@ -315,6 +343,50 @@ impl Peer {
             messages,
             fault: self.fault(),
         })
+    }
+
+    /// Takes octets off the front of what is left of a piece, and tells how many: those of a body without its last one, or
+    /// else one.
+    fn next(&mut self, rest: &[u8]) -> Result<(usize, Gave), AllocError>
+        requires spent { IsTrue self.old.spent }
+        requires some { 0 < length rest.now }
+        ensures taken { IfOk result (λ r. (0 < r.0) × (r.0 ≤ length rest.now)) }
+        ensures talked { IfOk result (λ r. self.new.talk ≡ talked self.old.talk (take r.0 rest.now)) }
+        ensures sent { IfOk result (λ r. r.1.send ≡ sent self.old.talk (take r.0 rest.now)) }
+        ensures ready { IfOk result (λ r. r.1.ready ≡ identity self.old.talk (take r.0 rest.now)) }
+        ensures message { IfOk result (λ r. listed r.1.message ≡ messages self.old.talk (take r.0 rest.now)) }
+        ensures spent { self.new.spent ≡ self.old.spent }
+    {
+        let taken = self.fill(rest)?;
+        if taken > 0 {
+            return Ok((
+                taken,
+                Gave {
+                    send: Octets::empty(),
+                    ready: None,
+                    message: None,
+                },
+            ));
+        }
+        let gave = self.octet(rest[0])?;
+        Ok((1, gave))
+    }
+
+    /// Takes octets of a body, without its last one, where they show no fault.
+    fn fill(&mut self, rest: &[u8]) -> Result<usize, AllocError>
+        requires { IsTrue self.old.spent }
+        ensures some { IfOk result (λ n. n ≤ length rest.now) }
+        ensures quiet { IfOk result (λ n. IsQuiet self.old.talk (take n rest.now)) }
+        ensures talked { IfOk result (λ n. self.new.talk ≡ talked self.old.talk (take n rest.now)) }
+        ensures spent { self.new.spent ≡ self.old.spent }
+    {
+        if !hears(self.phase)
+            || fault_of_begun(self.phase, &self.parts, self.reader.begun()).is_some()
+        {
+            return Ok(0);
+        }
+        let taken = self.reader.fill(rest)?;
+        Ok(taken)
     }
 
     /// Takes an octet.

@@ -2,7 +2,7 @@ use Rattle.std.proofs.Common.{◌≡◌, List, ℕ, Option, sym, ap, subst, ◌�
 use Rattle.std.specs.Prelude.{IfSome}
 use Rattle.std.proofs.lemmas.List.Elements.{All-same}
 use Rattle.zmtp_peer.specs.Limits.{IsShortMessage, IsShortIdentity, IsSound}
-use Rattle.zmtp_peer.specs.PeerStream.{Talk, Held, talked, identity, messages}
+use Rattle.zmtp_peer.specs.PeerStream.{Talk, Held, talked, messages}
 use Rattle.zmtp_peer.proofs.Sound.{talked_sound, messages_short, identity_short}
 use Rattle.zmtp_peer.proofs.peer.Peer.feed.Goals as goal
 
