@@ -10,10 +10,11 @@ use Rattle.record_codec.specs.Spelling.{IsWithinLimits}
 use Rattle.task_journal.specs.Journal.{StandsFor}
 use Rattle.cluster_store.specs.declared.waiting.Waiting.{Waiting}
 use Rattle.cluster_store.specs.Queues.{left_at, waits}
-use Rattle.cluster_store.specs.Stores.{StoreView, Becomes, told, IsRefused, IsTaken, written}
+use Rattle.cluster_store.specs.Stores.{StoreView, Becomes, told, up_to, IsRefused, IsTaken, written}
+use Rattle.cluster_store.specs.Held.{IsHeld}
 use Rattle.cluster_store.proofs.Fits.{step_fits}
 use Rattle.cluster_store.proofs.Remade.{plan_keeps}
-use Rattle.cluster_store.proofs.Holding.{Done, grown, held_after, all_behind, refused_memory}
+use Rattle.cluster_store.proofs.Holding.{Done, grown, held_after, held_same, all_behind, refused_memory}
 use Rattle.cluster_store.proofs.store.Store.grow.Goals as goal
 
 pub take_memory-requires : goal.take_memory-requires
@@ -26,6 +27,14 @@ returns-in-Err-clause-why g c =
     let behind = all_behind c.plan.new.self c.in_ok-plan.plan c.self.inside.core.history c.self.inside.mark c.self.inside.need (left_at c.self.inside.queues) c.self.inside.batch c.args.input c.self.invariant.0 c.in_ok-plan.ensures.ok c.plan.ensures.same c.in_ok-plan.ensures.input in
     subst (λ (v : StoreView g.row.D.Denot). IsRefused false v.mark v.limits (decide_all (Input c.args.input ∷ v.history)) c.in-Err.error) c.self.view_is
     (refused_memory c.self.inside.mark c.self.inside.core.limits (decide_all (Input c.args.input ∷ c.self.inside.core.history)) (c.self.inside.batch ++ c.in_ok-plan.plan.kept) c.in-Err.error behind c.in_ok-plan.ensures.fits c.in-Err.ensures.long c.in-Err.ensures.error)
+
+pub invariant_of-self-in-Err : goal.invariant_of-self-in-Err
+invariant_of-self-in-Err g c =
+    let old = c.self.inside.core.history in
+    let held = held_same old c.self.inside.mark c.self.inside.need (left_at c.self.inside.queues) (left_at c.take_memory.new.queues) c.self.inside.batch c.take_memory.new.batch c.self.invariant.0 c.take_memory.ensures.left c.in-Err.ensures.same in (
+      subst (λ (h : History). IsHeld h c.self.inside.mark c.self.inside.need (left_at c.take_memory.new.queues) c.take_memory.new.batch) (sym c.plan.ensures.same) held,
+      λ fine tells. subst (λ (h : History). StandsFor (g.D.Disk.content c.self.inside.journal.disk) (written (up_to c.self.inside.mark h))) (sym c.plan.ensures.same) (c.self.invariant.1 fine tells),
+    )
 
 pub invariant_of-self-2 : goal.invariant_of-self-2
 invariant_of-self-2 g c =
