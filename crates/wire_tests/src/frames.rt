@@ -118,7 +118,7 @@ fn a_body_is_filled_but_for_its_last_octet(rt: HostRuntime) {
     assert!(rt; filled(&rt, &mut reader, b"abcde") == 2);
     assert!(rt; filled(&rt, &mut reader, b"cde") == 0);
     let frames = fed(&rt, &mut reader, b"c").frames;
-    assert!(rt; frames.len() == 1 && frames.as_slice()[0].body.as_slice() == b"abc");
+    assert!(rt; frames.len() == 1 && frames.as_slice()[0].body.as_slice() == b"abc".as_slice());
 }
 
 #[test]
