@@ -21,6 +21,7 @@ use cluster_types::sequence::Sequence;
 use cluster_types::shared_message::SharedMessage;
 use cluster_types::text::Text;
 use cluster_types::verdict::{Cause, Verdict};
+use dense_numbers::counts::count;
 use std::alloc::Global;
 use std::process::Abort;
 
@@ -394,6 +395,23 @@ fn resubmits<R: Abort>(rt: &R, state: &mut State, listed: &Ids) -> bool {
 fn is_of_nine(state: &State, id: &Text) -> bool {
     let found = state.tasks.find(id);
     found.is_some_and(|task| task.request().accepted_at == 9)
+}
+
+/// How many Submits run on an engine, where that was kept.
+fn load_of(state: &State, engine: u32) -> Option<u32> {
+    match state.tasks.counts() {
+        Some(counts) => Some(count(counts, engine)),
+        None => None,
+    }
+}
+
+#[test]
+fn loads_follow_the_tasks(rt: HostRuntime) {
+    let alloc = rt.alloc();
+    let mut state = handed(&rt, alloc);
+    assert!(rt; load_of(&state, 0) == Some(1) && load_of(&state, 1) == Some(0));
+    assert!(rt; reply(&rt, alloc, &mut state, "r"));
+    assert!(rt; load_of(&state, 0) == Some(0));
 }
 
 #[test]
