@@ -1,3 +1,6 @@
+pub mod Fitting
+pub mod Live
+pub mod Loading
 pub mod Marking
 pub mod Places
 pub mod Plain
@@ -6,4 +9,3 @@ pub mod Settling
 pub mod Standing
 pub mod Stands
 pub mod Waiting
-pub mod Loading

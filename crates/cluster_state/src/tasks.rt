@@ -14,13 +14,15 @@ ghost use Rattle.cluster_state.specs.Waiting.{Awaited, IsNoted, WaitsGrow};
 
 use crate::attempts::Ending;
 use crate::loads::{loaded, loaded_at, tallied};
-use crate::marks::{Marks, mark, mark_all, no_marks, tidy, tidy_all, tidy_waiting_all, wake_all};
+use crate::marks::{Marks, mark, mark_all, no_marks, wake_all};
 use crate::table::Table;
 use crate::task::{Settled, Task};
+use crate::tidying::{tidy, tidy_all, tidy_waiting_all};
 use cluster_types::message::Ids;
 use cluster_types::shared_message::SharedMessage;
 use cluster_types::text::Text;
 use dense_numbers::counts::moved;
+use dense_numbers::flags::set;
 use std::alloc::{AllocError, Global};
 use std::collections::BTreeSet;
 use std::marker::Model;
@@ -136,6 +138,18 @@ pub fn places_in(alloc: Global, set: &BTreeSet<usize>) -> Result<Vec<usize>, All
     set.iter().copied().collect(alloc)
 }
 
+/// Has the places of tasks that were watched by an engine that ended watched by others, where there are any.
+fn watch_anew(table: &Table, marks: &mut Marks, engine: u32) -> Result<(), AllocError>
+    requires { Marked table.now marks.old }
+    ensures { Marked table.now marks.new }
+{
+    let _ = set(&mut marks.ended, engine);
+    let places = marks.watches.places(table.allocator(), u64::from(engine))?;
+    wake_all(marks, &places)?;
+    tidy_waiting_all(table, marks, &places);
+    Ok(())
+}
+
 /// Ends the attempts of unsettled tasks on an engine.
 fn end_in(table: &mut Table, marks: &mut Marks, engine: u32) -> Result<(), AllocError>
     requires { Marked table.old marks.old }
@@ -147,7 +161,7 @@ fn end_in(table: &mut Table, marks: &mut Marks, engine: u32) -> Result<(), Alloc
     mark_all(marks, &places)?;
     table.end_all(&places, engine)?;
     tidy_all(table, marks, &places);
-    Ok(())
+    watch_anew(table, marks, engine)
 }
 
 /// Ends the attempts of all unsettled tasks, by an Open.
@@ -287,6 +301,7 @@ impl Tasks {
         let after = loaded(&task);
         let kept = self.counts.take();
         note_waits(&mut self.waiters, &task.request().after.ids, place)?;
+        note_waits(&mut self.waiters, &task.request().follow.ids, place)?;
         push_onto(&mut self.table, &mut self.marks, task)?;
         follow(&mut self.counts, kept, None, after)
     }

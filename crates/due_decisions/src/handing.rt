@@ -1,14 +1,16 @@
 //! Direct requests that wait for their engine, and Submits that may run.
 
-ghost use Rattle.std.specs.Prelude.{◌≡◌, find, slice_get, option_map, map, IfOk};
+ghost use Rattle.std.specs.Prelude.{◌≡◌, filter, find, slice_get, option_map, map, IfOk};
 ghost use Rattle.std.specs.List.{list_any};
 ghost use Rattle.std.specs.Option.{option_copied};
-ghost use Rattle.place_sets.specs.Sets.{holds_at};
+ghost use Rattle.place_sets.specs.Sets.{has, holds_at};
+ghost use Rattle.place_sets.specs.Lanes.{in_some};
+ghost use Rattle.place_sets.specs.Least.{IsLeast};
+ghost use Rattle.dense_numbers.specs.Flags.{is_set};
 ghost use Rattle.due_decisions.specs.Table.{direct_at, direct_of, direct_in, ready, takes, fits, rooms_for, picked, hand_of, hand_in};
 
-use crate::dependencies::is_met_on;
-use crate::failing::{is_excluded, is_target};
-use crate::rooms::Room;
+use crate::rooms::{Room, is_open, open_numbers};
+use cluster_state::fitting::takes;
 use cluster_state::readiness::is_ready;
 use cluster_state::standing::{is_direct_at, ready_for};
 use cluster_state::table::Table;
@@ -17,6 +19,8 @@ use cluster_state::tasks::Tasks;
 use cluster_types::config::Scheme;
 use cluster_types::entry::Entry;
 use load_schemes::chooser::Chooser;
+use place_sets::lanes::Lanes;
+use place_sets::least::lesser;
 use std::alloc::{AllocError, Global};
 use std::collections::BTreeSet;
 
@@ -59,15 +63,6 @@ pub fn direct_due(tasks: &Tasks) -> Result<Option<Entry>, AllocError>
     }
 }
 
-/// Whether a task may run on an engine, as far as the two go together.
-fn takes(table: &Table, task: &Task, engine: u32) -> bool
-    ensures { result ≡ takes table.now task.now engine }
-{
-    is_met_on(&task.request().follow, table, engine)
-        && is_target(task.request(), engine)
-        && !is_excluded(task.attempts(), engine)
-}
-
 /// Whether a task may run on one of some engines, as far as the two go together.
 fn any_takes(table: &Table, rooms: &[Room], task: &Task) -> bool
     ensures { result ≡ list_any (λ r. takes table.now task.now r.engine) rooms.now }
@@ -92,34 +87,60 @@ fn may_run_at(table: &Table, rooms: &[Room], place: usize) -> bool
     }
 }
 
-/// The place of the lowest such task.
+/// The least of some places where one does.
 fn waiting_place(table: &Table, places: &BTreeSet<usize>, rooms: &[Room]) -> Option<usize>
-    ensures { result ≡ find (holds_at (λ t. list_any (λ r. fits table.now t r.engine) rooms.now) table.now) places.now.keys }
+    ensures { IsLeast (holds_at (λ t. list_any (λ r. fits table.now t r.engine) rooms.now) table.now) (has places.now) result }
 {
+    let _many = places.len();
     places
         .iter()
         .copied()
         .find(|p| may_run_at(table, rooms, *p))
 }
 
-/// The lowest such task.
-fn waiting_task<'a>(tasks: &'a Tasks, rooms: &[Room]) -> Option<&'a Task>
-    ensures { option_copied result ≡ find (λ t. list_any (λ r. fits tasks.now t r.engine) rooms.now) tasks.now }
+/// The least of the places in the lanes of some engines.
+fn laned_place(table: &Table, lanes: &Lanes, open: &[bool], rooms: &[Room]) -> Option<usize>
+    ensures { IsLeast (holds_at (λ t. list_any (λ r. fits table.now t r.engine) rooms.now) table.now) (in_some (is_set open.now) lanes.now) result }
 {
-    if rooms.is_empty() {
-        None
-    } else {
-        let places = &tasks.marks().ready;
-        let _many = places.len();
-        tasks.at(waiting_place(tasks.table(), places, rooms))
+    let mut least = None;
+    for (engine, places) in lanes.as_map().iter() {
+        if is_open(open, *engine) {
+            least = lesser(least, waiting_place(table, places, rooms));
+        }
     }
+    least
 }
 
-/// Whether a task waits, and may run on an engine.
-fn is_fitting(table: &Table, task: &Task, engine: u32) -> bool
-    ensures { result ≡ fits table.now task.now engine }
+/// The lowest task that waits, and may run on one of some engines: it may run on any, or is in the lane of one of them.
+fn waiting_task<'a>(
+    alloc: Global,
+    tasks: &'a Tasks,
+    rooms: &[Room],
+) -> Result<Option<&'a Task>, AllocError>
+    ensures { IfOk result (λ o. option_copied o ≡ find (λ t. list_any (λ r. fits tasks.now t r.engine) rooms.now) tasks.now) }
 {
-    is_ready(table, task) && takes(table, task, engine)
+    let marks = tasks.marks();
+    let table = tasks.table();
+    let open = open_numbers(alloc, rooms)?;
+    let free = waiting_place(table, &marks.free, rooms);
+    let laned = laned_place(table, &marks.lanes, &open, rooms);
+    Ok(tasks.at(lesser(free, laned)))
+}
+
+/// The rooms that take a task, as far as the two go together.
+fn rooms_taking(
+    alloc: Global,
+    table: &Table,
+    rooms: &[Room],
+    task: &Task,
+) -> Result<Vec<Room>, AllocError>
+    ensures { IfOk result (λ v. v.items ≡ filter (λ r. takes table.now task.now r.engine) rooms.now) }
+{
+    rooms
+        .iter()
+        .filter(|r| takes(table, task, r.engine))
+        .copied()
+        .collect(alloc)
 }
 
 /// The rooms where a task may run.
@@ -131,11 +152,11 @@ fn rooms_for(
 ) -> Result<Vec<Room>, AllocError>
     ensures { IfOk result (λ v. v.items ≡ rooms_for table.now rooms.now task.now) }
 {
-    rooms
-        .iter()
-        .filter(|r| is_fitting(table, task, r.engine))
-        .copied()
-        .collect(alloc)
+    if is_ready(table, task) {
+        rooms_taking(alloc, table, rooms, task)
+    } else {
+        Ok(Vec::new(alloc))
+    }
 }
 
 /// The loads of engines.
@@ -206,7 +227,7 @@ pub fn hand_due(
 ) -> Result<Option<Entry>, AllocError>
     ensures { IfOk result (λ d. d ≡ hand_in tasks.now rooms.now scheme word) }
 {
-    match waiting_task(tasks, rooms) {
+    match waiting_task(alloc, tasks, rooms)? {
         Some(task) => hand_of(alloc, tasks.table(), rooms, chooser, scheme, word, task),
         None => Ok(None),
     }

@@ -1,6 +1,7 @@
 //! Engines that have room, with their loads.
 
-ghost use Rattle.std.specs.Prelude.{◌≡◌, ℕ, filter, map, IfOk};
+ghost use Rattle.std.specs.Prelude.{◌≡◌, ◌==◌, ℕ, filter, map, IfOk};
+ghost use Rattle.std.specs.List.{list_any};
 ghost use Rattle.dense_numbers.specs.Counts.{count_of};
 ghost use Rattle.dense_numbers.specs.Flags.{is_set};
 ghost use Rattle.cluster_defs.specs.Engines.{lists_number};
@@ -88,5 +89,26 @@ pub fn rooms_in(
     match tasks.counted()? {
         Some(counts) => rooms_by(alloc, &counts, engines, hwm, by_use),
         None => Err(AllocError),
+    }
+}
+
+/// The engines of some rooms, by number.
+pub fn open_numbers(alloc: Global, rooms: &[Room]) -> Result<Vec<bool>, AllocError>
+    ensures { IfOk result (λ v. (n : ℕ) → is_set v.items n ≡ list_any (λ r. r.engine == n) rooms.now) }
+{
+    let mut open = Vec::new(alloc);
+    for room in rooms {
+        set(&mut open, room.engine)?;
+    }
+    Ok(open)
+}
+
+/// Whether an engine is one of these.
+pub fn is_open(open: &[bool], engine: u64) -> bool
+    ensures { result ≡ is_set open.now engine }
+{
+    match open.get(engine as usize) {
+        Some(open) => *open,
+        None => false,
     }
 }

@@ -1,8 +1,9 @@
 use Rattle.std.proofs.Common.{◌≡◌, ◌++◌, ◌∷◌, [], true, subst, sym, ap, ◌∙◌, length}
 use Rattle.cluster_defs.specs.Words.{Id}
-use Rattle.cluster_state.specs.Waiting.{awaits_as, awaits, is_among, Indexed}
+use Rattle.cluster_state.specs.Seen.{request_as}
+use Rattle.cluster_state.specs.Waiting.{awaits, is_among, Indexed}
 use Rattle.task_graph.specs.Listing.{waiting_for}
-use Rattle.cluster_state.proofs.Waiting.{indexed_grown, indexed_more}
+use Rattle.cluster_state.proofs.Waiting.{indexed_grown, indexed_more, noted_both}
 use Rattle.cluster_state.proofs.Loading.{counted_pushed}
 use Rattle.cluster_state.proofs.tasks.Tasks.push.Goals as goal
 
@@ -11,10 +12,12 @@ invariant_of-self-2 c =
     let ts = c.self.inside.table in
     let us = c.push_onto.new.table in
     let t = c.args.task in
-    let waits = c.note_waits.new.waiters in
+    let waits = c.note_waits-2.new.waiters in
     let noted : (id : Id) → awaits id t ≡ true → is_among (length ts) (waiting_for waits id) ≡ true =
-    λ id on. subst (λ n. is_among n (waiting_for waits id) ≡ true) c.len-place.ensures (c.in_ok-note_waits.ensures.there id (ap (awaits_as id) (sym c.request.ensures.value) ∙ on)) in
-    let grown : Indexed ts waits = indexed_grown ts c.self.inside.waiters waits c.self.invariant.indexed c.note_waits.ensures.grow in
+    λ id on. subst (λ n. is_among n (waiting_for waits id) ≡ true) c.len-place.ensures
+    (noted_both id t.request (request_as c.request.result.now) (request_as c.request-2.result.now) c.len-place.result c.note_waits.new.waiters waits c.request.ensures.value c.request-2.ensures.value
+    c.in_ok-note_waits.ensures.there c.in_ok-note_waits-2.ensures.there c.note_waits-2.ensures.grow on) in
+    let grown : Indexed ts waits = indexed_grown ts c.note_waits.new.waiters waits (indexed_grown ts c.self.inside.waiters c.note_waits.new.waiters c.self.invariant.indexed c.note_waits.ensures.grow) c.note_waits-2.ensures.grow in
     record {
       marked = c.push_onto.ensures.marked;
       indexed = subst (λ xs. Indexed xs waits) (sym c.in_ok-push_onto.ensures.ok) (indexed_more ts t waits grown noted);

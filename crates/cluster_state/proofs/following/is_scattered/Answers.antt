@@ -1,9 +1,9 @@
 use Rattle.std.proofs.Common.{ap, sym, ◌∙◌}
 use Rattle.std.specs.List.{list_any}
 use Rattle.cluster_defs.specs.Dependencies.{apart}
-use Rattle.due_decisions.specs.Table.{settled_in}
-use Rattle.due_decisions.proofs.Lists.{scattered_by_first, scattered_none}
-use Rattle.due_decisions.proofs.dependencies.is_scattered.Goals as goal
+use Rattle.cluster_state.specs.Waiting.{settled_in}
+use Rattle.cluster_state.proofs.Scattered.{scattered_by_first, scattered_none}
+use Rattle.cluster_state.proofs.following.is_scattered.Goals as goal
 
 pub returns-in-Some : goal.returns-in-Some
 returns-in-Some c =

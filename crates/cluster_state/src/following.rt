@@ -7,9 +7,9 @@ ghost use Rattle.cluster_defs.specs.Dependencies.{asked, met, on_engine, same_en
 ghost use Rattle.cluster_state.specs.Seen.{settled_as};
 ghost use Rattle.cluster_state.specs.Waiting.{settled_in};
 
-use cluster_state::dependencies::{is_asked, is_empty, settled_in};
-use cluster_state::table::Table;
-use cluster_state::task::Settled;
+use crate::dependencies::{is_asked, is_empty, settled_in};
+use crate::table::Table;
+use crate::task::Settled;
 use cluster_types::event::Dep;
 use cluster_types::message::Ids;
 use cluster_types::text::Text;
