@@ -80,3 +80,13 @@ pub fn point_all(places: &mut HashMap<u32, usize>, live: &[Engine])
         point_behind(places, &live[..place], live[place].conn);
     }
 }
+
+/// Forgets a connection that none of these engines is on.
+pub fn forget(places: &mut HashMap<u32, usize>, live: &[Engine], conn: u32)
+    requires { Tells on live.now (get nat_eq places.old) }
+    ensures { Tells on live.now (get nat_eq places.new) }
+{
+    if find(places, live, conn).is_none() {
+        places.remove(&conn);
+    }
+}

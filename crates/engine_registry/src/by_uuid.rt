@@ -96,3 +96,19 @@ pub fn point_all(places: &mut HashMap<String, usize>, live: &[Engine])
         point_behind(places, &live[..place], &live[place].uuid);
     }
 }
+
+fn take_out(places: &mut HashMap<String, usize>, uuid: &Text)
+    ensures { (j : List ℕ) → get_by_text places.new j ≡ (if bytes_eq uuid.now j then None else get_by_text places.old j) }
+{
+    places.remove(uuid.as_str());
+}
+
+/// Forgets a uuid that none of these engines has.
+pub fn forget(places: &mut HashMap<String, usize>, live: &[Engine], uuid: &Text)
+    requires { Tells named live.now (get_by_text places.old) }
+    ensures { Tells named live.now (get_by_text places.new) }
+{
+    if find(places, live, uuid).is_none() {
+        take_out(places, uuid);
+    }
+}

@@ -104,6 +104,32 @@ fn mark(live: &mut [Engine], conns: &HashMap<u32, usize>, apart: bool, conn: u32
     }
 }
 
+/// The connection and the uuid of an engine.
+fn keys_of(live: &[Engine], numbers: &[usize], number: u32) -> Option<(u32, Option<Text>)> {
+    let engine = by_number::find(numbers, live, number)?;
+    Some((engine.conn, engine.uuid.clone().ok()))
+}
+
+/// Forgets the connection and the uuid of an engine that ended, where no other engine has them.
+fn forget(
+    conns: &mut HashMap<u32, usize>,
+    uuids: &mut HashMap<String, usize>,
+    live: &[Engine],
+    keys: Option<(u32, Option<Text>)>,
+)
+    requires conns { Tells on live.now (get nat_eq conns.old) }
+    requires uuids { Tells named live.now (get_by_text uuids.old) }
+    ensures conns { Tells on live.now (get nat_eq conns.new) }
+    ensures uuids { Tells named live.now (get_by_text uuids.new) }
+{
+    if let Some((conn, uuid)) = keys {
+        by_conn::forget(conns, live, conn);
+        if let Some(uuid) = uuid {
+            by_uuid::forget(uuids, live, &uuid);
+        }
+    }
+}
+
 impl Registry {
     /// No engines. It takes no memory.
     pub fn new(alloc: Global) -> Registry
@@ -217,10 +243,12 @@ impl Registry {
     pub fn end(&mut self, number: u32)
         ensures { self.new ≡ filter (λ e. not (e.number == number)) self.old }
     {
+        let keys = keys_of(&self.live, &self.numbers, number);
         drop_number(&mut self.live, number);
         by_conn::point_all(&mut self.conns, &self.live);
         by_uuid::point_all(&mut self.uuids, &self.live);
         by_number::point_all(&mut self.numbers, &self.live);
+        forget(&mut self.conns, &mut self.uuids, &self.live, keys);
         self.least = least_mark(&self.live);
     }
 
