@@ -12,11 +12,21 @@ use cluster_types::text::Text;
 use std::alloc::{AllocError, Global};
 use std::collections::HashMap;
 
-/// Where the first engine of a uuid stands, if there is one. A uuid without an engine may have any place.
-pub fn place_of(places: &HashMap<String, usize>, uuid: &Text) -> Option<usize>
-    ensures { result ≡ get_by_text places.now uuid.now }
+/// The first engine of a uuid that comes as a `str`.
+pub fn find_str<'a>(
+    places: &HashMap<String, usize>,
+    live: &'a [Engine],
+    uuid: &str,
+) -> Option<&'a Engine>
+    ensures { option_copied result ≡ engine_at live.now (named uuid.now) (get_by_text places.now uuid.now) }
 {
-    places.get(uuid.as_str()).copied()
+    let place = *places.get(uuid)?;
+    let engine = live.get(place)?;
+    if engine.uuid.as_slice() == uuid.as_bytes() {
+        Some(engine)
+    } else {
+        None
+    }
 }
 
 /// The first engine of a uuid.
@@ -27,13 +37,14 @@ pub fn find<'a>(
 ) -> Option<&'a Engine>
     ensures { option_copied result ≡ engine_at live.now (named uuid.now) (get_by_text places.now uuid.now) }
 {
-    let place = place_of(places, uuid)?;
-    let engine = live.get(place)?;
-    if engine.uuid.is(uuid) {
-        Some(engine)
-    } else {
-        None
-    }
+    find_str(places, live, uuid.as_str())
+}
+
+/// The first engine whose uuid is these octets, by a walk.
+pub fn first_named<'a>(live: &'a [Engine], uuid: &[u8]) -> Option<&'a Engine>
+    ensures { option_copied result ≡ engine_named live.now uuid.now }
+{
+    live.iter().find(|e| e.uuid.as_slice() == uuid)
 }
 
 fn put(

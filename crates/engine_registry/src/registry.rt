@@ -177,11 +177,14 @@ impl Registry {
         }
     }
 
-    /// The engine of a uuid.
-    pub fn named(&self, uuid: &Text) -> Option<&Engine>
+    /// The engine of a uuid. What isn't UTF-8 is looked for by a walk.
+    pub fn named(&self, uuid: &[u8]) -> Option<&Engine>
         ensures { option_copied result ≡ engine_named self.now uuid.now }
     {
-        by_uuid::find(&self.uuids, &self.live, uuid)
+        match str::from_utf8(uuid) {
+            Ok(text) => by_uuid::find_str(&self.uuids, &self.live, text),
+            Err(_) => by_uuid::first_named(&self.live, uuid),
+        }
     }
 
     /// The engine of a number.
@@ -214,7 +217,7 @@ impl Registry {
     {
         match self.on(conn) {
             Some(engine) => joining_again(uuid, engine),
-            None => joining_new(next, self.named(uuid)),
+            None => joining_new(next, self.named(uuid.as_slice())),
         }
     }
 
