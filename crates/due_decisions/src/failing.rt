@@ -9,7 +9,6 @@ ghost use Rattle.cluster_state.specs.Seen.{request_as, attempts_as, settled_as};
 ghost use Rattle.due_decisions.specs.Table.{settled_in, alone, among, failing_in};
 
 use crate::dependencies::is_scattered;
-use cluster_defs::engine::Engine;
 use cluster_state::attempts::Attempts;
 use cluster_state::dependencies::{is_asked, is_empty, is_unreachable, settled_in};
 use cluster_state::request::Request;
@@ -18,13 +17,7 @@ use cluster_state::table::Table;
 use cluster_state::task::{Settled, Task};
 use cluster_types::text::Text;
 use cluster_types::verdict::Cause;
-
-/// Whether an engine is live.
-pub fn is_live(engines: &[Engine], engine: u32) -> bool
-    ensures { result ≡ lists_number engine engines.now }
-{
-    engines.iter().any(|e| e.number == engine)
-}
+use engine_registry::registry::Registry;
 
 /// Whether an engine declined the task of these attempts.
 pub fn is_excluded(attempts: &Attempts, engine: u32) -> bool
@@ -55,15 +48,15 @@ pub fn is_target(request: &Request, engine: u32) -> bool
 }
 
 /// Whether a task may run on an engine for all that doesn't change.
-fn is_usable(engines: &[Engine], attempts: &Attempts, request: &Request, engine: u32) -> bool
+fn is_usable(engines: &Registry, attempts: &Attempts, request: &Request, engine: u32) -> bool
     ensures { result ≡ usable (among [] engines.now 0 (attempts_as attempts.now)) [] (request_as request.now) engine }
 {
-    is_live(engines, engine) && !is_excluded(attempts, engine) && is_target(request, engine)
+    engines.is_live(engine) && !is_excluded(attempts, engine) && is_target(request, engine)
 }
 
 /// Whether there is an engine, and a task may run on it.
 fn is_usable_on(
-    engines: &[Engine],
+    engines: &Registry,
     attempts: &Attempts,
     request: &Request,
     engine: Option<u32>,
@@ -77,21 +70,21 @@ fn is_usable_on(
 }
 
 /// Whether a target ended, or declined the task.
-fn is_lost(engines: &[Engine], attempts: &Attempts, engine: u32) -> bool
+fn is_lost(engines: &Registry, attempts: &Attempts, engine: u32) -> bool
     ensures { result ≡ not (lists_number engine engines.now && not (excludes (among [] [] 0 (attempts_as attempts.now)) [] engine)) }
 {
-    !(is_live(engines, engine) && !is_excluded(attempts, engine))
+    !(engines.is_live(engine) && !is_excluded(attempts, engine))
 }
 
 /// Whether each target ended, or declined the task.
-fn all_lost(engines: &[Engine], attempts: &Attempts, targets: &[u32]) -> bool
+fn all_lost(engines: &Registry, attempts: &Attempts, targets: &[u32]) -> bool
     ensures { result ≡ list_all (λ n. not (lists_number n engines.now && not (excludes (among [] [] 0 (attempts_as attempts.now)) [] n))) targets.now }
 {
     targets.iter().all(|n| is_lost(engines, attempts, *n))
 }
 
 /// Whether targets are listed, and none is left.
-fn has_no_target(engines: &[Engine], attempts: &Attempts, request: &Request) -> bool
+fn has_no_target(engines: &Registry, attempts: &Attempts, request: &Request) -> bool
     ensures { result ≡ no_target (among [] engines.now 0 (attempts_as attempts.now)) [] (request_as request.now) }
 {
     is_bound(request) && all_lost(engines, attempts, request.targets.as_slice())
@@ -99,7 +92,7 @@ fn has_no_target(engines: &[Engine], attempts: &Attempts, request: &Request) -> 
 
 /// Whether an id that is followed finished so that the task can't run for it.
 fn spoils(
-    engines: &[Engine],
+    engines: &Registry,
     attempts: &Attempts,
     request: &Request,
     settled: Option<Settled>,
@@ -118,7 +111,7 @@ fn spoils(
 /// Whether an id finished so that the task can't run for it.
 fn spoils_for(
     table: &Table,
-    engines: &[Engine],
+    engines: &Registry,
     attempts: &Attempts,
     request: &Request,
     id: &Text,
@@ -129,7 +122,7 @@ fn spoils_for(
 }
 
 /// Whether an id that is followed did so.
-fn any_spoils(table: &Table, engines: &[Engine], attempts: &Attempts, request: &Request) -> bool
+fn any_spoils(table: &Table, engines: &Registry, attempts: &Attempts, request: &Request) -> bool
     ensures { result ≡ list_any (λ i. spoils (among [] engines.now 0 (attempts_as attempts.now)) [] (request_as request.now) (settled_in table.now i)) request.now.follow.ids }
 {
     request
@@ -141,7 +134,7 @@ fn any_spoils(table: &Table, engines: &[Engine], attempts: &Attempts, request: &
 }
 
 /// Whether each id that is followed did so.
-fn all_spoil(table: &Table, engines: &[Engine], attempts: &Attempts, request: &Request) -> bool
+fn all_spoil(table: &Table, engines: &Registry, attempts: &Attempts, request: &Request) -> bool
     ensures { result ≡ list_all (λ i. spoils (among [] engines.now 0 (attempts_as attempts.now)) [] (request_as request.now) (settled_in table.now i)) request.now.follow.ids }
 {
     request
@@ -155,7 +148,7 @@ fn all_spoil(table: &Table, engines: &[Engine], attempts: &Attempts, request: &R
 /// Whether the followed ids finished so that the task can't run.
 fn is_follow_spoilt(
     table: &Table,
-    engines: &[Engine],
+    engines: &Registry,
     attempts: &Attempts,
     request: &Request,
 ) -> bool
@@ -169,14 +162,14 @@ fn is_follow_spoilt(
 }
 
 /// Whether ids are followed, and the task can't run for them.
-fn is_follow_dead(table: &Table, engines: &[Engine], attempts: &Attempts, request: &Request) -> bool
+fn is_follow_dead(table: &Table, engines: &Registry, attempts: &Attempts, request: &Request) -> bool
     ensures { result ≡ follow_dead (among table.now engines.now 0 (attempts_as attempts.now)) [] (request_as request.now) }
 {
     !is_empty(&request.follow.ids) && is_follow_spoilt(table, engines, attempts, request)
 }
 
 /// Whether a Submit can't run for good.
-fn is_dead(table: &Table, engines: &[Engine], attempts: &Attempts, request: &Request) -> bool
+fn is_dead(table: &Table, engines: &Registry, attempts: &Attempts, request: &Request) -> bool
     ensures { result ≡ is_dead (among table.now engines.now 0 (attempts_as attempts.now)) [] (request_as request.now) }
 {
     is_unreachable(&request.after, table)
@@ -198,7 +191,7 @@ fn is_timed_out(request: &Request, now: u64) -> bool
 /// Why a Submit fails without an attempt, by the order of the causes.
 fn cause(
     table: &Table,
-    engines: &[Engine],
+    engines: &Registry,
     now: u64,
     attempts: &Attempts,
     request: &Request,
@@ -219,7 +212,7 @@ fn cause(
 /// Why a task with this request fails without an attempt. A direct request doesn't.
 fn failing_request(
     table: &Table,
-    engines: &[Engine],
+    engines: &Registry,
     now: u64,
     attempts: &Attempts,
     request: &Request,
@@ -234,7 +227,7 @@ fn failing_request(
 }
 
 /// Why a task fails without an attempt, if it does.
-pub fn failing(table: &Table, engines: &[Engine], now: u64, task: &Task) -> Option<Cause>
+pub fn failing(table: &Table, engines: &Registry, now: u64, task: &Task) -> Option<Cause>
     ensures { result ≡ failing_in table.now engines.now now task.now }
 {
     if rests(task) {

@@ -6,13 +6,13 @@ ghost use Rattle.place_sets.specs.Sets.{holds_at};
 ghost use Rattle.due_decisions.specs.Table.{final_at, settle_of, settle_in, failing_in, fail_of, fail_in};
 
 use crate::failing::failing;
-use cluster_defs::engine::Engine;
 use cluster_state::standing::{is_final_at, verdict};
 use cluster_state::table::Table;
 use cluster_state::task::Task;
 use cluster_state::tasks::Tasks;
 use cluster_types::entry::Entry;
 use cluster_types::verdict::Verdict;
+use engine_registry::registry::Registry;
 use std::alloc::AllocError;
 use std::collections::BTreeSet;
 
@@ -57,7 +57,7 @@ pub fn settle_due(tasks: &Tasks) -> Result<Option<Entry>, AllocError>
 }
 
 /// Whether the task at a place fails without an attempt.
-fn is_failing_at(table: &Table, engines: &[Engine], now: u64, place: usize) -> bool
+fn is_failing_at(table: &Table, engines: &Registry, now: u64, place: usize) -> bool
     ensures { result ≡ holds_at (λ t. is_some (failing_in table.now engines.now now t)) table.now place }
 {
     match table.as_slice().get(place) {
@@ -70,7 +70,7 @@ fn is_failing_at(table: &Table, engines: &[Engine], now: u64, place: usize) -> b
 fn failing_place(
     table: &Table,
     places: &BTreeSet<usize>,
-    engines: &[Engine],
+    engines: &Registry,
     now: u64,
 ) -> Option<usize>
     ensures { result ≡ find (holds_at (λ t. is_some (failing_in table.now engines.now now t)) table.now) places.now.keys }
@@ -82,7 +82,7 @@ fn failing_place(
 }
 
 /// The lowest such task.
-fn failing_task<'a>(tasks: &'a Tasks, engines: &[Engine], now: u64) -> Option<&'a Task>
+fn failing_task<'a>(tasks: &'a Tasks, engines: &Registry, now: u64) -> Option<&'a Task>
     ensures { option_copied result ≡ find (λ t. is_some (failing_in tasks.now engines.now now t)) tasks.now }
 {
     let places = &tasks.marks().doubtful;
@@ -93,7 +93,7 @@ fn failing_task<'a>(tasks: &'a Tasks, engines: &[Engine], now: u64) -> Option<&'
 /// The settle of a task that fails without an attempt.
 fn fail_of(
     table: &Table,
-    engines: &[Engine],
+    engines: &Registry,
     now: u64,
     task: &Task,
 ) -> Result<Option<Entry>, AllocError>
@@ -110,7 +110,7 @@ fn fail_of(
 }
 
 /// The settle of the lowest Submit that fails without an attempt.
-pub fn fail_due(tasks: &Tasks, engines: &[Engine], now: u64) -> Result<Option<Entry>, AllocError>
+pub fn fail_due(tasks: &Tasks, engines: &Registry, now: u64) -> Result<Option<Entry>, AllocError>
     ensures { IfOk result (λ d. d ≡ fail_in tasks.now engines.now now) }
 {
     match failing_task(tasks, engines, now) {
