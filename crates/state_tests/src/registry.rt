@@ -54,7 +54,9 @@ fn engines_are_found(rt: HostRuntime) {
     let registry = two_apart(&rt, rt.alloc());
     assert!(rt; registry.len() == 2 && registry.as_slice().len() == 2);
     assert!(rt; registry.on(7).is_some() && registry.number_on(9) == Some(4));
-    assert!(rt; number_named(&registry, b"b") == Some(4) && number_named(&registry, b"c").is_none());
+    assert!(rt;
+        number_named(&registry, b"b") == Some(4) && number_named(&registry, b"c").is_none()
+    );
     assert!(rt; number_named(&registry, b"\xff").is_none());
     assert!(rt; registry.conn_of(2) == Some(7) && registry.conn_of(3).is_none());
     assert!(rt; registry.is_live(4) && !registry.is_live(0) && !registry.is_live(5));
