@@ -121,7 +121,7 @@ fn watch(
 {
     let engines = tied(table.allocator(), table, task.request())?;
     leave_each(watches, &engines, place);
-    if !is_hopeless(table, Live::Among(&[]), task) {
+    if !is_hopeless(table, Live::Nobody, task) {
         return Ok(true);
     }
     match guard(table, ended, task, &engines) {

@@ -5,7 +5,6 @@ ghost use Rattle.cluster_defs.specs.Scheduling.{failing, failing_as};
 ghost use Rattle.cluster_state.specs.Seen.{request_as, attempts_as};
 ghost use Rattle.due_decisions.specs.Table.{among, failing_in};
 
-use cluster_defs::engine::Engine;
 use cluster_state::attempts::Attempts;
 use cluster_state::live::Live;
 use cluster_state::request::Request;
@@ -14,11 +13,12 @@ use cluster_state::table::Table;
 use cluster_state::task::Task;
 use cluster_state::viability::{is_dead, is_timed_out};
 use cluster_types::verdict::Cause;
+use engine_registry::registry::Registry;
 
 /// Why a Submit fails without an attempt, by the order of the causes.
 fn cause(
     table: &Table,
-    engines: &[Engine],
+    engines: &Registry,
     now: u64,
     attempts: &Attempts,
     request: &Request,
@@ -39,7 +39,7 @@ fn cause(
 /// Why a task with this request fails without an attempt. A direct request doesn't.
 fn failing_request(
     table: &Table,
-    engines: &[Engine],
+    engines: &Registry,
     now: u64,
     attempts: &Attempts,
     request: &Request,
@@ -54,7 +54,7 @@ fn failing_request(
 }
 
 /// Why a task fails without an attempt, if it does.
-pub fn failing(table: &Table, engines: &[Engine], now: u64, task: &Task) -> Option<Cause>
+pub fn failing(table: &Table, engines: &Registry, now: u64, task: &Task) -> Option<Cause>
     ensures { result ≡ failing_in table.now engines.now now task.now }
 {
     if rests(task) {

@@ -9,13 +9,13 @@ ghost use Rattle.cluster_defs.specs.Engines.{lists_number};
 ghost use Rattle.due_decisions.specs.Table.{final_at, settle_of, settle_in, failing_in, fail_of, fail_in};
 
 use crate::failing::failing;
-use cluster_defs::engine::Engine;
 use cluster_state::standing::{is_final_at, verdict};
 use cluster_state::table::Table;
 use cluster_state::task::Task;
 use cluster_state::tasks::Tasks;
 use cluster_types::entry::Entry;
 use cluster_types::verdict::Verdict;
+use engine_registry::registry::Registry;
 use place_sets::lanes::Lanes;
 use place_sets::least::lesser;
 use std::alloc::AllocError;
@@ -62,7 +62,7 @@ pub fn settle_due(tasks: &Tasks) -> Result<Option<Entry>, AllocError>
 }
 
 /// Whether the task at a place fails without an attempt.
-fn is_failing_at(table: &Table, engines: &[Engine], now: u64, place: usize) -> bool
+fn is_failing_at(table: &Table, engines: &Registry, now: u64, place: usize) -> bool
     ensures { result ≡ holds_at (λ t. is_some (failing_in table.now engines.now now t)) table.now place }
 {
     match table.as_slice().get(place) {
@@ -75,7 +75,7 @@ fn is_failing_at(table: &Table, engines: &[Engine], now: u64, place: usize) -> b
 fn failing_place(
     table: &Table,
     places: &BTreeSet<usize>,
-    engines: &[Engine],
+    engines: &Registry,
     now: u64,
 ) -> Option<usize>
     ensures { IsLeast (holds_at (λ t. is_some (failing_in table.now engines.now now t)) table.now) (has places.now) result }
@@ -88,14 +88,14 @@ fn failing_place(
 }
 
 /// Whether an engine isn't live.
-fn is_gone(engines: &[Engine], engine: u64) -> bool
+fn is_gone(engines: &Registry, engine: u64) -> bool
     ensures { result ≡ not (lists_number engine engines.now) }
 {
-    !engines.iter().any(|e| u64::from(e.number) == engine)
+    !engines.is_live(engine)
 }
 
 /// The least of the places that are watched by engines which aren't live.
-fn unwatched_place(table: &Table, watches: &Lanes, engines: &[Engine], now: u64) -> Option<usize>
+fn unwatched_place(table: &Table, watches: &Lanes, engines: &Registry, now: u64) -> Option<usize>
     ensures { IsLeast (holds_at (λ t. is_some (failing_in table.now engines.now now t)) table.now) (in_some (λ n. not (lists_number n engines.now)) watches.now) result }
 {
     let mut least = None;
@@ -108,7 +108,7 @@ fn unwatched_place(table: &Table, watches: &Lanes, engines: &[Engine], now: u64)
 }
 
 /// The least of the places whose moment came.
-fn late_place(table: &Table, deadlines: &Lanes, engines: &[Engine], now: u64) -> Option<usize>
+fn late_place(table: &Table, deadlines: &Lanes, engines: &Registry, now: u64) -> Option<usize>
     ensures { IsLeast (holds_at (λ t. is_some (failing_in table.now engines.now now t)) table.now) (in_some (λ n. nat_le n now) deadlines.now) result }
 {
     let mut least = None;
@@ -120,7 +120,7 @@ fn late_place(table: &Table, deadlines: &Lanes, engines: &[Engine], now: u64) ->
 
 /// The lowest task that fails without an attempt: it may fail whatever engines are live, is watched by one that isn't, or
 /// its moment came.
-fn failing_task<'a>(tasks: &'a Tasks, engines: &[Engine], now: u64) -> Option<&'a Task>
+fn failing_task<'a>(tasks: &'a Tasks, engines: &Registry, now: u64) -> Option<&'a Task>
     ensures { option_copied result ≡ find (λ t. is_some (failing_in tasks.now engines.now now t)) tasks.now }
 {
     let marks = tasks.marks();
@@ -134,7 +134,7 @@ fn failing_task<'a>(tasks: &'a Tasks, engines: &[Engine], now: u64) -> Option<&'
 /// The settle of a task that fails without an attempt.
 fn fail_of(
     table: &Table,
-    engines: &[Engine],
+    engines: &Registry,
     now: u64,
     task: &Task,
 ) -> Result<Option<Entry>, AllocError>
@@ -151,7 +151,7 @@ fn fail_of(
 }
 
 /// The settle of the lowest Submit that fails without an attempt.
-pub fn fail_due(tasks: &Tasks, engines: &[Engine], now: u64) -> Result<Option<Entry>, AllocError>
+pub fn fail_due(tasks: &Tasks, engines: &Registry, now: u64) -> Result<Option<Entry>, AllocError>
     ensures { IfOk result (λ d. d ≡ fail_in tasks.now engines.now now) }
 {
     match failing_task(tasks, engines, now) {

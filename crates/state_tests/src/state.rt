@@ -6,10 +6,7 @@ use cluster_defs::acceptance::Acceptance;
 use cluster_defs::engine::{Engine, Joining};
 use cluster_state::acceptance::{connection_on, is_invalid, is_known, targets_of};
 use cluster_state::attempts::{Attempts, Ending, engine_of, is_never, one_more, runs, runs_at};
-use cluster_state::engines::{
-    conn_of, end_engine, engine_named, engine_on, joining, mark_on, number_on, raises_some,
-    use_engine,
-};
+use cluster_state::engines::use_engine;
 use cluster_state::state::State;
 use cluster_types::config::{Channel, Scheme};
 use cluster_types::entry::{Entry, Input};
@@ -159,13 +156,13 @@ fn reply<R: Abort>(rt: &R, alloc: Global, state: &mut State, header: &str) -> bo
 /// What comes of it that an engine with this uuid joins on a connection.
 fn joining_on<R: Abort>(rt: &R, alloc: Global, state: &State, conn: u32, uuid: &str) -> Joining {
     let uuid = text(rt, alloc, uuid);
-    joining(&state.engines, state.next_engine, conn, &uuid)
+    state.engines.joining(state.next_engine, conn, &uuid)
 }
 
 /// The engines with these uuids.
 fn targets<R: Abort>(rt: &R, alloc: Global, state: &State, uuids: &[&str]) -> Engines {
     let listed = ids(rt, alloc, uuids);
-    targets_of(alloc, &state.engines, listed.as_slice()).expect(rt, "memory is ample")
+    targets_of(alloc, state.engines.as_slice(), listed.as_slice()).expect(rt, "memory is ample")
 }
 
 fn beats<R: Abort>(rt: &R, state: &mut State) {
@@ -174,7 +171,7 @@ fn beats<R: Abort>(rt: &R, state: &mut State) {
 
 /// Whether this echo on connection 1 raises a mark.
 fn would_raise(state: &State, beat: u64) -> bool {
-    raises_some(&state.engines, 1, beat)
+    state.engines.raises(1, beat)
 }
 
 /// Whether this echo on connection 1 is taken.
@@ -183,7 +180,7 @@ fn echoes(state: &mut State, beat: u64) -> bool {
 }
 
 fn marks(state: &mut State, beat: u64) {
-    mark_on(&mut state.engines, 1, beat);
+    state.engines.mark(1, beat);
 }
 
 /// Whether the engine on connection 1 leaves.
@@ -199,7 +196,7 @@ fn is_connected(state: &State, conn: u32) -> bool {
 fn connections_and_engines(rt: HostRuntime) {
     let alloc = rt.alloc();
     let mut state = joined(&rt, alloc);
-    assert!(rt; state.next_engine == 1 && number_on(&state.engines, 1) == Some(0));
+    assert!(rt; state.next_engine == 1 && state.engines.number_on(1) == Some(0));
     assert_eq!(rt;
         joining_on(&rt, alloc, &state, 1, "e0"),
         Joining::Repeat { engine: 0 }
@@ -240,13 +237,13 @@ fn used<R: Abort>(rt: &R, alloc: Global) -> Vec<u32> {
 fn an_engine_is_found(rt: HostRuntime) {
     let mut state = joined(&rt, rt.alloc());
     assert!(rt;
-        engine_on(&state.engines, 1).is_some()
-            && engine_named(&state.engines, b"e0").is_some()
-            && engine_named(&state.engines, b"e1").is_none()
-            && conn_of(&state.engines, 0) == Some(1)
+        state.engines.on(1).is_some()
+            && state.engines.named(b"e0").is_some()
+            && state.engines.named(b"e1").is_none()
+            && state.engines.conn_of(0) == Some(1)
     );
-    end_engine(&mut state.engines, 0);
-    assert!(rt; engine_on(&state.engines, 1).is_none());
+    state.engines.end(0);
+    assert!(rt; state.engines.on(1).is_none());
     let by_use = used(&rt, rt.alloc());
     assert!(rt; by_use.as_slice() == [1, 0].as_slice());
 }

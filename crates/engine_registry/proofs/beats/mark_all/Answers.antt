@@ -1,6 +1,6 @@
 use Rattle.std.proofs.lemmas.List.Edits.{map_over_more}
 use Rattle.cluster_defs.specs.Engines.{marked}
-use Rattle.cluster_state.proofs.engines.mark_on.Goals as goal
+use Rattle.engine_registry.proofs.beats.mark_all.Goals as goal
 
 pub loop-place-preserved : goal.loop-place-preserved
 loop-place-preserved c =

@@ -1,7 +1,7 @@
 use Rattle.std.proofs.Common.{◌≡◌, ◌++◌, take, drop}
 use Rattle.std.specs.Prelude.{map}
 use Rattle.cluster_defs.specs.Engines.{marked}
-use Rattle.cluster_state.proofs.engines.mark_on.Given as goal
+use Rattle.engine_registry.proofs.beats.mark_all.Given as goal
 
 -- the engines up to here are marked, the others are as they were
 abbrev pub invariant-loop-place : goal.invariant-loop-place
