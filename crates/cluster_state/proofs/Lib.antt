@@ -16,6 +16,7 @@ pub mod Marking
 pub mod Places
 pub mod Purging
 pub mod Steps
+pub mod Tallying
 pub mod Told
 pub mod Targets
 pub mod Waiting

@@ -5,5 +5,6 @@ pub mod Seen
 pub mod Settling
 pub mod Standing
 pub mod Stands
+pub mod Tallying
 pub mod Waiting
 pub mod Loading

@@ -1,5 +1,5 @@
 -- How many there are of each number: the item at its place, and none behind the end.
-use Rattle.std.specs.Prelude.{◌≡◌, ⊥, ◌⊎◌, ℕ, ◌+◌, ◌-◌, ◌^◌, ◌==◌, List, slice_get, Option, Some, None, Bool, false, if◌then◌else◌}
+use Rattle.std.specs.Prelude.{◌≡◌, ◌⊎◌, ℕ, ◌+◌, ◌-◌, ◌^◌, ◌==◌, List, slice_get, Option, Some, None, Bool, false, if◌then◌else◌}
 use Rattle.std.specs.Global.{Vec}
 
 abbrev pub or_zero : Option ℕ → ℕ
