@@ -1,29 +1,23 @@
 -- How the loads of engines are counted.
-use Rattle.std.proofs.Common.{◌≡◌, ap, sym, ◌∙◌, ℕ, zero, suc, ◌+◌, List, [], ◌∷◌, ◌++◌, length, map, Bool, true, false, cond, not, ◌&&◌, refl, subst, Option, Some, None, arith}
-use Rattle.std.specs.Prelude.{⊤, ◌==◌, slice_get, count_by, Result, Ok, Err, IfOk, OnOk, OnErr}
+use Rattle.std.proofs.Common.{◌≡◌, ap, sym, ◌∙◌, ℕ, ◌+◌, List, [], ◌∷◌, ◌++◌, Bool, true, false, cond, not, ◌&&◌, refl, subst, Option, Some, None, arith}
+use Rattle.std.specs.Prelude.{◌==◌, slice_get, count_by, Result, Ok, Err, IfOk}
 use Rattle.std.specs.Option.{is_some, option_and_then}
 use Rattle.std.specs.Global.{Vec}
-use Rattle.std.proofs.lemmas.List.Sums.{sum_by-cons, sum_by_push}
+use Rattle.std.proofs.lemmas.List.Sums.{sum_by_push}
 use Rattle.std.specs.Ordering.{nat_cmp}
 use Rattle.std.specs.List.Sorted.{IsStrictlySortedBy}
 use Rattle.std.specs.BTreeSet.{BTreeSet}
-use Rattle.place_sets.specs.Sets.{holds, holds_at, Covers, at_place}
+use Rattle.place_sets.specs.Sets.{holds, holds_at, Covers}
 use Rattle.place_sets.proofs.Counting.{count_covered}
-use Rattle.place_sets.proofs.Changing.{count_changed, count_past}
-use Rattle.dense_numbers.specs.Counts.{count_of, hits, one_at, Moved}
+use Rattle.dense_numbers.specs.Counts.{hits, one_at, Moved}
 use Rattle.cluster_defs.specs.declared.attempt.Attempt.{Attempt}
 use Rattle.cluster_defs.specs.declared.attempt.Attempt.TheVariants.{Never, Running, EndedOk, EndedBadly, Lost, Declined}
 use Rattle.cluster_defs.specs.Tasks.{runs, runs_at}
 use Rattle.cluster_defs.specs.Facts.{is_direct_id}
 use Rattle.cluster_state.specs.Seen.{Seen}
 use Rattle.cluster_state.specs.Standing.{alone, runs_open}
-use Rattle.cluster_state.specs.Loading.{loads, load_in, loaded, loaded_at, running_on, Counts, Counted, Tallied}
+use Rattle.cluster_state.specs.Loading.{loads, loaded, loaded_at, running_on, Counted, Tallied}
 use Rattle.cluster_state.proofs.Marking.{at_runs}
-use Rattle.task_graph.specs.Listing.{Lists}
-use Rattle.cluster_state.specs.declared.marks.Marks.{Marks}
-use Rattle.cluster_state.specs.Marking.{Marked}
-use Rattle.cluster_state.specs.Places.{asking, Beside}
-use Rattle.cluster_state.proofs.Waiting.{indexed_same}
 
 -- ONE TASK
 

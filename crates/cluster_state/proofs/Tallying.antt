@@ -15,7 +15,7 @@ use Rattle.cluster_state.specs.declared.marks.Marks.{Marks}
 use Rattle.cluster_state.specs.declared.tallies.Classes.{Classes}
 use Rattle.cluster_state.specs.declared.tallies.Tallies.{Tallies}
 use Rattle.cluster_state.specs.Seen.{Seen}
-use Rattle.cluster_state.specs.Loading.{loads, load_in, loaded, Counted}
+use Rattle.cluster_state.specs.Loading.{load_in, loaded, Counted}
 use Rattle.cluster_state.specs.Tallying.{direct_class, finished_class, waiting_class, classes, no_classes, class_at, classes_at, tally_in, tally_at, Told, AllTold, no_tallies, Followed, Less, More, AllLess, AllMore}
 use Rattle.cluster_state.specs.Marking.{Marked}
 use Rattle.cluster_state.specs.Places.{asking, Beside}

@@ -1,10 +1,9 @@
 -- What is counted beside the tasks is how many ids a queue reply has.
-use Rattle.std.proofs.Common.{◌≡◌, ℕ, zero, suc, ◌+◌, List, [], ◌∷◌, length, map, Bool, true, false, true≢false, cond, not, ◌&&◌, refl, sym, ap, ◌∙◌, subst, Option, Some, None, arith}
+use Rattle.std.proofs.Common.{◌≡◌, ℕ, ◌+◌, List, [], ◌∷◌, length, map, Bool, true, false, cond, not, ◌&&◌, refl, sym, ap, ◌∙◌, subst, Option, Some, None, arith}
 use Rattle.std.specs.Prelude.{count_by, filter, option_map, IfSome, ◌==◌}
 use Rattle.std.specs.Option.{is_some}
 use Rattle.std.specs.Global.{Vec}
 use Rattle.std.proofs.lemmas.List.Sums.{sum_by-cons}
-use Rattle.std.proofs.lemmas.Bool.{both_ways}
 use Rattle.cluster_types.specs.declared.record.Record.{Record}
 use Rattle.cluster_defs.specs.declared.attempt.Attempt.{Attempt}
 use Rattle.cluster_defs.specs.declared.attempt.Attempt.TheVariants.{Never, Running, EndedOk, EndedBadly, Lost, Declined}
@@ -19,9 +18,9 @@ use Rattle.dense_numbers.specs.Counts.{count_of, hits}
 use Rattle.hub_queries.specs.declared.lengths.Lengths.{Lengths}
 use Rattle.hub_queries.specs.Lengths.{lengths_of}
 use Rattle.cluster_state.specs.Seen.{Seen}
-use Rattle.cluster_state.specs.Plain.{Plain, look, tasks_of, plain_of}
+use Rattle.cluster_state.specs.Plain.{Plain, look, tasks_of}
 use Rattle.cluster_state.specs.Loading.{loads, load_in, Counted}
-use Rattle.cluster_state.specs.Tallying.{direct_on, finished_on, waiting_at, direct_class, finished_class, waiting_class, tally_in, Told, AllTold}
+use Rattle.cluster_state.specs.Tallying.{direct_class, finished_class, waiting_class, tally_in, Told, AllTold}
 use Rattle.cluster_state.specs.declared.tallies.Tallies.{Tallies}
 use Rattle.entry_outs.specs.Reached.{Reached}
 use Rattle.entry_outs.specs.Shown.{LoadsShown}

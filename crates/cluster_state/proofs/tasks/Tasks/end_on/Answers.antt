@@ -1,4 +1,4 @@
-use Rattle.std.proofs.Common.{◌≡◌, subst, sym, ap, ◌∙◌}
+use Rattle.std.proofs.Common.{◌≡◌, subst, sym, ◌∙◌}
 use Rattle.place_sets.specs.Sets.{at_places}
 use Rattle.place_sets.proofs.Sweeping.{sweep}
 use Rattle.cluster_state.specs.Seen.{ended_on, on_unsettled}

@@ -1,4 +1,4 @@
-use Rattle.std.proofs.Common.{subst, sym, ap, ◌∙◌, None}
+use Rattle.std.proofs.Common.{subst, sym, ap, ◌∙◌}
 use Rattle.cluster_state.specs.Seen.{purged_out, changed}
 use Rattle.cluster_state.specs.Places.{Beside}
 use Rattle.cluster_state.proofs.Places.{at_is_changed, none_is_changed}

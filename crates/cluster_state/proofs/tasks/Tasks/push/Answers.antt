@@ -1,4 +1,4 @@
-use Rattle.std.proofs.Common.{◌≡◌, ◌++◌, ◌∷◌, [], true, subst, sym, ap, ◌∙◌, length}
+use Rattle.std.proofs.Common.{◌≡◌, true, subst, sym, ap, ◌∙◌, length}
 use Rattle.cluster_defs.specs.Words.{Id}
 use Rattle.cluster_state.specs.Waiting.{awaits_as, awaits, is_among, Indexed}
 use Rattle.task_graph.specs.Listing.{waiting_for}
