@@ -434,8 +434,10 @@ fn numbers_are(state: &State, unassigned: u32, loads: u32, directs: u32, finishe
 /// Whether a request with this id, to engine 0 alone, is accepted on connection 2.
 fn directs<R: Abort>(rt: &R, alloc: Global, state: &mut State, id: &str) -> bool {
     let buffers = Sequence::new(alloc);
-    let request = SharedMessage::new(alloc, b"e0", b"h", b"{}", b"{}", b"{}", buffers)
-        .expect(rt, "memory is ample");
+    let request = SharedMessage::new(alloc, b"e0", b"h", b"{}", b"{}", b"{}", buffers).expect(
+        rt,
+        "memory is ample",
+    );
     let submission = submission(rt, alloc, id);
     state
         .take_demand(2, 5, &request, true, &submission)
