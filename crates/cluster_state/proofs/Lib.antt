@@ -18,6 +18,7 @@ pub mod Places
 pub mod Purging
 pub mod Scattered
 pub mod Steps
+pub mod Tallying
 pub mod Told
 pub mod Targets
 pub mod Waiting

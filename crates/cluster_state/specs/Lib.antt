@@ -8,4 +8,5 @@ pub mod Seen
 pub mod Settling
 pub mod Standing
 pub mod Stands
+pub mod Tallying
 pub mod Waiting

@@ -22,6 +22,7 @@ pub mod request;
 pub mod standing;
 pub mod state;
 pub mod table;
+pub mod tallies;
 pub mod task;
 pub mod tasks;
 pub mod tidying;

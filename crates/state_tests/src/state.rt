@@ -411,6 +411,64 @@ fn loads_follow_the_tasks(rt: HostRuntime) {
     assert!(rt; load_of(&state, 0) == Some(0));
 }
 
+/// Whether a number has this count.
+fn counts_are(counts: &Option<Vec<u32>>, number: u32, wanted: u32) -> bool {
+    match counts {
+        Some(counts) => count(counts, number) == wanted,
+        None => false,
+    }
+}
+
+/// Whether so many Submits wait, so many Submits and Directs run on engine 0, and so many tasks finished there.
+fn numbers_are(state: &State, unassigned: u32, loads: u32, directs: u32, finished: u32) -> bool {
+    let tallies = state.tasks.tallies();
+    counts_are(&tallies.unassigned, 0, unassigned)
+        && counts_are(&tallies.loads, 0, loads)
+        && counts_are(&tallies.directs, 0, directs)
+        && counts_are(&tallies.finished, 0, finished)
+}
+
+/// Whether a request with this id, to engine 0 alone, is accepted on connection 2.
+fn directs<R: Abort>(rt: &R, alloc: Global, state: &mut State, id: &str) -> bool {
+    let buffers = Sequence::new(alloc);
+    let request = SharedMessage::new(alloc, b"e0", b"h", b"{}", b"{}", b"{}", buffers).expect(
+        rt,
+        "memory is ample",
+    );
+    let submission = submission(rt, alloc, id);
+    state
+        .take_demand(2, 5, &request, true, &submission)
+        .expect(rt, "memory is ample")
+}
+
+#[test]
+fn numbers_follow_attempts(rt: HostRuntime) {
+    let alloc = rt.alloc();
+    let mut state = accepted(&rt, alloc);
+    assert!(rt; numbers_are(&state, 1, 0, 0, 0));
+    hand(&rt, alloc, &mut state);
+    assert!(rt; numbers_are(&state, 0, 1, 0, 0));
+    assert!(rt; directs(&rt, alloc, &mut state, "d"));
+    assert!(rt; numbers_are(&state, 0, 1, 0, 0));
+    let direct = text(&rt, alloc, "d");
+    state.hand(&direct, 0, true).expect(&rt, "memory is ample");
+    assert!(rt; numbers_are(&state, 0, 1, 1, 0));
+    ends_engine(&rt, &mut state);
+    assert!(rt; numbers_are(&state, 1, 0, 0, 0));
+}
+
+#[test]
+fn numbers_follow_what_finished(rt: HostRuntime) {
+    let alloc = rt.alloc();
+    let mut state = handed(&rt, alloc);
+    assert!(rt; reply(&rt, alloc, &mut state, "r"));
+    let _ = settle(&rt, &mut state, text(&rt, alloc, "a"));
+    assert!(rt; numbers_are(&state, 0, 0, 0, 1));
+    let listed = ids(&rt, alloc, &["a"]);
+    assert!(rt; purges(&rt, &mut state, &listed));
+    assert!(rt; numbers_are(&state, 0, 0, 0, 0));
+}
+
 #[test]
 fn a_task_is_settled_once(rt: HostRuntime) {
     let alloc = rt.alloc();

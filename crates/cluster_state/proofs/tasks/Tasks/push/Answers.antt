@@ -1,10 +1,10 @@
-use Rattle.std.proofs.Common.{◌≡◌, ◌++◌, ◌∷◌, [], true, subst, sym, ap, ◌∙◌, length}
+use Rattle.std.proofs.Common.{◌≡◌, true, subst, sym, ap, ◌∙◌, length}
 use Rattle.cluster_defs.specs.Words.{Id}
 use Rattle.cluster_state.specs.Seen.{request_as}
 use Rattle.cluster_state.specs.Waiting.{awaits, is_among, Indexed}
 use Rattle.task_graph.specs.Listing.{waiting_for}
 use Rattle.cluster_state.proofs.Waiting.{indexed_grown, indexed_more, noted_both}
-use Rattle.cluster_state.proofs.Loading.{counted_pushed}
+use Rattle.cluster_state.proofs.Tallying.{counted_pushed}
 use Rattle.cluster_state.proofs.tasks.Tasks.push.Goals as goal
 
 pub invariant_of-self-2 : goal.invariant_of-self-2
@@ -21,6 +21,6 @@ invariant_of-self-2 c =
     record {
       marked = c.push_onto.ensures.marked;
       indexed = subst (λ xs. Indexed xs waits) (sym c.in_ok-push_onto.ensures.ok) (indexed_more ts t waits grown noted);
-      counted = counted_pushed c.follow.result ts us t c.self.inside.counts c.take-kept.result c.take-kept.new.self c.follow.new.counts c.loaded-after.result
-          c.self.invariant.counted c.take-kept.ensures.value c.take-kept.ensures.after c.in_ok-push_onto.ensures.ok c.loaded-after.ensures c.follow.ensures.ok c.follow.ensures.err;
+      counted = counted_pushed c.follow.result ts us t c.self.inside.tallies c.take-kept.result c.take-kept.new.self c.follow.new.tallies c.no_classes.result c.classes_of-after.result
+          c.self.invariant.counted c.take-kept.ensures.value c.take-kept.ensures.after c.in_ok-push_onto.ensures.ok c.no_classes.ensures c.classes_of-after.ensures c.follow.ensures.ok c.follow.ensures.err;
     }
