@@ -85,13 +85,10 @@ fails_as true false false true after x y z on = inl refl
 fails_as true false false false true x y z on = inr refl
 fails_as true false false false false x y z on = cc
 
-none_fails : (rest : Bool) → is_some (cond rest None None) ≡ true → ⊥
-none_fails true on = cc
-none_fails false on = cc
-
 request_fails : (ts : List Seen) (live : List Engine) (now : ℕ) (a : Task) (id : Id) (rest : Bool) (o : Option Request) → is_some (cond rest (failing_as (among ts live now a) id o) None) ≡ true
     → ((rest && hopeless_as ts live a o) ≡ true) ⊎ ((rest && late_as now o) ≡ true)
-request_fails ts live now a id rest None on = absurd (none_fails rest on)
+request_fails ts live now a id true None on = cc
+request_fails ts live now a id false None on = cc
 request_fails ts live now a id rest (Some q) on =
     let f = among ts live now a in
     fails_as rest (is_direct q) q.invalid (is_dead f id q) (is_timed_out f q) InvalidDependency ImpossibleDependency TaskTimeout on

@@ -1,12 +1,13 @@
 //! Direct requests that wait for their engine, and Submits that may run.
 
-ghost use Rattle.std.specs.Prelude.{◌≡◌, filter, find, slice_get, option_map, map, IfOk};
+ghost use Rattle.std.specs.Prelude.{◌≡◌, List, true, None, filter, find, slice_get, option_map, map, IfOk};
 ghost use Rattle.std.specs.List.{list_any};
 ghost use Rattle.std.specs.Option.{option_copied};
 ghost use Rattle.place_sets.specs.Sets.{has, holds_at};
 ghost use Rattle.place_sets.specs.Lanes.{in_some};
 ghost use Rattle.place_sets.specs.Least.{IsLeast};
 ghost use Rattle.dense_numbers.specs.Flags.{is_set};
+ghost use Rattle.due_decisions.specs.declared.rooms.Room.{Room};
 ghost use Rattle.due_decisions.specs.Table.{direct_at, direct_of, direct_in, ready, takes, fits, rooms_for, picked, hand_of, hand_in};
 
 use crate::rooms::{Room, is_open, open_numbers};
@@ -87,15 +88,22 @@ fn may_run_at(table: &Table, rooms: &[Room], place: usize) -> bool
     }
 }
 
+/// The first of some places where one does.
+fn first_waiting(table: &Table, places: &BTreeSet<usize>, rooms: &[Room]) -> Option<usize>
+    ensures { result ≡ find (holds_at (λ t. list_any (λ r. fits table.now t r.engine) rooms.now) table.now) places.now.keys }
+{
+    places
+        .iter()
+        .copied()
+        .find(|p| may_run_at(table, rooms, *p))
+}
+
 /// The least of some places where one does.
 fn waiting_place(table: &Table, places: &BTreeSet<usize>, rooms: &[Room]) -> Option<usize>
     ensures { IsLeast (holds_at (λ t. list_any (λ r. fits table.now t r.engine) rooms.now) table.now) (has places.now) result }
 {
     let _many = places.len();
-    places
-        .iter()
-        .copied()
-        .find(|p| may_run_at(table, rooms, *p))
+    first_waiting(table, places, rooms)
 }
 
 /// The least of the places in the lanes of some engines.
@@ -109,6 +117,14 @@ fn laned_place(table: &Table, lanes: &Lanes, open: &[bool], rooms: &[Room]) -> O
         }
     }
     least
+}
+
+/// Whether no task waits to be handed out.
+pub fn none_waits(tasks: &Tasks) -> bool
+    ensures { result ≡ true → (rooms : List Room) → find (λ t. list_any (λ r. fits tasks.now t r.engine) rooms) tasks.now ≡ None }
+{
+    let marks = tasks.marks();
+    marks.free.is_empty() && marks.lanes.as_map().is_empty()
 }
 
 /// The lowest task that waits, and may run on one of some engines: it may run on any, or is in the lane of one of them.

@@ -71,6 +71,21 @@ fn is_failing_at(table: &Table, engines: &Registry, now: u64, place: usize) -> b
     }
 }
 
+/// The first of some places where one does.
+fn first_failing(
+    table: &Table,
+    places: &BTreeSet<usize>,
+    engines: &Registry,
+    now: u64,
+) -> Option<usize>
+    ensures { result ≡ find (holds_at (λ t. is_some (failing_in table.now engines.now now t)) table.now) places.now.keys }
+{
+    places
+        .iter()
+        .copied()
+        .find(|p| is_failing_at(table, engines, now, *p))
+}
+
 /// The least of some places where one does.
 fn failing_place(
     table: &Table,
@@ -81,10 +96,7 @@ fn failing_place(
     ensures { IsLeast (holds_at (λ t. is_some (failing_in table.now engines.now now t)) table.now) (has places.now) result }
 {
     let _many = places.len();
-    places
-        .iter()
-        .copied()
-        .find(|p| is_failing_at(table, engines, now, *p))
+    first_failing(table, places, engines, now)
 }
 
 /// Whether an engine isn't live.

@@ -47,7 +47,7 @@ pub fn note(places: &mut Vec<usize>, live: &[Engine], number: u32) -> Result<(),
     ensures kept { Keeps numbered live.now (slice_get places.old.items) (slice_get places.new.items) }
     ensures there { OnOk result (engine_numbered live.now number ≡ None → slice_get places.new.items number ≡ Some (length live.now)) }
 {
-    if find(places, live, number).is_none() {
+    if find(places, live, u64::from(number)).is_none() {
         widen(places, number)?;
         put(places, number, live.len());
     }
@@ -61,7 +61,7 @@ fn point_behind(places: &mut Vec<usize>, live: &[Engine], number: u32)
     ensures there { is_some (slice_get places.old.items number) ≡ true → engine_numbered live.now number ≡ None → slice_get places.new.items number ≡ Some (length live.now) }
     ensures same { (j : ℕ) → is_some (slice_get places.new.items j) ≡ is_some (slice_get places.old.items j) }
 {
-    if find(places, live, number).is_none() {
+    if find(places, live, u64::from(number)).is_none() {
         put(places, number, live.len());
     }
 }

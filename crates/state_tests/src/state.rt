@@ -477,7 +477,7 @@ fn a_task_is_settled_once(rt: HostRuntime) {
         assert!(rt; reply(&rt, alloc, &mut state, header) == counts);
     }
     let _ = settle(&rt, &mut state, text(&rt, alloc, "a"));
-    assert!(rt; state.tasks.len() == 1 && state.tasks.marks().ready.is_empty());
+    assert!(rt; state.tasks.len() == 1 && state.tasks.marks().free.is_empty());
     assert!(rt; is_settled(&state, &text(&rt, alloc, "a")));
     let listed = ids(&rt, alloc, &["a"]);
     assert!(rt; resubmits(&rt, &mut state, &listed));

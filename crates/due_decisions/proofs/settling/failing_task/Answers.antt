@@ -1,8 +1,7 @@
-use Rattle.std.proofs.Common.{ap, ◌∙◌, Bool, ◌||◌, not}
+use Rattle.std.proofs.Common.{◌≡◌, ap, ◌∙◌, ◌||◌, not}
 use Rattle.std.specs.Prelude.{slice_get, nat_le}
 use Rattle.std.specs.Option.{option_and_then, is_some}
 use Rattle.cluster_defs.specs.Engines.{lists_number}
-use Rattle.cluster_state.specs.Seen.{Seen}
 use Rattle.place_sets.specs.Sets.{has, holds_at}
 use Rattle.place_sets.specs.Lanes.{in_some}
 use Rattle.place_sets.proofs.Leasts.{least_is}
