@@ -1,8 +1,10 @@
 -- The least place in lanes that are gone through one after another.
 use Rattle.std.proofs.Common.{◌≡◌, ap, sym, ◌∙◌, ℕ, List, [], ◌∷◌, ◌++◌, map, Bool, true, false, cond, not, ◌&&◌, ◌||◌, refl, Option, Some, None, arith}
-use Rattle.std.specs.Prelude.{filter, nat_le, length}
+use Rattle.std.specs.Prelude.{filter, nat_le, nat_lt, length, ◌==◌, ◌≤◌, ◌<◌}
+use Rattle.std.specs.declared.cmp.Ordering.TheVariants.{Less, Equal, Greater}
+use Rattle.std.proofs.lemmas.Bool.{ltb-true, leb-true}
 use Rattle.std.specs.List.{list_any}
-use Rattle.std.specs.Ordering.{nat_cmp}
+use Rattle.std.specs.Ordering.{nat_cmp, is_lt}
 use Rattle.std.specs.BTreeSet.{BTreeSet}
 use Rattle.place_sets.specs.Sets.{has}
 use Rattle.place_sets.specs.Lanes.{LaneList, in_lane, in_some}
@@ -61,3 +63,12 @@ in_none (e ∷ es) n i is = cc
 pub none_left : {X : Type 0} (xs : List X) → length xs ≡ 0 → xs ≡ []
 none_left [] is = refl
 none_left (x ∷ xs) is = cc
+
+-- a moment up to the present one is none behind it
+pub up_to : (now n : ℕ) → nat_le n now ≡ true → not (is_lt (nat_cmp now n)) ≡ true
+up_to now n le = by_cmp (nat_lt now n) (now == n) (λ lt. let up : now < n = ltb-true now n lt in let down : n ≤ now = leb-true n now le in absurd (omega (arith, up, down)))
+  where
+    by_cmp : (b c : Bool) → (b ≡ true → ⊥) → not (is_lt (cond b Less (cond c Equal Greater))) ≡ true
+    by_cmp true c none = absurd (none refl)
+    by_cmp false true none = refl
+    by_cmp false false none = refl

@@ -1,11 +1,14 @@
 -- What may run and what fails is in the sets that are for it.
 use Rattle.std.proofs.Common.{◌≡◌, ap, sym, ◌∙◌, ℕ, List, [], Bool, true, false, cond, not, ◌&&◌, ◌||◌, refl, Option, Some, None, ◌⊎◌, inl, inr, ⊎_elim}
-use Rattle.std.specs.Prelude.{◌==◌, nat_le, slice_get, filter}
+use Rattle.std.specs.Prelude.{◌==◌, nat_le, slice_get, filter, find}
+use Rattle.std.specs.Ordering.{nat_cmp}
+use Rattle.std.specs.BTreeMap.{is_at}
 use Rattle.std.specs.List.{list_any}
 use Rattle.std.specs.Option.{is_some}
-use Rattle.std.proofs.lemmas.Bool.{eq-eqb}
+use Rattle.std.proofs.lemmas.Bool.{both_ways, eq-eqb}
+use Rattle.place_sets.proofs.Covering.{found_none, off_from}
 use Rattle.place_sets.specs.Sets.{has, holds, holds_at}
-use Rattle.place_sets.specs.Lanes.{in_some}
+use Rattle.place_sets.specs.Lanes.{in_lane, in_some}
 use Rattle.place_sets.proofs.Leasts.{lane_among}
 use Rattle.dense_numbers.specs.Flags.{is_set}
 use Rattle.cluster_types.specs.declared.verdict.Cause.{Cause}
@@ -23,6 +26,7 @@ use Rattle.cluster_state.specs.Marking.{Marked}
 use Rattle.cluster_state.specs.Fitting.{hopeless_as, late_as}
 use Rattle.due_decisions.specs.declared.rooms.Room.{Room}
 use Rattle.due_decisions.specs.Table.{settled_in, alone, among, failing_in, ready_as, ready, takes_as, takes, fits, hopeless, late, rooms_for}
+use Rattle.due_decisions.proofs.LaneSteps.{in_none}
 use Rattle.due_decisions.proofs.Lists.{any_and, any_same, any_among, left_of, right_of, filter_alike, filter_none}
 
 regroup : (b k fo ta e : Bool) → (b && (k && fo && ta) && e) ≡ (b && k && (fo && ta && e))
@@ -73,6 +77,18 @@ fits_covers ts rooms m found is sets i on =
     (λ here. right_of (has m.free i) (in_some (is_set found) m.lanes i)
     (lane_among (is_set found) m.lanes n i (sets n ∙ a.again (λ r. r.engine == n) (eq-eqb n n refl)) here))
     (is.free n i (held (λ u. fits ts u n) (slice_get ts i) t at a.passes)))
+
+-- where no set of those that may run has a place, none may
+pub none_fit : (ts : List Seen) (m : Marks) → Marked ts m → m.free.keys ≡ [] → m.lanes ≡ [] → (rooms : List Room) → find (λ t. list_any (λ r. fits ts t r.engine) rooms) ts ≡ None
+none_fit ts m is free lanes rooms =
+    sym (found_none (λ (t : Seen). list_any (λ (r : Room). fits ts t r.engine) rooms) ts (λ i. off_from (holds_at (λ (t : Seen). list_any (λ (r : Room). fits ts t r.engine) rooms) ts i) (λ on.
+    holds_one (λ t. list_any (λ r. fits ts t r.engine) rooms) (slice_get ts i) on (λ t at fit.
+    let a = any_among (λ (r : Room). fits ts t r.engine) rooms fit in
+    let n = a.one.engine in
+    ⊎_elim
+    (λ here. both_ways (has m.free i) (ap (list_any (is_at (nat_cmp i))) free) here)
+    (λ here. both_ways (in_lane m.lanes n i) (in_none m.lanes n i lanes) here)
+    (is.free n i (held (λ u. fits ts u n) (slice_get ts i) t at a.passes))))))
 
 -- WHAT FAILS
 

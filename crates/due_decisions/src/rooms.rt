@@ -3,11 +3,13 @@
 ghost use Rattle.std.specs.Prelude.{◌≡◌, ◌==◌, ℕ, filter, map, IfOk};
 ghost use Rattle.std.specs.List.{list_any};
 ghost use Rattle.dense_numbers.specs.Counts.{count_of};
+ghost use Rattle.dense_numbers.specs.Flags.{is_set};
 ghost use Rattle.cluster_defs.specs.Engines.{lists_number};
 ghost use Rattle.due_decisions.specs.Table.{leaves_room, rooms_in};
 
 use cluster_state::tasks::Tasks;
 use dense_numbers::counts::count;
+use dense_numbers::flags::set;
 use engine_registry::registry::Registry;
 use std::alloc::{AllocError, Global};
 

@@ -140,7 +140,8 @@ fn failing_task<'a>(tasks: &'a Tasks, engines: &Registry, now: u64) -> Option<&'
     let doubtful = failing_place(table, &marks.doubtful, engines, now);
     let unwatched = unwatched_place(table, &marks.watches, engines, now);
     let late = late_place(table, &marks.deadlines, engines, now);
-    tasks.at(lesser(lesser(doubtful, unwatched), late))
+    let early = lesser(doubtful, unwatched);
+    tasks.at(lesser(early, late))
 }
 
 /// The settle of a task that fails without an attempt.
