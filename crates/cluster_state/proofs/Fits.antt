@@ -1,25 +1,24 @@
 -- What it hangs on where a task fits, and whether it can't run for good.
-use Rattle.std.proofs.Common.{◌≡◌, ◌≤◌, ◌+◌, ◌*◌, ℕ, zero, suc, List, [], ◌∷◌, Bool, true, false, not, ◌&&◌, ◌||◌, cond, refl, sym, ap, ◌∙◌, subst, Option, Some, None, bytes_eq, arith}
-use Rattle.std.specs.Prelude.{nat_eq, nat_le, min, ◌==◌, filter_map}
+use Rattle.std.proofs.Common.{◌≡◌, ℕ, List, [], ◌∷◌, Bool, true, false, not, ◌&&◌, ◌||◌, cond, refl, sym, ap, ◌∙◌, subst, Option, Some, None, arith}
+use Rattle.std.specs.Prelude.{nat_eq, nat_le, ◌==◌, filter_map}
 use Rattle.std.specs.Ordering.{nat_cmp}
 use Rattle.std.specs.BTreeMap.{is_at}
 use Rattle.std.specs.List.{list_any, list_all, cons_option}
 use Rattle.std.specs.Option.{option_and_then}
-use Rattle.std.proofs.lemmas.Bool.{both_ways, eqb-true, eq-eqb}
-use Rattle.place_sets.proofs.Covering.{off_from}
+use Rattle.std.proofs.lemmas.Bool.{both_ways, eqb-true}
 use Rattle.cluster_types.specs.declared.event.Dep.{Dep}
 use Rattle.cluster_defs.specs.declared.engine.Engine.{Engine}
 use Rattle.cluster_defs.specs.Words.{Id, is_empty, is_listed, is_number}
 use Rattle.cluster_defs.specs.Engines.{lists_number}
 use Rattle.cluster_defs.specs.Tasks.{Task, Settled}
 use Rattle.cluster_defs.specs.Dependencies.{asked, met, quantified, unreachable, on_engine, apart, scattered}
-use Rattle.cluster_defs.specs.Requests.{Request, is_direct, is_bound, is_target, deadline}
-use Rattle.cluster_defs.specs.Scheduling.{rests, excludes, usable_on, spoils, follow_spoilt, follow_dead, no_target, is_dead, is_past, may_run_as}
+use Rattle.cluster_defs.specs.Requests.{Request, is_direct, is_bound, is_target}
+use Rattle.cluster_defs.specs.Scheduling.{rests, excludes, usable_on, spoils, follow_spoilt, follow_dead, no_target, is_dead, may_run_as}
 use Rattle.cluster_state.specs.Seen.{Seen}
 use Rattle.cluster_state.specs.Standing.{alone}
 use Rattle.cluster_state.specs.Live.{lone}
-use Rattle.cluster_state.specs.Waiting.{settled_in, ready_as, ready, awaits_as, awaits, is_among}
-use Rattle.cluster_state.specs.Fitting.{among, fits, hopeless_as, hopeless, late_as, late, is_tied, tied}
+use Rattle.cluster_state.specs.Waiting.{settled_in, ready_as, ready, awaits_as, is_among}
+use Rattle.cluster_state.specs.Fitting.{among, fits, hopeless_as, hopeless, is_tied, tied}
 use Rattle.cluster_state.proofs.Waiting.{or_left, or_right, any_agree, all_agree, met_agrees, unreachable_agrees, Agrees}
 
 -- WHAT HANGS ON LISTED IDS ALONE

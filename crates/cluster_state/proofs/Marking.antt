@@ -1,5 +1,5 @@
 -- Which changes of the tasks the sets of places outlast: all, where the places that change were put in before.
-use Rattle.std.proofs.Common.{◌≡◌, ℕ, map, bytes_eq, List, [], ◌∷◌, ◌++◌, length, Bool, true, false, not, ◌&&◌, cond, Some, None, ◌||◌, ◌⊎◌, inl, inr, ⊎_elim, refl, sym, ◌∙◌, subst}
+use Rattle.std.proofs.Common.{◌≡◌, ℕ, map, bytes_eq, List, [], ◌∷◌, ◌++◌, length, Bool, true, false, not, ◌&&◌, cond, Some, None, ◌||◌, ◌⊎◌, inl, inr, ⊎_elim, refl, sym, subst}
 use Rattle.std.specs.Prelude.{slice_get, nat_le}
 use Rattle.std.specs.Ordering.{nat_cmp}
 use Rattle.std.specs.BTreeMap.{is_at}

@@ -1,22 +1,20 @@
 -- A task that is settled changes what is so of the tasks that wait for it alone.
-use Rattle.std.proofs.Common.{◌≡◌, ℕ, zero, suc, length, arith, List, [], ◌∷◌, ◌++◌, map, Bool, true, false, not, ◌&&◌, ◌||◌, cond, refl, sym, ap, ◌∙◌, subst, Option, Some, None, bytes_eq, ◌⊎◌, inl, inr}
-use Rattle.std.specs.Prelude.{⊤, slice_get, nat_le, ◌==◌, option_map}
+use Rattle.std.proofs.Common.{◌≡◌, ℕ, zero, suc, length, arith, List, [], ◌∷◌, ◌++◌, map, Bool, true, false, not, ◌&&◌, ◌||◌, cond, refl, sym, ap, ◌∙◌, subst, Option, Some, None, bytes_eq, ◌⊎◌, inl}
+use Rattle.std.specs.Prelude.{⊤, slice_get, ◌==◌, option_map}
 use Rattle.std.specs.Ordering.{nat_cmp}
 use Rattle.std.specs.BTreeMap.{is_at}
 use Rattle.std.specs.List.{list_any, list_all}
 use Rattle.std.specs.Option.{option_and_then}
 use Rattle.std.specs.BTreeSet.{BTreeSet}
-use Rattle.place_sets.specs.Sets.{has, holds, holds_at, Covers, Apart}
+use Rattle.place_sets.specs.Sets.{has, holds, holds_at, Apart}
 use Rattle.place_sets.proofs.Covering.{off_from, first_or_later}
 use Rattle.cluster_types.specs.declared.event.Dep.{Dep}
 use Rattle.cluster_defs.specs.Words.{Id, is_empty, is_listed}
-use Rattle.cluster_defs.specs.Tasks.{Task, Settled}
+use Rattle.cluster_defs.specs.Tasks.{Settled}
 use Rattle.cluster_defs.specs.Dependencies.{asked, other_kind, quantified, met, unreachable}
-use Rattle.cluster_defs.specs.Requests.{Request, is_direct, is_bound}
-use Rattle.cluster_defs.specs.Scheduling.{rests}
+use Rattle.cluster_defs.specs.Requests.{Request}
 use Rattle.cluster_defs.proofs.Options.{same_id, id_self}
 use Rattle.cluster_state.specs.Seen.{Seen, seen_in, place_in}
-use Rattle.cluster_state.specs.Standing.{alone}
 use Rattle.cluster_state.specs.Places.{name, settling, asking, Alike}
 use Rattle.task_graph.specs.Listing.{Lists, waiting_for}
 use Rattle.std.proofs.lemmas.Bool.{both_ways, eqb-true, eq-eqb}

@@ -1,5 +1,5 @@
 -- The lanes of a place: what comes into them, and what stays in the sets beside them.
-use Rattle.std.proofs.Common.{◌≡◌, ℕ, List, [], ◌∷◌, ◌++◌, Bool, true, false, refl, sym, ap, ◌∙◌, subst, Option, Some, None, ◌⊎◌, inl, inr, ⊎_elim}
+use Rattle.std.proofs.Common.{◌≡◌, ℕ, List, [], ◌∷◌, ◌++◌, Bool, true, false, refl, sym, subst, Option, Some, None, ◌⊎◌, inl, inr, ⊎_elim}
 use Rattle.std.specs.Prelude.{slice_get, nat_le, not, ◌==◌, Result, Ok, Err, OnOk}
 use Rattle.std.specs.BTreeSet.{BTreeSet}
 use Rattle.std.proofs.lemmas.Bool.{both_ways, eqb-true, eq-eqb}
@@ -10,9 +10,9 @@ use Rattle.cluster_defs.specs.Engines.{lists_number}
 use Rattle.cluster_defs.specs.Requests.{Request}
 use Rattle.cluster_state.specs.Seen.{Seen}
 use Rattle.cluster_state.specs.Live.{lone}
-use Rattle.cluster_state.specs.Waiting.{ready, is_among}
+use Rattle.cluster_state.specs.Waiting.{ready}
 use Rattle.cluster_state.specs.Fitting.{fits, hopeless, late, is_tied, tied}
-use Rattle.cluster_state.specs.Marking.{InSome, StaysWhereFit, OthersStay, IsLaned, IsLanedOn, IsWatched, IsTimed, LanedFor, WatchedFor, TimedFor}
+use Rattle.cluster_state.specs.Marking.{InSome, StaysWhereFit, OthersStay, IsLaned, IsLanedOn, IsWatched, LanedFor, WatchedFor, TimedFor}
 use Rattle.cluster_state.proofs.Fits.{fits_tied, fits_ready, hope_without, hope_with}
 use Rattle.cluster_state.proofs.Marking.{among_end}
 

@@ -1,14 +1,9 @@
 -- Searches and counts over lists.
-use Rattle.std.proofs.Common.{◌≡◌, ap, sym, ◌∙◌, ℕ, suc, ◌+◌, ◌<◌, List, [], ◌∷◌, ◌++◌, length, take, drop, set, get_or, Bool, true, false, cond, not, ◌&&◌, ◌||◌, map, refl, subst, Option, Some, None, ◌⊎◌, inl, inr, ⊎_elim, arith}
-use Rattle.std.specs.Prelude.{◌==◌, find, filter, nat_eq}
+use Rattle.std.proofs.Common.{◌≡◌, ap, sym, ◌∙◌, ℕ, ◌+◌, ◌<◌, List, [], ◌∷◌, ◌++◌, length, take, drop, set, get_or, Bool, true, false, cond, ◌&&◌, ◌||◌, map, refl, arith}
+use Rattle.std.specs.Prelude.{filter}
 use Rattle.std.specs.List.{list_any}
-use Rattle.std.specs.Option.{is_some}
-use Rattle.std.proofs.lemmas.Bool.{ne_eqb, eqb-true, both_ways}
 use Rattle.std.proofs.lemmas.List.{get_or_default}
 use Rattle.std.proofs.lemmas.List.Edits.{map_over_more}
-use Rattle.cluster_defs.specs.Words.{Id, is_empty}
-use Rattle.cluster_defs.specs.Tasks.{Settled}
-use Rattle.cluster_defs.specs.Dependencies.{same_engine, apart, scattered}
 
 pub right_of : (a b : Bool) → b ≡ true → (a || b) ≡ true
 right_of true b h = refl

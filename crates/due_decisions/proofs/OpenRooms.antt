@@ -1,5 +1,5 @@
 -- Engines with room, by what is kept of them.
-use Rattle.std.proofs.Common.{◌≡◌, ap, sym, ◌∙◌, ℕ, List, [], ◌∷◌, ◌++◌, Bool, true, false, ◌||◌, map, refl}
+use Rattle.std.proofs.Common.{◌≡◌, ap, ◌∙◌, ℕ, List, [], ◌∷◌, ◌++◌, Bool, true, false, ◌||◌, map, refl}
 use Rattle.std.specs.Prelude.{◌==◌, filter}
 use Rattle.std.specs.List.{list_any}
 use Rattle.cluster_defs.specs.declared.engine.Engine.{Engine}
@@ -10,7 +10,7 @@ use Rattle.cluster_state.specs.Seen.{Seen}
 use Rattle.cluster_state.specs.Loading.{load_in, Counts}
 use Rattle.due_decisions.specs.declared.rooms.Room.{Room}
 use Rattle.due_decisions.specs.Table.{leaves_room, rooms_in}
-use Rattle.due_decisions.proofs.Lists.{map_alike, filter_alike}
+use Rattle.due_decisions.proofs.Lists.{map_alike}
 
 or_turn : (a b c : Bool) → (a || (b || c)) ≡ (b || (a || c))
 or_turn true true c = refl

@@ -1,5 +1,5 @@
 -- What is due, read off the table of all tasks.
-use Rattle.std.specs.Prelude.{ℕ, nat_lt, nat_le, ◌+◌, ◌==◌, List, [], map, slice_get, Option, Some, None, Bool, false, not, ◌&&◌, ◌||◌, if◌then◌else◌, filter, find, count_by, option_map}
+use Rattle.std.specs.Prelude.{ℕ, nat_lt, ◌==◌, List, map, slice_get, Option, None, Bool, ◌||◌, if◌then◌else◌, filter, find, option_map}
 use Rattle.std.specs.List.{list_any}
 use Rattle.std.specs.Option.{is_some, option_and_then}
 use Rattle.cluster_types.specs.declared.config.Scheme.{Scheme}
@@ -8,14 +8,10 @@ use Rattle.cluster_types.specs.declared.verdict.Cause.{Cause}
 use Rattle.cluster_types.specs.declared.entry.Entry.{Entry}
 use Rattle.cluster_types.specs.declared.entry.Entry.TheVariants.{Settle}
 use Rattle.cluster_defs.specs.declared.engine.Engine.{Engine}
-use Rattle.cluster_defs.specs.Words.{Id, or_else}
+use Rattle.cluster_defs.specs.Words.{or_else}
 use Rattle.cluster_defs.specs.Engines.{lists_number}
-use Rattle.cluster_defs.specs.Tasks.{Task, runs_at}
-use Rattle.cluster_defs.specs.Dependencies.{met, on_engine}
-use Rattle.cluster_defs.specs.Requests.{Request, is_direct, is_target}
-use Rattle.cluster_defs.specs.Facts.{Facts, nothing_yet, is_direct_id}
-use Rattle.cluster_defs.specs.Scheduling.{lose_due, verdict, is_final, settle_as, rests, failing_as, ready_for, hand_to, may_run_as, excludes, pick}
-use Rattle.place_sets.specs.Sets.{holds_at}
+use Rattle.cluster_defs.specs.Facts.{Facts, nothing_yet}
+use Rattle.cluster_defs.specs.Scheduling.{lose_due, verdict, settle_as, rests, failing_as, ready_for, hand_to, pick}
 use Rattle.cluster_state.specs.Seen.{Seen}
 pub use Rattle.cluster_state.specs.Standing.{alone, final_at, direct_at}
 pub use Rattle.cluster_state.specs.Waiting.{settled_in, ready_as, ready}

@@ -359,7 +359,10 @@ fn a_bound_task_is_watched_by_one_engine(rt: HostRuntime) {
     state.end_engine(0).expect(&rt, "memory is ample");
     assert!(rt; stands(&state, [false, true, true, false, false, true]));
     let chooser = new_chooser(&rt, alloc);
-    assert_eq!(rt; decided(&rt, alloc, &chooser, &state, "a"), Outcome::Handed(1));
+    assert_eq!(rt;
+        decided(&rt, alloc, &chooser, &state, "a"),
+        Outcome::Handed(1)
+    );
     state.end_engine(1).expect(&rt, "memory is ample");
     assert!(rt; stands(&state, [false, true, true, true, false, false]));
     let impossible = Outcome::Failed(Cause::ImpossibleDependency);

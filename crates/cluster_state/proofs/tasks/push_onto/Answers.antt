@@ -1,4 +1,4 @@
-use Rattle.std.proofs.Common.{◌++◌, ◌∷◌, [], sym, subst, length}
+use Rattle.std.proofs.Common.{sym, subst, length}
 use Rattle.cluster_state.specs.Marking.{Marked, HasAt}
 use Rattle.cluster_state.proofs.Marking.{marked_grown, marked_more}
 use Rattle.cluster_state.proofs.tasks.push_onto.Goals as goal

@@ -1,4 +1,4 @@
-use Rattle.std.proofs.Common.{subst, true}
+use Rattle.std.proofs.Common.{subst}
 use Rattle.std.specs.Prelude.{slice_get}
 use Rattle.cluster_state.specs.Marking.{LanedFor}
 use Rattle.cluster_state.proofs.Watching.{free_with, free_without}

@@ -1,20 +1,15 @@
-use Rattle.std.proofs.Common.{rules, ◌≡◌, ◌∙◌, sym, ap, subst, map, ℕ, Bool, [], ◌∷◌, ◌++◌, not, ◌||◌}
-use Rattle.std.specs.Prelude.{slice_get, nat_le, filter}
+use Rattle.std.proofs.Common.{rules, ◌≡◌, ◌∙◌, sym, subst, map, ℕ, Bool}
 use Rattle.std.specs.List.{list_any}
-use Rattle.std.specs.Option.{is_some, option_and_then}
-use Rattle.std.specs.Ordering.{nat_cmp, is_lt}
 use Rattle.std.specs.Map.Iter.{deref_pair}
 use Rattle.std.proofs.lemmas.Map.Iter.{iter_end}
-use Rattle.cluster_defs.specs.Engines.{lists_number}
 use Rattle.dense_numbers.specs.Flags.{is_set}
 use Rattle.place_sets.specs.Sets.{has, holds_at}
 use Rattle.place_sets.specs.Lanes.{LaneList, in_some}
 use Rattle.place_sets.specs.Least.{IsLeast}
-use Rattle.place_sets.proofs.Leasts.{least_of, least_is}
 use Rattle.cluster_state.specs.Seen.{Seen}
 use Rattle.due_decisions.specs.declared.rooms.Room.{Room}
-use Rattle.due_decisions.specs.Table.{fits, failing_in}
-use Rattle.due_decisions.proofs.LaneSteps.{map_push, lane_more, lane_passed, some_picked}
+use Rattle.due_decisions.specs.Table.{fits}
+use Rattle.due_decisions.proofs.LaneSteps.{map_push, lane_more, lane_passed}
 use Rattle.due_decisions.proofs.handing.laned_place.Goals as goal
 
 pub returns : goal.returns

@@ -1,4 +1,4 @@
-use Rattle.std.proofs.Common.{sym, ◌∙◌, ap}
+use Rattle.std.proofs.Common.{sym, ◌∙◌}
 use Rattle.due_decisions.proofs.LaneSteps.{none_left}
 use Rattle.due_decisions.proofs.OpenTasks.{none_fit}
 use Rattle.due_decisions.proofs.handing.none_waits.Goals as goal

@@ -1,4 +1,4 @@
-use Rattle.std.proofs.Common.{◌≡◌, true, subst, sym, ap, ◌∙◌, length}
+use Rattle.std.proofs.Common.{◌≡◌, true, subst, sym, length}
 use Rattle.cluster_defs.specs.Words.{Id}
 use Rattle.cluster_state.specs.Seen.{request_as}
 use Rattle.cluster_state.specs.Waiting.{awaits, is_among, Indexed}
