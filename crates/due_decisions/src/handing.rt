@@ -107,12 +107,12 @@ fn waiting_place(table: &Table, places: &BTreeSet<usize>, rooms: &[Room]) -> Opt
 }
 
 /// The least of the places in the lanes of some engines.
-fn laned_place(table: &Table, lanes: &Lanes, open: &[bool], rooms: &[Room]) -> Option<usize>
-    ensures { IsLeast (holds_at (λ t. list_any (λ r. fits table.now t r.engine) rooms.now) table.now) (in_some (is_set open.now) lanes.now) result }
+fn laned_place(table: &Table, lanes: &Lanes, with_room: &[bool], rooms: &[Room]) -> Option<usize>
+    ensures { IsLeast (holds_at (λ t. list_any (λ r. fits table.now t r.engine) rooms.now) table.now) (in_some (is_set with_room.now) lanes.now) result }
 {
     let mut least = None;
     for (engine, places) in lanes.as_map().iter() {
-        if is_open(open, *engine) {
+        if is_open(with_room, *engine) {
             least = lesser(least, waiting_place(table, places, rooms));
         }
     }

@@ -79,10 +79,10 @@ pub fn open_numbers(alloc: Global, rooms: &[Room]) -> Result<Vec<bool>, AllocErr
 }
 
 /// Whether an engine is one of these.
-pub fn is_open(open: &[bool], engine: u64) -> bool
-    ensures { result ≡ is_set open.now engine }
+pub fn is_open(with_room: &[bool], engine: u64) -> bool
+    ensures { result ≡ is_set with_room.now engine }
 {
-    match open.get(engine as usize) {
+    match with_room.get(engine as usize) {
         Some(open) => *open,
         None => false,
     }

@@ -16,12 +16,12 @@ pub returns : goal.returns
 returns c =
     let ts = c.args.table.now in
     let all : map deref_pair c.loop-engine.yielded ≡ c.args.lanes.now = search (rules, iter_end) in
-    subst (λ es. IsLeast (holds_at (λ t. list_any (λ r. fits ts t r.engine) c.args.rooms.now) ts) (in_some (is_set c.args.open.now) es) c.loop-engine.least) all c.loop-engine.invariant
+    subst (λ es. IsLeast (holds_at (λ t. list_any (λ r. fits ts t r.engine) c.args.rooms.now) ts) (in_some (is_set c.args.with_room.now) es) c.loop-engine.least) all c.loop-engine.invariant
 
 pub loop-engine-preserved-then-is_open : goal.loop-engine-preserved-then-is_open
 loop-engine-preserved-then-is_open c =
     let ts = c.args.table.now in
-    let looks = is_set c.args.open.now in
+    let looks = is_set c.args.with_room.now in
     let test : ℕ → Bool = holds_at (λ (t : Seen). list_any (λ (r : Room). fits ts t r.engine) c.args.rooms.now) ts in
     let ys : LaneList = map deref_pair c.loop-engine.yielded in
     subst (λ es. IsLeast test (in_some looks es) c.lesser-least.result) (sym (map_push deref_pair c.loop-engine.yielded (c.in-Some.engine, c.in-Some.places)))
@@ -31,7 +31,7 @@ loop-engine-preserved-then-is_open c =
 pub loop-engine-preserved : goal.loop-engine-preserved
 loop-engine-preserved c =
     let ts = c.args.table.now in
-    let looks = is_set c.args.open.now in
+    let looks = is_set c.args.with_room.now in
     let test : ℕ → Bool = holds_at (λ (t : Seen). list_any (λ (r : Room). fits ts t r.engine) c.args.rooms.now) ts in
     let ys : LaneList = map deref_pair c.loop-engine.yielded in
     subst (λ es. IsLeast test (in_some looks es) c.loop-engine.least) (sym (map_push deref_pair c.loop-engine.yielded (c.in-Some.engine, c.in-Some.places)))
