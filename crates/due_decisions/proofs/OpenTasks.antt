@@ -1,11 +1,11 @@
 -- What may run and what fails is in the sets that are for it.
-use Rattle.std.proofs.Common.{◌≡◌, ap, sym, ◌∙◌, ℕ, List, [], Bool, true, false, cond, not, ◌&&◌, ◌||◌, refl, Option, Some, None, ◌⊎◌, inl, inr, ⊎_elim}
+use Rattle.std.proofs.Common.{◌≡◌, ap, sym, ◌∙◌, ℕ, List, [], Bool, true, false, cond, not, ◌&&◌, ◌||◌, refl, Option, Some, None, ◌⊎◌, inl, inr, ⊎_elim, suc, length, arith, ◌∷◌}
 use Rattle.std.specs.Prelude.{◌==◌, nat_le, slice_get, filter, find}
 use Rattle.std.specs.Ordering.{nat_cmp}
 use Rattle.std.specs.BTreeMap.{is_at}
 use Rattle.std.specs.List.{list_any}
 use Rattle.std.specs.Option.{is_some}
-use Rattle.std.proofs.lemmas.Bool.{both_ways, eq-eqb}
+use Rattle.std.proofs.lemmas.Bool.{both_ways, ne_eqb, eq-eqb}
 use Rattle.place_sets.proofs.Covering.{found_none, off_from}
 use Rattle.place_sets.specs.Sets.{has, holds, holds_at}
 use Rattle.place_sets.specs.Lanes.{in_lane, in_some}
@@ -89,6 +89,19 @@ none_fit ts m is free lanes rooms =
     (λ here. both_ways (has m.free i) (ap (list_any (is_at (nat_cmp i))) free) here)
     (λ here. both_ways (in_lane m.lanes n i) (in_none m.lanes n i lanes) here)
     (is.free n i (held (λ u. fits ts u n) (slice_get ts i) t at a.passes))))))
+
+find_never : {X : Type 0} (p : X → Bool) → ((x : X) → p x ≡ false) → (xs : List X) → find p xs ≡ None
+find_never p off [] = refl
+find_never p off (x ∷ xs) = rw (off x) (find_never p off xs)
+
+empty_list : {X : Type 0} (xs : List X) → (length xs == 0) ≡ true → xs ≡ []
+empty_list [] h = refl
+empty_list (x ∷ xs) h = absurd (both_ways (length (x ∷ xs) == 0) (ne_eqb (suc (length xs)) 0 (λ e. omega arith)) h)
+
+-- no room, no task that may run
+pub no_rooms : (ts : List Seen) (rooms : List Room) → true ≡ (length rooms == 0) → None ≡ find (λ t. list_any (λ r. fits ts t r.engine) rooms) ts
+no_rooms ts rooms h =
+    sym (find_never (λ (t : Seen). list_any (λ r. fits ts t r.engine) rooms) (λ t. ap (list_any (λ r. fits ts t r.engine)) (empty_list rooms (sym h))) ts)
 
 -- WHAT FAILS
 

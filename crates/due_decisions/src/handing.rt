@@ -135,6 +135,9 @@ fn waiting_task<'a>(
 ) -> Result<Option<&'a Task>, AllocError>
     ensures { IfOk result (λ o. option_copied o ≡ find (λ t. list_any (λ r. fits tasks.now t r.engine) rooms.now) tasks.now) }
 {
+    if rooms.is_empty() {
+        return Ok(None);
+    }
     let marks = tasks.marks();
     let table = tasks.table();
     let open = open_numbers(alloc, rooms)?;

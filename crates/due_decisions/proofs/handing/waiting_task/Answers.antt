@@ -9,7 +9,7 @@ use Rattle.cluster_state.specs.Seen.{Seen}
 use Rattle.due_decisions.specs.declared.rooms.Room.{Room}
 use Rattle.due_decisions.specs.Table.{fits}
 use Rattle.std.specs.Prelude.{◌==◌}
-use Rattle.due_decisions.proofs.OpenTasks.{fits_covers}
+use Rattle.due_decisions.proofs.OpenTasks.{fits_covers, no_rooms}
 use Rattle.due_decisions.proofs.handing.waiting_task.Goals as goal
 
 pub returns : goal.returns
@@ -27,3 +27,6 @@ returns c =
     subst (λ xs. IsLeast (holds_at (λ (t : Seen). list_any (λ (r : Room). fits xs t r.engine) rooms) xs) (in_some (is_set found) m.lanes) c.laned_place-laned.result) c.table-table.ensures c.laned_place-laned.ensures in
     c.at.ensures ∙ least_is (λ (t : Seen). list_any (λ (r : Room). fits ts t r.engine) rooms) ts (λ i. has m.free i || in_some (is_set found) m.lanes i) c.lesser.result
     (c.lesser.ensures test (has m.free) (in_some (is_set found) m.lanes) one two) (fits_covers ts rooms m found c.marks-marks.ensures sets)
+
+pub returns-then-is_empty : goal.returns-then-is_empty
+returns-then-is_empty c = no_rooms c.args.tasks.now c.args.rooms.now c.if-is_empty.ensures
