@@ -71,3 +71,12 @@ up_to now n le = by_cmp (nat_lt now n) (now == n) (λ lt. let up : now < n = ltb
     by_cmp true c none = absurd (none refl)
     by_cmp false true none = refl
     by_cmp false false none = refl
+
+-- numbers that pass alike, and no lanes
+pub some_alike : (p q : ℕ → Bool) → ((n : ℕ) → p n ≡ q n) → (es : LaneList) (i : ℕ) → in_some p es i ≡ in_some q es i
+some_alike p q same [] i = refl
+some_alike p q same (e ∷ es) i = rw (same e.0, some_alike p q same es i) refl
+
+pub some_of_none : (test looks : ℕ → Bool) (es : LaneList) → es ≡ [] → IsLeast test (in_some looks es) None
+some_of_none test looks [] is = λ i on. cc
+some_of_none test looks (e ∷ es) is = cc

@@ -10,20 +10,19 @@ use Rattle.place_sets.proofs.Covering.{found_none, off_from}
 use Rattle.place_sets.specs.Sets.{has, holds, holds_at}
 use Rattle.place_sets.specs.Lanes.{in_lane, in_some}
 use Rattle.place_sets.proofs.Leasts.{lane_among}
-use Rattle.dense_numbers.specs.Flags.{is_set}
 use Rattle.cluster_types.specs.declared.verdict.Cause.{Cause}
 use Rattle.cluster_types.specs.declared.verdict.Cause.TheVariants.{ImpossibleDependency, InvalidDependency, TaskTimeout}
 use Rattle.cluster_defs.specs.declared.engine.Engine.{Engine}
 use Rattle.cluster_defs.specs.Engines.{lists_number}
 use Rattle.cluster_defs.specs.Tasks.{Task}
-use Rattle.cluster_defs.specs.Words.{Id}
-use Rattle.cluster_defs.specs.Requests.{Request, is_direct, is_target}
-use Rattle.cluster_defs.specs.Dependencies.{met, on_engine}
+use Rattle.cluster_defs.specs.Words.{Id, is_empty}
+use Rattle.cluster_defs.specs.Requests.{Request, is_direct, is_bound, is_target}
+use Rattle.cluster_defs.specs.Dependencies.{asked, met, quantified, on_engine}
 use Rattle.cluster_defs.specs.Scheduling.{may_run_as, excludes, rests, failing_as, is_dead, is_timed_out}
 use Rattle.cluster_state.specs.declared.marks.Marks.{Marks}
 use Rattle.cluster_state.specs.Seen.{Seen}
 use Rattle.cluster_state.specs.Marking.{Marked}
-use Rattle.cluster_state.specs.Fitting.{hopeless_as, late_as}
+use Rattle.cluster_state.specs.Fitting.{hopeless_as, late_as, is_tied}
 use Rattle.due_decisions.specs.declared.rooms.Room.{Room}
 use Rattle.due_decisions.specs.Table.{settled_in, alone, among, failing_in, ready_as, ready, takes_as, takes, fits, hopeless, late, rooms_for}
 use Rattle.due_decisions.proofs.LaneSteps.{in_none}
@@ -56,6 +55,36 @@ rooms_ready ts t rooms on = filter_alike (λ (r : Room). takes ts t r.engine) (�
 pub rooms_unready : (ts : List Seen) (t : Seen) (rooms : List Room) → ready ts t ≡ false → [] ≡ rooms_for ts rooms t
 rooms_unready ts t rooms off = sym (filter_none (λ (r : Room). fits ts t r.engine) (λ r. fits_split ts t r.engine ∙ ap (λ b. b && takes ts t r.engine) off) rooms)
 
+-- a task that is ready, isn't tied and was declined by no engine may run on any
+any_target : (b e : Bool) (targets mets : Bool) → (b || not e) ≡ false → ((e || mets) && (not b || targets)) ≡ true
+any_target false true targets mets off = refl
+any_target true e targets mets off = cc
+any_target false false targets mets off = cc
+
+fits_untied : (ts : List Seen) (t : Seen) (r : Request) → t.request ≡ Some r → ready ts t ≡ true → is_tied r ≡ false → t.attempts.excluded ≡ [] → (n : ℕ) → fits ts t n ≡ true
+fits_untied ts t r is ready_now free none = λ n.
+    let takes_it : takes_as ts n t.request ≡ true = ap (takes_as ts n) is ∙ any_target (is_bound r) (is_empty r.follow.ids) (list_any (λ m. m == n) r.targets) (quantified r.follow.all (λ i. asked r.follow (on_engine n (settled_in ts i))) r.follow.ids) free in
+    let kept : not (excludes (alone t) t.row.id n) ≡ true = ap (λ ns. not (list_any (λ m. m == n) ns)) none in
+    fits_split ts t n ∙ rw (ready_now, takes_it, kept) refl
+
+no_and : (b : Bool) → (b && false) ≡ true → ⊥
+no_and true on = cc
+no_and false on = cc
+
+pub fits_any : (ts : List Seen) (t : Seen) → ready ts t ≡ true → ((r : Request) → t.request ≡ Some r → is_tied r ≡ false) → t.attempts.excluded ≡ [] → (n : ℕ) → fits ts t n ≡ true
+fits_any ts t ready_now free none =
+    elim t.request as (λ o. t.request ≡ o → (n : ℕ) → fits ts t n ≡ true) [
+      | None ↦ λ is. absurd (no_and (rests (alone t) t.row.id) (sym (ap (λ o. rests (alone t) t.row.id && ready_as (settled_in ts) t.attempts o) is) ∙ ready_now))
+      | Some r ↦ λ is. fits_untied ts t r is ready_now (free r is) none
+    ] refl
+
+filter_all : {X : Type 0} (p : X → Bool) → ((x : X) → p x ≡ true) → (xs : List X) → xs ≡ filter p xs
+filter_all p on [] = refl
+filter_all p on (x ∷ xs) = rw (on x) (ap (λ ys. x ∷ ys) (filter_all p on xs))
+
+pub rooms_all : (ts : List Seen) (t : Seen) (rooms : List Room) → ((n : ℕ) → fits ts t n ≡ true) → rooms ≡ rooms_for ts rooms t
+rooms_all ts t rooms on = filter_all (λ (r : Room). fits ts t r.engine) (λ r. on r.engine) rooms
+
 -- WHAT MAY RUN
 
 holds_one : (p : Seen → Bool) (o : Option Seen) {P : Type 0} → holds p o ≡ true → ((t : Seen) → o ≡ Some t → p t ≡ true → P) → P
@@ -66,16 +95,16 @@ held : (p : Seen → Bool) (o : Option Seen) (t : Seen) → o ≡ Some t → p t
 held p o t is on = ap (holds p) is ∙ on
 
 -- what may run on an engine with room is free, or in the lane of such an engine
-pub fits_covers : (ts : List Seen) (rooms : List Room) (m : Marks) (found : List Bool) → Marked ts m → ((n : ℕ) → is_set found n ≡ list_any (λ r. r.engine == n) rooms)
-    → (i : ℕ) → holds_at (λ t. list_any (λ r. fits ts t r.engine) rooms) ts i ≡ true → (has m.free i || in_some (is_set found) m.lanes i) ≡ true
-fits_covers ts rooms m found is sets i on =
+pub fits_covers : (ts : List Seen) (rooms : List Room) (m : Marks) → Marked ts m
+    → (i : ℕ) → holds_at (λ t. list_any (λ r. fits ts t r.engine) rooms) ts i ≡ true → (has m.free i || in_some (λ n. list_any (λ r. r.engine == n) rooms) m.lanes i) ≡ true
+fits_covers ts rooms m is i on =
+    let looks : ℕ → Bool = λ n. list_any (λ (r : Room). r.engine == n) rooms in
     holds_one (λ t. list_any (λ r. fits ts t r.engine) rooms) (slice_get ts i) on (λ t at fit.
     let a = any_among (λ (r : Room). fits ts t r.engine) rooms fit in
     let n = a.one.engine in
     ⊎_elim
-    (λ here. left_of (has m.free i) (in_some (is_set found) m.lanes i) here)
-    (λ here. right_of (has m.free i) (in_some (is_set found) m.lanes i)
-    (lane_among (is_set found) m.lanes n i (sets n ∙ a.again (λ r. r.engine == n) (eq-eqb n n refl)) here))
+    (λ here. left_of (has m.free i) (in_some looks m.lanes i) here)
+    (λ here. right_of (has m.free i) (in_some looks m.lanes i) (lane_among looks m.lanes n i (a.again (λ r. r.engine == n) (eq-eqb n n refl)) here))
     (is.free n i (held (λ u. fits ts u n) (slice_get ts i) t at a.passes)))
 
 -- where no set of those that may run has a place, none may

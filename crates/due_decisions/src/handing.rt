@@ -1,17 +1,19 @@
 //! Direct requests that wait for their engine, and Submits that may run.
 
-ghost use Rattle.std.specs.Prelude.{◌≡◌, List, true, None, filter, find, slice_get, option_map, map, IfOk};
+ghost use Rattle.std.specs.Prelude.{◌≡◌, ◌==◌, ℕ, List, [], true, false, None, Some, filter, find, slice_get, option_map, map, IfOk};
 ghost use Rattle.std.specs.List.{list_any};
 ghost use Rattle.std.specs.Option.{option_copied};
 ghost use Rattle.place_sets.specs.Sets.{has, holds_at};
 ghost use Rattle.place_sets.specs.Lanes.{in_some};
 ghost use Rattle.place_sets.specs.Least.{IsLeast};
 ghost use Rattle.dense_numbers.specs.Flags.{is_set};
+ghost use Rattle.cluster_defs.specs.Requests.{Request as RequestFacts};
+ghost use Rattle.cluster_state.specs.Fitting.{is_tied};
 ghost use Rattle.due_decisions.specs.declared.rooms.Room.{Room};
 ghost use Rattle.due_decisions.specs.Table.{direct_at, direct_of, direct_in, ready, takes, fits, rooms_for, picked, hand_of, hand_in};
 
 use crate::rooms::{Room, is_open, open_numbers};
-use cluster_state::fitting::takes;
+use cluster_state::fitting::{is_tied, takes};
 use cluster_state::readiness::is_ready;
 use cluster_state::standing::{is_direct_at, ready_for};
 use cluster_state::table::Table;
@@ -107,7 +109,7 @@ fn waiting_place(table: &Table, places: &BTreeSet<usize>, rooms: &[Room]) -> Opt
 }
 
 /// The least of the places in the lanes of some engines.
-fn laned_place(table: &Table, lanes: &Lanes, with_room: &[bool], rooms: &[Room]) -> Option<usize>
+fn place_in_lanes(table: &Table, lanes: &Lanes, with_room: &[bool], rooms: &[Room]) -> Option<usize>
     ensures { IsLeast (holds_at (λ t. list_any (λ r. fits table.now t r.engine) rooms.now) table.now) (in_some (is_set with_room.now) lanes.now) result }
 {
     let mut least = None;
@@ -117,6 +119,22 @@ fn laned_place(table: &Table, lanes: &Lanes, with_room: &[bool], rooms: &[Room])
         }
     }
     least
+}
+
+/// The least of the places in the lanes of the engines with room.
+fn laned_place(
+    alloc: Global,
+    table: &Table,
+    lanes: &Lanes,
+    rooms: &[Room],
+) -> Result<Option<usize>, AllocError>
+    ensures { IfOk result (λ o. IsLeast (holds_at (λ t. list_any (λ r. fits table.now t r.engine) rooms.now) table.now) (in_some (λ n. list_any (λ r. r.engine == n) rooms.now) lanes.now) o) }
+{
+    if lanes.as_map().is_empty() {
+        return Ok(None);
+    }
+    let with_room = open_numbers(alloc, rooms)?;
+    Ok(place_in_lanes(table, lanes, &with_room, rooms))
 }
 
 /// Whether no task waits to be handed out.
@@ -140,9 +158,8 @@ fn waiting_task<'a>(
     }
     let marks = tasks.marks();
     let table = tasks.table();
-    let open = open_numbers(alloc, rooms)?;
     let free = waiting_place(table, &marks.free, rooms);
-    let laned = laned_place(table, &marks.lanes, &open, rooms);
+    let laned = laned_place(alloc, table, &marks.lanes, rooms)?;
     Ok(tasks.at(lesser(free, laned)))
 }
 
@@ -213,6 +230,49 @@ fn picked(
     Ok(engine_at(rooms, place))
 }
 
+/// Whether no target, nothing that it follows and no decline keeps a task from an engine.
+fn is_anywhere(task: &Task) -> bool
+    ensures free { result ≡ true → (r : RequestFacts) → task.now.request ≡ Some r → is_tied r ≡ false }
+    ensures none { result ≡ true → task.now.attempts.excluded ≡ [] }
+{
+    if is_tied(task.request()) {
+        false
+    } else {
+        task.attempts().excluded.is_empty()
+    }
+}
+
+/// Whether a task may run on any engine that is live and has room.
+fn takes_any(table: &Table, task: &Task) -> bool
+    ensures { result ≡ true → (n : ℕ) → fits table.now task.now n ≡ true }
+{
+    if is_anywhere(task) {
+        is_ready(table, task)
+    } else {
+        false
+    }
+}
+
+/// The engine that is picked of those where a task may run.
+fn engine_for(
+    alloc: Global,
+    table: &Table,
+    rooms: &[Room],
+    chooser: &Chooser,
+    scheme: Scheme,
+    word: u64,
+    task: &Task,
+) -> Result<Option<u32>, AllocError>
+    ensures { IfOk result (λ n. n ≡ picked scheme word (rooms_for table.now rooms.now task.now)) }
+{
+    if takes_any(table, task) {
+        picked(alloc, chooser, scheme, word, rooms)
+    } else {
+        let fitting = rooms_for(alloc, table, rooms, task)?;
+        picked(alloc, chooser, scheme, word, &fitting)
+    }
+}
+
 /// The hand-out of a task to the engine that is picked of those where it may run.
 fn hand_of(
     alloc: Global,
@@ -225,8 +285,7 @@ fn hand_of(
 ) -> Result<Option<Entry>, AllocError>
     ensures { IfOk result (λ d. d ≡ hand_of table.now rooms.now scheme word task.now) }
 {
-    let fitting = rooms_for(alloc, table, rooms, task)?;
-    match picked(alloc, chooser, scheme, word, &fitting)? {
+    match engine_for(alloc, table, rooms, chooser, scheme, word, task)? {
         Some(engine) => Ok(Some(Entry::Hand {
             id: task.id().clone()?,
             engine,

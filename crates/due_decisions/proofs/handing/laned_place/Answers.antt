@@ -1,38 +1,29 @@
-use Rattle.std.proofs.Common.{rules, ◌≡◌, ◌∙◌, sym, subst, map, ℕ, Bool}
+use Rattle.std.proofs.Common.{◌≡◌, ◌∙◌, sym, subst, ℕ, Bool}
+use Rattle.std.specs.Prelude.{◌==◌}
 use Rattle.std.specs.List.{list_any}
-use Rattle.std.specs.Map.Iter.{deref_pair}
-use Rattle.std.proofs.lemmas.Map.Iter.{iter_end}
 use Rattle.dense_numbers.specs.Flags.{is_set}
-use Rattle.place_sets.specs.Sets.{has, holds_at}
-use Rattle.place_sets.specs.Lanes.{LaneList, in_some}
-use Rattle.place_sets.specs.Least.{IsLeast}
+use Rattle.place_sets.specs.Sets.{holds_at}
+use Rattle.place_sets.specs.Lanes.{in_some}
+use Rattle.place_sets.proofs.Leasts.{least_of}
 use Rattle.cluster_state.specs.Seen.{Seen}
 use Rattle.due_decisions.specs.declared.rooms.Room.{Room}
 use Rattle.due_decisions.specs.Table.{fits}
-use Rattle.due_decisions.proofs.LaneSteps.{map_push, lane_more, lane_passed}
+use Rattle.due_decisions.proofs.LaneSteps.{none_left, some_alike, some_of_none}
 use Rattle.due_decisions.proofs.handing.laned_place.Goals as goal
+
+pub returns-then-is_empty : goal.returns-then-is_empty
+returns-then-is_empty c =
+    some_of_none (holds_at (λ (t : Seen). list_any (λ (r : Room). fits c.args.table.now t r.engine) c.args.rooms.now) c.args.table.now) (λ n. list_any (λ (r : Room). r.engine == n) c.args.rooms.now)
+    c.args.lanes.now (sym c.as_map.ensures ∙ none_left c.as_map.result.now.entries (c.is_empty.ensures.0 c.if-is_empty.true))
 
 pub returns : goal.returns
 returns c =
     let ts = c.args.table.now in
-    let all : map deref_pair c.loop-engine.yielded ≡ c.args.lanes.now = search (rules, iter_end) in
-    subst (λ es. IsLeast (holds_at (λ t. list_any (λ r. fits ts t r.engine) c.args.rooms.now) ts) (in_some (is_set c.args.with_room.now) es) c.loop-engine.least) all c.loop-engine.invariant
-
-pub loop-engine-preserved-then-is_open : goal.loop-engine-preserved-then-is_open
-loop-engine-preserved-then-is_open c =
-    let ts = c.args.table.now in
-    let looks = is_set c.args.with_room.now in
-    let test : ℕ → Bool = holds_at (λ (t : Seen). list_any (λ (r : Room). fits ts t r.engine) c.args.rooms.now) ts in
-    let ys : LaneList = map deref_pair c.loop-engine.yielded in
-    subst (λ es. IsLeast test (in_some looks es) c.lesser-least.result) (sym (map_push deref_pair c.loop-engine.yielded (c.in-Some.engine, c.in-Some.places)))
-    (lane_more test looks ys (c.in-Some.engine.now, c.in-Some.places.now) c.lesser-least.result
-    (c.lesser-least.ensures test (in_some looks ys) (has c.in-Some.places.now) c.loop-engine.invariant c.waiting_place.ensures))
-
-pub loop-engine-preserved : goal.loop-engine-preserved
-loop-engine-preserved c =
-    let ts = c.args.table.now in
-    let looks = is_set c.args.with_room.now in
-    let test : ℕ → Bool = holds_at (λ (t : Seen). list_any (λ (r : Room). fits ts t r.engine) c.args.rooms.now) ts in
-    let ys : LaneList = map deref_pair c.loop-engine.yielded in
-    subst (λ es. IsLeast test (in_some looks es) c.loop-engine.least) (sym (map_push deref_pair c.loop-engine.yielded (c.in-Some.engine, c.in-Some.places)))
-    (lane_passed test looks ys (c.in-Some.engine.now, c.in-Some.places.now) c.loop-engine.least (sym c.is_open.ensures ∙ c.if-is_open.false) c.loop-engine.invariant)
+    let rooms = c.args.rooms.now in
+    let found = c.deref.result.now in
+    let looks : ℕ → Bool = λ n. list_any (λ (r : Room). r.engine == n) rooms in
+    let sets : (n : ℕ) → is_set found n ≡ list_any (λ (r : Room). r.engine == n) rooms =
+    subst (λ xs. (n : ℕ) → is_set xs n ≡ list_any (λ (r : Room). r.engine == n) rooms) (sym c.deref.ensures.value) c.in_ok-with_room.ensures in
+    let test : ℕ → Bool = holds_at (λ (t : Seen). list_any (λ (r : Room). fits ts t r.engine) rooms) ts in
+    least_of test (in_some (is_set found) c.args.lanes.now) (in_some looks c.args.lanes.now) c.place_in_lanes.result c.place_in_lanes.ensures
+    (λ i on _. some_alike (is_set found) looks sets c.args.lanes.now i ∙ on)
