@@ -12,7 +12,7 @@ fn add<R: Abort>(rt: &R, lanes: &mut Lanes, number: u64, place: usize) {
 /// Whether these are the places in the lane of a number.
 fn has<R: Abort>(rt: &R, alloc: Global, lanes: &Lanes, number: u64, places: &[usize]) -> bool {
     let found = lanes.places(alloc, number).expect(rt, "memory is ample");
-    found == places
+    found.as_slice() == places
 }
 
 #[test]
