@@ -17,6 +17,7 @@ ghost use Rattle.cluster_state.specs.Plain.{facts_in, accepted_by};
 ghost use Rattle.cluster_state.specs.Stands.{plain};
 
 use crate::attempts::one_more;
+use crate::engines::engine_named;
 use crate::request::{Owner, Request};
 use crate::state::State;
 use crate::task::Task;
@@ -215,7 +216,7 @@ impl State {
     fn acceptance_new(&self, direct: bool, message: &SharedMessage) -> Acceptance
         ensures { (submission : Submission) → result ≡ acceptance_new (facts_in (plain self.now)) (record { direct = direct; submission = submission }) message.now }
     {
-        if direct && self.engines.named(message.target()).is_none() {
+        if direct && engine_named(&self.engines, message.target()).is_none() {
             Acceptance::NoSuchEngine
         } else if self.tasks.len() >= MOST_IDS {
             Acceptance::Full
@@ -292,7 +293,7 @@ impl State {
         request.listed = submission.targets.clone()?;
         request.targets = targets_of(
             self.allocator(),
-            self.engines.as_slice(),
+            &self.engines,
             submission.targets.as_slice(),
         )?;
         request.timeout = submission.timeout;
@@ -317,7 +318,7 @@ impl State {
         ensures message { IfOk result (λ r. r.message ≡ message.now) }
     {
         let mut request = self.request_plain(conn, moment, message, submission)?;
-        request.direct_to = match self.engines.named(message.target()) {
+        request.direct_to = match engine_named(&self.engines, message.target()) {
             Some(engine) => Some(engine.number),
             None => None,
         };

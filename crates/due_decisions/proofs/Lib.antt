@@ -1,4 +1,3 @@
-pub mod LaneSteps
 pub mod Lists
 pub mod OpenRooms
 pub mod OpenTasks

@@ -1,6 +1,7 @@
 //! The one decision that is due, worked out over the data of a cluster.
 #![tactic(auto)]
 
+mod dependencies;
 pub mod due;
 mod failing;
 mod handing;

@@ -3,7 +3,6 @@
 
 pub mod answer;
 pub mod engines;
-pub mod lengths;
 pub mod limits;
 mod queues;
 mod results;

@@ -1,4 +1,0 @@
-pub mod Apart
-pub mod Keeping
-pub mod Least
-pub mod Telling
