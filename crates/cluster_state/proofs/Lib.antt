@@ -7,6 +7,7 @@ pub mod Decisions
 pub mod Dropping
 pub mod Ending
 pub mod Exact
+pub mod Fits
 pub mod Inputs
 pub mod Known
 pub mod Lists
@@ -15,8 +16,11 @@ pub mod Pieces
 pub mod Marking
 pub mod Places
 pub mod Purging
+pub mod Scattered
 pub mod Steps
+pub mod Tallying
 pub mod Told
 pub mod Targets
 pub mod Waiting
+pub mod Watching
 pub mod Loading

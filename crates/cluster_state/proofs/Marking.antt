@@ -1,10 +1,13 @@
 -- Which changes of the tasks the sets of places outlast: all, where the places that change were put in before.
-use Rattle.std.proofs.Common.{◌≡◌, ℕ, map, bytes_eq, List, [], ◌∷◌, ◌++◌, length, Bool, true, false, not, ◌&&◌, cond, Some, None, ◌||◌, ◌⊎◌, inl, inr, ⊎_elim, refl, sym, ◌∙◌, subst}
-use Rattle.std.specs.Prelude.{slice_get}
+use Rattle.std.proofs.Common.{◌≡◌, ℕ, map, bytes_eq, List, [], ◌∷◌, ◌++◌, length, Bool, true, false, not, ◌&&◌, cond, Some, None, ◌||◌, ◌⊎◌, inl, inr, ⊎_elim, refl, sym, subst}
+use Rattle.std.specs.Prelude.{slice_get, nat_le}
 use Rattle.std.specs.Ordering.{nat_cmp}
 use Rattle.std.specs.BTreeMap.{is_at}
 use Rattle.std.specs.BTreeSet.{BTreeSet}
-use Rattle.place_sets.specs.Sets.{has, Covers, Apart}
+use Rattle.place_sets.specs.Sets.{has, holds_at, Covers, Apart}
+use Rattle.place_sets.specs.Lanes.{in_lane}
+use Rattle.cluster_defs.specs.declared.engine.Engine.{Engine}
+use Rattle.cluster_defs.specs.Engines.{lists_number}
 use Rattle.place_sets.proofs.Covering.{covers_grown, covers_at, covers_changed, covers_more, first_or_later, same_place, off_from}
 use Rattle.cluster_state.specs.declared.marks.Marks.{Marks}
 use Rattle.std.specs.Option.{is_some}
@@ -13,10 +16,12 @@ use Rattle.cluster_defs.specs.declared.attempt.Attempt.TheVariants.{Never, Runni
 use Rattle.cluster_defs.specs.Tasks.{runs, runs_at, after_end, lost}
 use Rattle.cluster_state.specs.Seen.{Seen, place_in, attempted, ended_on, lost_all, on_unsettled}
 use Rattle.cluster_state.specs.Standing.{final_at, direct_at, runs_open}
-use Rattle.cluster_state.specs.Marking.{Marked, HasAt, HasAll, Woken, AllWoken, AllGrow, Aside}
-use Rattle.cluster_state.specs.Waiting.{settled_in, ready, doubtful, is_among, Awaited}
+use Rattle.cluster_state.specs.Marking.{InSome, Marked, HasAt, HasAll, Woken, AllWoken, AllGrow, Aside}
+use Rattle.cluster_state.specs.Waiting.{settled_in, is_among, Awaited}
+use Rattle.cluster_state.specs.Fitting.{fits, hopeless, late}
+use Rattle.cluster_state.proofs.Fits.{fits_agrees, hopeless_agrees}
 use Rattle.cluster_state.specs.Places.{Alike, name}
-use Rattle.cluster_state.proofs.Waiting.{Outside, ready_kept, doubtful_kept, settle_outside, others_settled, one_place, alike_settled, all_agree_at, more_settled, get_more}
+use Rattle.cluster_state.proofs.Waiting.{Outside, kept, settle_outside, others_settled, one_place, alike_settled, all_agree_at, more_settled, get_more}
 use Rattle.cluster_defs.specs.Words.{Id}
 use Rattle.std.proofs.lemmas.Bool.{both_ways}
 
@@ -25,13 +30,25 @@ marked_grown ts m n b g = record {
   finals = covers_grown final_at ts m.finals n.finals b.finals g.finals;
   directs = covers_grown direct_at ts m.directs n.directs b.directs g.directs;
   running = covers_grown runs_open ts m.running n.running b.running g.running;
-  ready = covers_grown (ready ts) ts m.ready n.ready b.ready g.ready;
-  doubtful = covers_grown (doubtful ts) ts m.doubtful n.doubtful b.doubtful g.doubtful;
+  free = λ k i on. ⊎_elim (λ here. inl (g.free i here)) (λ here. inr (g.lanes k i here)) (b.free k i on);
+  hopeless = λ live i on. ⊎_elim (λ here. inl (g.doubtful i here)) (λ some. inr (some.0, some.1, g.watches some.0 i some.2)) (b.hopeless live i on);
+  late = λ now i on. ⊎_elim (λ here. inl (g.doubtful i here)) (λ some. inr (some.0, some.1, g.deadlines some.0 i some.2)) (b.late now i on);
 }
 
 -- a place that isn't in a set is none that is
 not_there : (s : BTreeSet ℕ) (i place : ℕ) → has s i ≡ false → has s place ≡ true → i ≡ place → ⊥
 not_there s i place off on same = both_ways (has s place) (subst (λ k. has s k ≡ false) same off) on
+
+-- where the tasks outside the two sets are the same, and so is what they wait for
+module _ (ts us : List Seen) (m : Marks) (b : Marked ts m) where
+  free_kept : Outside ts us m.free → (n i : ℕ) → holds_at (λ t. fits us t n) us i ≡ true → (has m.free i ≡ true) ⊎ (in_lane m.lanes n i ≡ true)
+  free_kept out n = kept ts us (λ t. fits ts t n) (λ t. fits us t n) m.free (fits_agrees ts us n) (b.free n) out
+
+  hopeless_kept : Outside ts us m.doubtful → (live : List Engine) (i : ℕ) → holds_at (hopeless us live) us i ≡ true → (has m.doubtful i ≡ true) ⊎ InSome (λ n. not (lists_number n live)) m.watches i
+  hopeless_kept out live = kept ts us (hopeless ts live) (hopeless us live) m.doubtful (hopeless_agrees ts us live) (b.hopeless live) out
+
+  late_kept : Outside ts us m.doubtful → (now i : ℕ) → holds_at (late now) us i ≡ true → (has m.doubtful i ≡ true) ⊎ InSome (λ n. nat_le n now) m.deadlines i
+  late_kept out now = kept ts us (late now) (late now) m.doubtful (λ t _. refl) (b.late now) out
 
 -- any change of the task at a place
 pub marked_at : (ts us : List Seen) (m : Marks) (place : ℕ) → Marked ts m → HasAt place m → Apart place ts us → Alike ts us → Marked us m
@@ -39,8 +56,9 @@ marked_at ts us m place b h apart alike = record {
   finals = covers_at final_at ts us m.finals place b.finals h.finals apart;
   directs = covers_at direct_at ts us m.directs place b.directs h.directs apart;
   running = covers_at runs_open ts us m.running place b.running h.running apart;
-  ready = ready_kept ts us m.ready b.ready (outside m.ready h.woken.ready);
-  doubtful = doubtful_kept ts us m.doubtful b.doubtful (outside m.doubtful h.woken.doubtful);
+  free = free_kept ts us m b (outside m.free h.woken.free);
+  hopeless = hopeless_kept ts us m b (outside m.doubtful h.woken.doubtful);
+  late = late_kept ts us m b (outside m.doubtful h.woken.doubtful);
 }
   where
     outside : (s : BTreeSet ℕ) → has s place ≡ true → Outside ts us s
@@ -52,8 +70,9 @@ marked_settled ts us m id place places b h woken at awaited apart names = record
   finals = covers_at final_at ts us m.finals place b.finals h.finals apart;
   directs = covers_at direct_at ts us m.directs place b.directs h.directs apart;
   running = covers_at runs_open ts us m.running place b.running h.running apart;
-  ready = ready_kept ts us m.ready b.ready (settle_outside ts us id place places m.ready awaited (λ i on. (woken i on).ready) h.woken.ready apart others);
-  doubtful = doubtful_kept ts us m.doubtful b.doubtful (settle_outside ts us id place places m.doubtful awaited (λ i on. (woken i on).doubtful) h.woken.doubtful apart others);
+  free = free_kept ts us m b (settle_outside ts us id place places m.free awaited (λ i on. (woken i on).free) h.woken.free apart others);
+  hopeless = hopeless_kept ts us m b (settle_outside ts us id place places m.doubtful awaited (λ i on. (woken i on).doubtful) h.woken.doubtful apart others);
+  late = late_kept ts us m b (settle_outside ts us id place places m.doubtful awaited (λ i on. (woken i on).doubtful) h.woken.doubtful apart others);
 }
   where
     others : (j : Id) → bytes_eq j id ≡ false → settled_in ts j ≡ settled_in us j
@@ -75,8 +94,9 @@ module _ (ts us : List Seen) (places : List ℕ) (aside : Aside places ts us) wh
     finals = covers_aside final_at m.finals b.finals (λ i on. (h i on).finals);
     directs = covers_aside direct_at m.directs b.directs (λ i on. (h i on).directs);
     running = covers_aside runs_open m.running b.running (λ i on. (h i on).running);
-    ready = ready_kept ts us m.ready b.ready (outside_aside alike m.ready (λ i on. (h i on).woken.ready));
-    doubtful = doubtful_kept ts us m.doubtful b.doubtful (outside_aside alike m.doubtful (λ i on. (h i on).woken.doubtful));
+    free = free_kept ts us m b (outside_aside alike m.free (λ i on. (h i on).woken.free));
+    hopeless = hopeless_kept ts us m b (outside_aside alike m.doubtful (λ i on. (h i on).woken.doubtful));
+    late = late_kept ts us m b (outside_aside alike m.doubtful (λ i on. (h i on).woken.doubtful));
   }
 
 -- a task more, which isn't settled
@@ -89,12 +109,13 @@ module _ (ts : List Seen) (t : Seen) (none : t.settled ≡ None) where
     finals = covers_more final_at ts t m.finals b.finals h.finals;
     directs = covers_more direct_at ts t m.directs b.directs h.directs;
     running = covers_more runs_open ts t m.running b.running h.running;
-    ready = ready_kept ts (ts ++ t ∷ []) m.ready b.ready (outside_more m.ready h.woken.ready);
-    doubtful = doubtful_kept ts (ts ++ t ∷ []) m.doubtful b.doubtful (outside_more m.doubtful h.woken.doubtful);
+    free = free_kept ts (ts ++ t ∷ []) m b (outside_more m.free h.woken.free);
+    hopeless = hopeless_kept ts (ts ++ t ∷ []) m b (outside_more m.doubtful h.woken.doubtful);
+    late = late_kept ts (ts ++ t ∷ []) m b (outside_more m.doubtful h.woken.doubtful);
   }
 
 woken_grown : (place : ℕ) (m n : Marks) → Woken place m → AllGrow m n → Woken place n
-woken_grown place m n h g = record { ready = g.ready place h.ready; doubtful = g.doubtful place h.doubtful }
+woken_grown place m n h g = record { free = g.free place h.free; doubtful = g.doubtful place h.doubtful }
 
 pub has_grown : (place : ℕ) (m n : Marks) → HasAt place m → AllGrow m n → HasAt place n
 has_grown place m n h g = record {
@@ -109,11 +130,14 @@ grow_after l m n a b = record {
   finals = λ i on. b.finals i (a.finals i on);
   directs = λ i on. b.directs i (a.directs i on);
   running = λ i on. b.running i (a.running i on);
-  ready = λ i on. b.ready i (a.ready i on);
+  free = λ i on. b.free i (a.free i on);
   doubtful = λ i on. b.doubtful i (a.doubtful i on);
+  lanes = λ n i on. b.lanes n i (a.lanes n i on);
+  watches = λ n i on. b.watches n i (a.watches n i on);
+  deadlines = λ n i on. b.deadlines n i (a.deadlines n i on);
 }
 
-among_end : (ps : List ℕ) (p i : ℕ) → is_among i (ps ++ p ∷ []) ≡ true → (is_among i ps ≡ true) ⊎ (i ≡ p)
+pub among_end : (ps : List ℕ) (p i : ℕ) → is_among i (ps ++ p ∷ []) ≡ true → (is_among i ps ≡ true) ⊎ (i ≡ p)
 among_end [] p i on = first_or_later (is_at (nat_cmp i) p) false on (λ same. inr (same_place i p same)) (λ h. cc)
 among_end (q ∷ ps) p i on =
     first_or_later (is_at (nat_cmp i) q) (is_among i (ps ++ p ∷ [])) on (λ same. inl (left_of _ _ same)) (λ later. ⊎_elim (λ h. inl (right_of _ _ h)) (λ e. inr e) (among_end ps p i later))

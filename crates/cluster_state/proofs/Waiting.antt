@@ -1,43 +1,41 @@
 -- A task that is settled changes what is so of the tasks that wait for it alone.
-use Rattle.std.proofs.Common.{◌≡◌, ℕ, zero, suc, length, arith, List, [], ◌∷◌, ◌++◌, map, Bool, true, false, not, ◌&&◌, ◌||◌, cond, refl, sym, ap, ◌∙◌, subst, Option, Some, None, bytes_eq}
-use Rattle.std.specs.Prelude.{⊤, slice_get, nat_le, ◌==◌, option_map}
+use Rattle.std.proofs.Common.{◌≡◌, ℕ, zero, suc, length, arith, List, [], ◌∷◌, ◌++◌, map, Bool, true, false, not, ◌&&◌, ◌||◌, cond, refl, sym, ap, ◌∙◌, subst, Option, Some, None, bytes_eq, ◌⊎◌, inl}
+use Rattle.std.specs.Prelude.{⊤, slice_get, ◌==◌, option_map}
 use Rattle.std.specs.Ordering.{nat_cmp}
 use Rattle.std.specs.BTreeMap.{is_at}
 use Rattle.std.specs.List.{list_any, list_all}
 use Rattle.std.specs.Option.{option_and_then}
 use Rattle.std.specs.BTreeSet.{BTreeSet}
-use Rattle.place_sets.specs.Sets.{has, holds, holds_at, Covers, Apart}
+use Rattle.place_sets.specs.Sets.{has, holds, holds_at, Apart}
 use Rattle.place_sets.proofs.Covering.{off_from, first_or_later}
 use Rattle.cluster_types.specs.declared.event.Dep.{Dep}
 use Rattle.cluster_defs.specs.Words.{Id, is_empty, is_listed}
-use Rattle.cluster_defs.specs.Tasks.{Task, Settled}
+use Rattle.cluster_defs.specs.Tasks.{Settled}
 use Rattle.cluster_defs.specs.Dependencies.{asked, other_kind, quantified, met, unreachable}
-use Rattle.cluster_defs.specs.Requests.{Request, is_direct, is_bound}
-use Rattle.cluster_defs.specs.Scheduling.{rests}
+use Rattle.cluster_defs.specs.Requests.{Request}
 use Rattle.cluster_defs.proofs.Options.{same_id, id_self}
 use Rattle.cluster_state.specs.Seen.{Seen, seen_in, place_in}
-use Rattle.cluster_state.specs.Standing.{alone}
 use Rattle.cluster_state.specs.Places.{name, settling, asking, Alike}
 use Rattle.task_graph.specs.Listing.{Lists, waiting_for}
 use Rattle.std.proofs.lemmas.Bool.{both_ways, eqb-true, eq-eqb}
-use Rattle.cluster_state.specs.Waiting.{settled_in, ready_as, ready, doubtful_as, doubtful, awaits_as, awaits, is_among, Awaited, Indexed, IsNoted, WaitsGrow}
+use Rattle.cluster_state.specs.Waiting.{settled_in, awaits_as, awaits, is_among, Awaited, Indexed, IsNoted, WaitsGrow}
 use Rattle.cluster_state.proofs.Places.{same_place, found_seen}
 
 -- WHAT HANGS ON LISTED IDS ALONE
 
-or_left : (a b : Bool) → a ≡ true → (a || b) ≡ true
+pub or_left : (a b : Bool) → a ≡ true → (a || b) ≡ true
 or_left true b h = refl
 or_left false b h = cc
 
-or_right : (a b : Bool) → b ≡ true → (a || b) ≡ true
+pub or_right : (a b : Bool) → b ≡ true → (a || b) ≡ true
 or_right true b h = refl
 or_right false b h = h
 
-all_agree : (p q : Id → Bool) (ids : List Id) → ((i : Id) → is_listed i ids ≡ true → p i ≡ q i) → list_all p ids ≡ list_all q ids
+pub all_agree : (p q : Id → Bool) (ids : List Id) → ((i : Id) → is_listed i ids ≡ true → p i ≡ q i) → list_all p ids ≡ list_all q ids
 all_agree p q [] same = refl
 all_agree p q (i ∷ ids) same = rw (same i (or_left _ _ (id_self i)), all_agree p q ids (λ j on. same j (or_right _ _ on))) refl
 
-any_agree : (p q : Id → Bool) (ids : List Id) → ((i : Id) → is_listed i ids ≡ true → p i ≡ q i) → list_any p ids ≡ list_any q ids
+pub any_agree : (p q : Id → Bool) (ids : List Id) → ((i : Id) → is_listed i ids ≡ true → p i ≡ q i) → list_any p ids ≡ list_any q ids
 any_agree p q [] same = refl
 any_agree p q (i ∷ ids) same = rw (same i (or_left _ _ (id_self i)), any_agree p q ids (λ j on. same j (or_right _ _ on))) refl
 
@@ -46,20 +44,11 @@ by_kind true p q ids same = all_agree p q ids same
 by_kind false p q ids same = any_agree p q ids same
 
 module _ (f g : Id → Option Settled) where
-  met_agrees : (d : Dep) → ((i : Id) → is_listed i d.ids ≡ true → f i ≡ g i) → met d f ≡ met d g
+  pub met_agrees : (d : Dep) → ((i : Id) → is_listed i d.ids ≡ true → f i ≡ g i) → met d f ≡ met d g
   met_agrees d same = ap (λ b. is_empty d.ids || b) (by_kind d.all (λ i. asked d (f i)) (λ i. asked d (g i)) d.ids (λ i on. ap (asked d) (same i on)))
 
-  unreachable_agrees : (d : Dep) → ((i : Id) → is_listed i d.ids ≡ true → f i ≡ g i) → unreachable d f ≡ unreachable d g
+  pub unreachable_agrees : (d : Dep) → ((i : Id) → is_listed i d.ids ≡ true → f i ≡ g i) → unreachable d f ≡ unreachable d g
   unreachable_agrees d same = ap (λ b. not (is_empty d.ids) && b) (by_kind (not d.all) (λ i. other_kind d (f i)) (λ i. other_kind d (g i)) d.ids (λ i on. ap (other_kind d) (same i on)))
-
-  ready_agrees : (a : Task) (o : Option Request) → ((i : Id) → awaits_as i o ≡ true → f i ≡ g i) → ready_as f a o ≡ ready_as g a o
-  ready_agrees a None same = refl
-  ready_agrees a (Some r) same = ap (λ b. not (is_direct r) && nat_le a.spent r.retries && b) (met_agrees r.after same)
-
-  doubtful_agrees : (o : Option Request) → ((i : Id) → awaits_as i o ≡ true → f i ≡ g i) → doubtful_as f o ≡ doubtful_as g o
-  doubtful_agrees None same = refl
-  doubtful_agrees (Some r) same =
-      ap (λ b. not (is_direct r) && (r.invalid || (b || (is_bound r || (not (is_empty r.follow.ids) || not (r.timeout == 0)))))) (unreachable_agrees r.after same)
 
 -- COVERED BEFORE, COVERED AFTER
 
@@ -69,30 +58,21 @@ Agrees ts us None = ⊤
 Agrees ts us (Some t) = (i : Id) → awaits i t ≡ true → settled_in ts i ≡ settled_in us i
 
 module _ (ts us : List Seen) where
-  ready_at : (o : Option Seen) → Agrees ts us o → holds (ready ts) o ≡ holds (ready us) o
-  ready_at None agrees = refl
-  ready_at (Some t) agrees = ap (λ b. rests (alone t) t.row.id && b) (ready_agrees (settled_in ts) (settled_in us) t.attempts t.request agrees)
-
-  doubtful_at : (o : Option Seen) → Agrees ts us o → holds (doubtful ts) o ≡ holds (doubtful us) o
-  doubtful_at None agrees = refl
-  doubtful_at (Some t) agrees = ap (λ b. rests (alone t) t.row.id && b) (doubtful_agrees (settled_in ts) (settled_in us) t.request agrees)
-
   -- outside the set the tasks are the same, and so is what they wait for
   abbrev pub Outside : BTreeSet ℕ → Type 0
   Outside s = (i : ℕ) → has s i ≡ false → (slice_get us i ≡ slice_get ts i) × Agrees ts us (slice_get ts i)
 
-  kept_covered : (p q : Seen → Bool) (s : BTreeSet ℕ) → ((o : Option Seen) → Agrees ts us o → holds p o ≡ holds q o) → Covers p ts s → Outside s → Covers q us s
-  kept_covered p q s same covers out = λ i on.
-      elim (has s i) as (λ b. has s i ≡ b → b ≡ true) [
-        | true ↦ λ _. refl
-        | false ↦ λ off. sym off ∙ covers i (same (slice_get ts i) (out i off).1 ∙ ap (holds q) (sym (out i off).0) ∙ on)
+  -- what was in the set or elsewhere still is
+  pub kept : {H : ℕ → Type 0} (p q : Seen → Bool) (s : BTreeSet ℕ) → ((t : Seen) → Agrees ts us (Some t) → p t ≡ q t) → ((i : ℕ) → holds_at p ts i ≡ true → (has s i ≡ true) ⊎ H i) → Outside s → (i : ℕ) → holds_at q us i ≡ true → (has s i ≡ true) ⊎ H i
+  kept {H} p q s same covers out i on =
+      elim (has s i) as (λ b. has s i ≡ b → (has s i ≡ true) ⊎ H i) [
+        | true ↦ λ here. inl here
+        | false ↦ λ off. covers i (at (slice_get ts i) (out i off).1 ∙ ap (holds q) (sym (out i off).0) ∙ on)
       ] refl
-
-  pub ready_kept : (s : BTreeSet ℕ) → Covers (ready ts) ts s → Outside s → Covers (ready us) us s
-  ready_kept s covers out = kept_covered (ready ts) (ready us) s ready_at covers out
-
-  pub doubtful_kept : (s : BTreeSet ℕ) → Covers (doubtful ts) ts s → Outside s → Covers (doubtful us) us s
-  doubtful_kept s covers out = kept_covered (doubtful ts) (doubtful us) s doubtful_at covers out
+    where
+      at : (o : Option Seen) → Agrees ts us o → holds p o ≡ holds q o
+      at None agrees = refl
+      at (Some t) agrees = same t agrees
 
 -- HOW OTHER IDS WERE SETTLED
 
@@ -269,3 +249,11 @@ added_noted ids id p old new noted added = λ j on.
     subst (λ xs. is_among p xs ≡ true) (sym (added j)) (listed_end ids id j on
     (λ before. put_before (bytes_eq id j) (waiting_for old j) p p (noted j before))
     (λ here. put_there (bytes_eq id j) (waiting_for old j) p here))
+
+-- a place that stands with each id that a request waits for, and then with each that it follows
+pub noted_both : (id : Id) (o : Option Request) (r q : Request) (p : ℕ) (one two : Lists) → o ≡ Some r → o ≡ Some q → IsNoted r.after.ids p one → IsNoted q.follow.ids p two → WaitsGrow one two → awaits_as id o ≡ true → is_among p (waiting_for two id) ≡ true
+noted_both id o r q p one two is so after follow grow on =
+    let same : Some r ≡ Some q = sym is ∙ so in
+    let said : r ≡ q = cc in
+    first_or_later (is_listed id r.after.ids) (is_listed id r.follow.ids) (sym (ap (awaits_as id) is) ∙ on)
+    (λ here. grow id p (after id here)) (λ here. follow id (subst (λ x. is_listed id x.follow.ids ≡ true) said here))

@@ -1,3 +1,6 @@
+pub mod Fitting
+pub mod Live
+pub mod Loading
 pub mod Marking
 pub mod Places
 pub mod Plain
@@ -5,5 +8,5 @@ pub mod Seen
 pub mod Settling
 pub mod Standing
 pub mod Stands
+pub mod Tallying
 pub mod Waiting
-pub mod Loading

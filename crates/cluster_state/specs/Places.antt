@@ -7,8 +7,8 @@ use Rattle.cluster_state.specs.declared.marks.Marks.{Marks}
 use Rattle.cluster_state.specs.Seen.{Seen, place_in}
 use Rattle.cluster_state.specs.Marking.{Marked}
 use Rattle.cluster_state.specs.Waiting.{Indexed}
-use Rattle.cluster_state.specs.Loading.{Counted}
-use Rattle.std.specs.Global.{Vec}
+use Rattle.cluster_state.specs.Tallying.{AllTold}
+use Rattle.cluster_state.specs.declared.tallies.Tallies.{Tallies}
 use Rattle.task_graph.specs.Listing.{Lists}
 
 abbrev pub name : Seen → Id
@@ -36,9 +36,9 @@ pub record Alike (old new : List Seen) : Type 0 where
 abbrev pub Placed : List Seen → (Id → Option ℕ) → Type 0
 Placed ts place_of = (id : Id) → place_of id ≡ place_in id ts
 
--- what is kept beside the tasks: sets of places, for each id the places of those that wait for it, and how many Submits run
--- on each engine
-pub record Beside (ts : List Seen) (marks : Marks) (waits : Lists) (counts : Option (Vec ℕ)) : Type 0 where
+-- what is kept beside the tasks: sets of places, for each id the places of those that wait for it, and how many there are of
+-- some classes
+pub record Beside (ts : List Seen) (marks : Marks) (waits : Lists) (tallies : Tallies) : Type 0 where
   pub marked : Marked ts marks
   pub indexed : Indexed ts waits
-  pub counted : Counted ts counts
+  pub counted : AllTold ts tallies

@@ -16,7 +16,7 @@ pub record Stands (s : State) (f : Facts) : Type 0 where
   pub word : s.word ≡ f.word
   pub beats : s.beats ≡ f.beats
   pub connections : s.connections.items ≡ f.connections
-  pub engines : s.engines.items ≡ f.engines.live
+  pub engines : s.engines ≡ f.engines.live
   pub next_engine : s.next_engine ≡ f.engines.next
   pub by_use : s.by_use.items ≡ f.by_use
   pub tasks : s.tasks ≡ tasks_of f
@@ -34,7 +34,7 @@ plain s = record {
   word = s.word;
   beats = s.beats;
   connections = s.connections.items;
-  engines = record { live = s.engines.items; next = s.next_engine };
+  engines = record { live = s.engines; next = s.next_engine };
   by_use = s.by_use.items;
   tasks = s.tasks;
 }

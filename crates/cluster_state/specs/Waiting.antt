@@ -1,15 +1,15 @@
--- Tasks that wait for others: what of them hangs on how others were settled, and where those are that list an id.
-use Rattle.std.specs.Prelude.{◌≡◌, ℕ, nat_le, ◌==◌, List, Option, Some, None, Bool, true, false, not, ◌&&◌, ◌||◌}
+-- Tasks that wait for others: how these were settled, and where those are that list an id.
+use Rattle.std.specs.Prelude.{◌≡◌, ℕ, nat_le, List, Option, Some, None, Bool, true, false, not, ◌&&◌, ◌||◌}
 use Rattle.std.specs.Ordering.{nat_cmp}
 use Rattle.std.specs.List.{list_any}
 use Rattle.std.specs.BTreeMap.{is_at}
 use Rattle.std.specs.Option.{option_and_then}
 use Rattle.place_sets.specs.Sets.{holds_at}
 use Rattle.task_graph.specs.Listing.{Lists, waiting_for}
-use Rattle.cluster_defs.specs.Words.{Id, is_empty, is_listed}
+use Rattle.cluster_defs.specs.Words.{Id, is_listed}
 use Rattle.cluster_defs.specs.Tasks.{Task, Settled}
-use Rattle.cluster_defs.specs.Dependencies.{met, unreachable}
-use Rattle.cluster_defs.specs.Requests.{Request, is_direct, is_bound}
+use Rattle.cluster_defs.specs.Dependencies.{met}
+use Rattle.cluster_defs.specs.Requests.{Request, is_direct}
 use Rattle.cluster_defs.specs.Scheduling.{rests}
 use Rattle.cluster_state.specs.Seen.{Seen, seen_in}
 use Rattle.cluster_state.specs.Standing.{alone}
@@ -26,19 +26,10 @@ ready_as settled a (Some r) = not (is_direct r) && nat_le a.spent r.retries && m
 abbrev pub ready : List Seen → Seen → Bool
 ready ts t = rests (alone t) t.row.id && ready_as (settled_in ts) t.attempts t.request
 
--- a Submit that waits and may fail: it is invalid, can't be met any more, has targets, follows or has a timeout
-abbrev pub doubtful_as : (Id → Option Settled) → Option Request → Bool
-doubtful_as settled None = false
-doubtful_as settled (Some r) =
-    not (is_direct r) && (r.invalid || (unreachable r.after settled || (is_bound r || (not (is_empty r.follow.ids) || not (r.timeout == 0)))))
-
-abbrev pub doubtful : List Seen → Seen → Bool
-doubtful ts t = rests (alone t) t.row.id && doubtful_as (settled_in ts) t.request
-
--- the ids that a task waits for
+-- the ids on which it hangs whether and where a task runs
 abbrev pub awaits_as : Id → Option Request → Bool
 awaits_as id None = false
-awaits_as id (Some r) = is_listed id r.after.ids
+awaits_as id (Some r) = is_listed id r.after.ids || is_listed id r.follow.ids
 
 abbrev pub awaits : Id → Seen → Bool
 awaits id t = awaits_as id t.request

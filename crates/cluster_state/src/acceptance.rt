@@ -17,7 +17,6 @@ ghost use Rattle.cluster_state.specs.Plain.{facts_in, accepted_by};
 ghost use Rattle.cluster_state.specs.Stands.{plain};
 
 use crate::attempts::one_more;
-use crate::engines::engine_named;
 use crate::request::{Owner, Request};
 use crate::state::State;
 use crate::task::Task;
@@ -216,7 +215,7 @@ impl State {
     fn acceptance_new(&self, direct: bool, message: &SharedMessage) -> Acceptance
         ensures { (submission : Submission) → result ≡ acceptance_new (facts_in (plain self.now)) (record { direct = direct; submission = submission }) message.now }
     {
-        if direct && engine_named(&self.engines, message.target()).is_none() {
+        if direct && self.engines.named(message.target()).is_none() {
             Acceptance::NoSuchEngine
         } else if self.tasks.len() >= MOST_IDS {
             Acceptance::Full
@@ -293,7 +292,7 @@ impl State {
         request.listed = submission.targets.clone()?;
         request.targets = targets_of(
             self.allocator(),
-            &self.engines,
+            self.engines.as_slice(),
             submission.targets.as_slice(),
         )?;
         request.timeout = submission.timeout;
@@ -318,7 +317,7 @@ impl State {
         ensures message { IfOk result (λ r. r.message ≡ message.now) }
     {
         let mut request = self.request_plain(conn, moment, message, submission)?;
-        request.direct_to = match engine_named(&self.engines, message.target()) {
+        request.direct_to = match self.engines.named(message.target()) {
             Some(engine) => Some(engine.number),
             None => None,
         };

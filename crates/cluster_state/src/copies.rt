@@ -131,7 +131,11 @@ impl State {
         request.message = old
             .message
             .with_header(self.allocator(), header.as_slice())?;
-        request.targets = targets_of(self.allocator(), &self.engines, old.listed.as_slice())?;
+        request.targets = targets_of(
+            self.allocator(),
+            self.engines.as_slice(),
+            old.listed.as_slice(),
+        )?;
         request.accepted_at = moment;
         request.invalid = is_invalid(&self.tasks, id, &old.after, &old.follow);
         Ok(request)

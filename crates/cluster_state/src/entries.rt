@@ -80,7 +80,7 @@ impl State {
 
     /// Takes a connection's end.
     fn take_down(&mut self, conn: u32, moment: u64, word: u64) -> Result<(), AllocError>
-        ensures { OnOk result (plain self.new ≡ engine_ended (option_map (λ e. e.number) (engine_on self.old.engines.items conn)) (went_down conn (input_at moment word (plain self.old)))) }
+        ensures { OnOk result (plain self.new ≡ engine_ended (option_map (λ e. e.number) (engine_on self.old.engines conn)) (went_down conn (input_at moment word (plain self.old)))) }
     {
         self.note_input(moment, word);
         self.disconnect(conn);

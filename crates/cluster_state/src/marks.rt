@@ -1,16 +1,11 @@
-//! Sets of places of tasks, by which what is due is found without a look at all tasks. A place that is put into all sets
-//! may change; afterwards it is taken out of those that aren't for it.
+//! Sets of places of tasks, by which what is due is found without a look at all tasks. A place that is put into the sets
+//! may change, whatever the change.
 
-ghost use Rattle.std.specs.Prelude.{◌≡◌, [], true, OnOk};
-ghost use Rattle.place_sets.specs.Sets.{Covers};
-ghost use Rattle.cluster_state.specs.Standing.{final_at, direct_at, runs_open};
-ghost use Rattle.cluster_state.specs.Waiting.{ready, doubtful};
+ghost use Rattle.std.specs.Prelude.{◌≡◌, [], OnOk, IfOk};
 ghost use Rattle.cluster_state.specs.Marking.{Marked, HasAt, HasAll, Woken, AllWoken, AllGrow};
 
-use crate::readiness::{is_doubtful_at, is_ready_at};
-use crate::standing::{is_direct_at, is_final_at, runs_open_at};
-use crate::table::Table;
-use place_sets::places::{add, leave_out};
+use place_sets::lanes::Lanes;
+use place_sets::places::add;
 use std::alloc::{AllocError, Global};
 use std::collections::BTreeSet;
 
@@ -23,10 +18,18 @@ pub struct Marks {
     pub directs: BTreeSet<usize>,
     /// Of those with a current attempt.
     pub running: BTreeSet<usize>,
-    /// Of the Submits with attempts left for which what they wait for is met.
-    pub ready: BTreeSet<usize>,
-    /// Of the Submits that may fail without an attempt.
+    /// Of the Submits that may run, but those that are in the lane of each engine where they may.
+    pub free: BTreeSet<usize>,
+    /// For each engine, of Submits with targets and of such as follow: those that may run there.
+    pub lanes: Lanes,
+    /// Of the Submits that may fail without an attempt, but those that are in the two lanes below.
     pub doubtful: BTreeSet<usize>,
+    /// For each engine, of Submits that may run for good as long as it is live.
+    pub watches: Lanes,
+    /// For each moment, in milliseconds, of the Submits that are past their timeout from it on.
+    pub deadlines: Lanes,
+    /// Which engines ended, as far as that was noted: others are looked at first where one is to be watched.
+    pub ended: Vec<bool>,
 }
 
 /// No places. It takes no memory.
@@ -37,8 +40,12 @@ pub fn no_marks(alloc: Global) -> Marks
         finals: BTreeSet::new(alloc),
         directs: BTreeSet::new(alloc),
         running: BTreeSet::new(alloc),
-        ready: BTreeSet::new(alloc),
+        free: BTreeSet::new(alloc),
+        lanes: Lanes::new(alloc),
         doubtful: BTreeSet::new(alloc),
+        watches: Lanes::new(alloc),
+        deadlines: Lanes::new(alloc),
+        ended: Vec::new(alloc),
     }
 }
 
@@ -47,7 +54,7 @@ fn wake(marks: &mut Marks, place: usize) -> Result<(), AllocError>
     ensures there { OnOk result (Woken place marks.new) }
     ensures grow { AllGrow marks.old marks.new }
 {
-    add(&mut marks.ready, place)?;
+    add(&mut marks.free, place)?;
     add(&mut marks.doubtful, place)?;
     Ok(())
 }
@@ -71,7 +78,7 @@ pub fn mark(marks: &mut Marks, place: usize) -> Result<(), AllocError>
     add(&mut marks.finals, place)?;
     add(&mut marks.directs, place)?;
     add(&mut marks.running, place)?;
-    add(&mut marks.ready, place)?;
+    add(&mut marks.free, place)?;
     add(&mut marks.doubtful, place)?;
     Ok(())
 }
@@ -85,94 +92,4 @@ pub fn mark_all(marks: &mut Marks, places: &[usize]) -> Result<(), AllocError>
         mark(marks, *place)?;
     }
     Ok(())
-}
-
-#[tactic(auto, using(place_sets::proofs::Covering::covers_without))]
-fn tidy_finals(table: &Table, set: &mut BTreeSet<usize>, place: usize)
-    requires { Covers final_at table.now set.old }
-    ensures { Covers final_at table.now set.new }
-{
-    if !is_final_at(table.as_slice(), place) {
-        leave_out(set, place);
-    }
-}
-
-#[tactic(auto, using(place_sets::proofs::Covering::covers_without))]
-fn tidy_directs(table: &Table, set: &mut BTreeSet<usize>, place: usize)
-    requires { Covers direct_at table.now set.old }
-    ensures { Covers direct_at table.now set.new }
-{
-    if !is_direct_at(table.as_slice(), place) {
-        leave_out(set, place);
-    }
-}
-
-#[tactic(auto, using(place_sets::proofs::Covering::covers_without))]
-fn tidy_running(table: &Table, set: &mut BTreeSet<usize>, place: usize)
-    requires { Covers runs_open table.now set.old }
-    ensures { Covers runs_open table.now set.new }
-{
-    if !runs_open_at(table.as_slice(), place) {
-        leave_out(set, place);
-    }
-}
-
-#[tactic(auto, using(place_sets::proofs::Covering::covers_without))]
-fn tidy_ready(table: &Table, set: &mut BTreeSet<usize>, place: usize)
-    requires { Covers (ready table.now) table.now set.old }
-    ensures { Covers (ready table.now) table.now set.new }
-{
-    if !is_ready_at(table, place) {
-        leave_out(set, place);
-    }
-}
-
-#[tactic(auto, using(place_sets::proofs::Covering::covers_without))]
-fn tidy_doubtful(table: &Table, set: &mut BTreeSet<usize>, place: usize)
-    requires { Covers (doubtful table.now) table.now set.old }
-    ensures { Covers (doubtful table.now) table.now set.new }
-{
-    if !is_doubtful_at(table, place) {
-        leave_out(set, place);
-    }
-}
-
-/// Takes a place out of the sets that hang on how other tasks were settled, where they aren't for it.
-fn tidy_waiting(table: &Table, marks: &mut Marks, place: usize)
-    requires { Marked table.now marks.old }
-    ensures { Marked table.now marks.new }
-{
-    tidy_ready(table, &mut marks.ready, place);
-    tidy_doubtful(table, &mut marks.doubtful, place);
-}
-
-/// Takes some places out of them.
-pub fn tidy_waiting_all(table: &Table, marks: &mut Marks, places: &[usize])
-    requires { Marked table.now marks.old }
-    ensures { Marked table.now marks.new }
-{
-    for place in places {
-        tidy_waiting(table, marks, *place);
-    }
-}
-
-/// Takes a place out of the sets that aren't for it.
-pub fn tidy(table: &Table, marks: &mut Marks, place: usize)
-    requires { Marked table.now marks.old }
-    ensures { Marked table.now marks.new }
-{
-    tidy_finals(table, &mut marks.finals, place);
-    tidy_directs(table, &mut marks.directs, place);
-    tidy_running(table, &mut marks.running, place);
-    tidy_waiting(table, marks, place);
-}
-
-/// Takes some places out of the sets that aren't for them.
-pub fn tidy_all(table: &Table, marks: &mut Marks, places: &[usize])
-    requires { Marked table.now marks.old }
-    ensures { Marked table.now marks.new }
-{
-    for place in places {
-        tidy(table, marks, *place);
-    }
 }

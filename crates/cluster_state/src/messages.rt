@@ -8,7 +8,6 @@ ghost use Rattle.cluster_defs.specs.Steps.{changes};
 ghost use Rattle.cluster_state.specs.Plain.{facts_in, engine_ended, joined_by, echoed_by, told, noted};
 ghost use Rattle.cluster_state.specs.Stands.{plain};
 
-use crate::engines::{joining, number_on, raises_some};
 use crate::state::State;
 use cluster_defs::engine::Joining;
 use cluster_types::event::Event;
@@ -22,7 +21,7 @@ impl State {
         ensures told { IfOk result (λ b. b ≡ is_some (joined (plain self.old).engines conn (Some (Event.Join uuid.now)))) }
         ensures after { OnOk result (plain self.new ≡ joined_by conn (joined (plain self.old).engines conn (Some (Event.Join uuid.now))) (plain self.old)) }
     {
-        if joining(&self.engines, self.next_engine, conn, uuid) != Joining::Accepted {
+        if self.engines.joining(self.next_engine, conn, uuid) != Joining::Accepted {
             return Ok(false);
         }
         self.join(conn, uuid)?;
@@ -31,10 +30,10 @@ impl State {
 
     /// Takes an engine's leave, where there is one on the connection, and tells whether there is.
     pub fn take_leave(&mut self, conn: u32) -> Result<bool, AllocError>
-        ensures told { IfOk result (λ b. b ≡ is_some (left_engine self.old.engines.items conn (Some Event.Leave))) }
-        ensures after { OnOk result (plain self.new ≡ engine_ended (left_engine self.old.engines.items conn (Some Event.Leave)) (plain self.old)) }
+        ensures told { IfOk result (λ b. b ≡ is_some (left_engine self.old.engines conn (Some Event.Leave))) }
+        ensures after { OnOk result (plain self.new ≡ engine_ended (left_engine self.old.engines conn (Some Event.Leave)) (plain self.old)) }
     {
-        match number_on(&self.engines, conn) {
+        match self.engines.number_on(conn) {
             Some(engine) => {
                 self.end_engine(engine)?;
                 Ok(true)
@@ -45,10 +44,10 @@ impl State {
 
     /// Takes an echo of a beat, and tells whether it raises a mark.
     pub fn take_pong(&mut self, conn: u32, beat: u64) -> bool
-        ensures told { result ≡ is_some (echoed self.old.engines.items conn self.old.beats (Some (Event.Pong beat))) }
-        ensures after { plain self.new ≡ echoed_by conn (echoed self.old.engines.items conn self.old.beats (Some (Event.Pong beat))) (plain self.old) }
+        ensures told { result ≡ is_some (echoed self.old.engines conn self.old.beats (Some (Event.Pong beat))) }
+        ensures after { plain self.new ≡ echoed_by conn (echoed self.old.engines conn self.old.beats (Some (Event.Pong beat))) (plain self.old) }
     {
-        let raises = beat <= self.beats && raises_some(&self.engines, conn, beat);
+        let raises = beat <= self.beats && self.engines.raises(conn, beat);
         if raises {
             self.mark(conn, beat);
         }

@@ -10,25 +10,24 @@ ghost use Rattle.cluster_state.specs.Plain.{facts_in, replied_by};
 ghost use Rattle.cluster_state.specs.Stands.{plain};
 
 use crate::attempts::{Attempts, Ending};
-use crate::engines::conn_of;
 use crate::state::State;
 use cluster_defs::attempt::Attempt;
-use cluster_defs::engine::Engine;
 use cluster_types::shared_message::SharedMessage;
 use cluster_types::text::Text;
+use engine_registry::registry::Registry;
 use std::alloc::AllocError;
 
 /// The connection of the engine of a current attempt.
-fn home(live: &[Engine], attempt: Attempt) -> Option<u32>
+fn home(live: &Registry, attempt: Attempt) -> Option<u32>
     ensures { result ≡ home live.now attempt }
 {
     match attempt {
-        Attempt::Running { engine } => conn_of(live, engine),
+        Attempt::Running { engine } => live.conn_of(engine),
         _ => None,
     }
 }
 
-fn is_home(live: &[Engine], conn: u32, attempt: Attempt) -> bool
+fn is_home(live: &Registry, conn: u32, attempt: Attempt) -> bool
     ensures { result ≡ is_number conn (home live.now attempt) }
 {
     match home(live, attempt) {
@@ -38,7 +37,7 @@ fn is_home(live: &[Engine], conn: u32, attempt: Attempt) -> bool
 }
 
 /// Whether a reply on a connection is valid for a task with these attempts.
-fn counts(live: &[Engine], conn: u32, header: &Text, attempts: &Attempts) -> bool
+fn counts(live: &Registry, conn: u32, header: &Text, attempts: &Attempts) -> bool
     ensures { result ≡ counts live.now conn header.now (attempts_as attempts.now) }
 {
     is_home(live, conn, attempts.last) && !attempts.has_heard(header)
@@ -64,7 +63,7 @@ fn ending(direct: bool, ok: bool, declined: bool) -> Ending
 impl State {
     /// Whether a reply on a connection is valid for the task that it names.
     fn counts(&self, conn: u32, name: &Text, header: &Text) -> bool
-        ensures { result ≡ counts self.now.engines.items conn header.now ((facts_in (plain self.now)).task name.now) }
+        ensures { result ≡ counts self.now.engines conn header.now ((facts_in (plain self.now)).task name.now) }
     {
         match self.tasks.find(name) {
             Some(task) => counts(&self.engines, conn, header, task.attempts()),
@@ -92,8 +91,8 @@ impl State {
         declined: bool,
         message: &SharedMessage,
     ) -> Result<bool, AllocError>
-        ensures told { IfOk result (λ b. b ≡ counts self.old.engines.items conn header.now ((facts_in (plain self.old)).task name.now)) }
-        ensures after { OnOk result (plain self.new ≡ replied_by (counts self.old.engines.items conn header.now ((facts_in (plain self.old)).task name.now)) name.now header.now (ending (is_direct_id (facts_in (plain self.old)) name.now) ok declined) (parts_of message.now) (plain self.old)) }
+        ensures told { IfOk result (λ b. b ≡ counts self.old.engines conn header.now ((facts_in (plain self.old)).task name.now)) }
+        ensures after { OnOk result (plain self.new ≡ replied_by (counts self.old.engines conn header.now ((facts_in (plain self.old)).task name.now)) name.now header.now (ending (is_direct_id (facts_in (plain self.old)) name.now) ok declined) (parts_of message.now) (plain self.old)) }
     {
         if !self.counts(conn, name, header) {
             return Ok(false);

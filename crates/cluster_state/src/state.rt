@@ -11,7 +11,7 @@ ghost use Rattle.cluster_state.specs.Plain.{plain_of, opened, input_at, came_up,
 ghost use Rattle.cluster_state.specs.Stands.{plain};
 
 use crate::attempts::{engine_of, one_more};
-use crate::engines::{end_engine, mark_on, number_on, use_engine};
+use crate::engines::use_engine;
 use crate::outcomes::outcome_for;
 use crate::task::Settled;
 use crate::tasks::Tasks;
@@ -21,6 +21,7 @@ use cluster_types::config::{Channel, Scheme};
 use cluster_types::octets::Octets;
 use cluster_types::text::Text;
 use cluster_types::verdict::{Cause, Verdict};
+use engine_registry::registry::Registry;
 use std::alloc::{AllocError, Global};
 
 /// What is known of a cluster after a history.
@@ -46,7 +47,7 @@ pub struct State {
     /// The live connections, in the order in which they came up.
     pub connections: Vec<Connection>,
     /// The live engines, ascending.
-    pub engines: Vec<Engine>,
+    pub engines: Registry,
     /// The number of the next engine.
     pub next_engine: u32,
     /// The engines in ascending order of last use.
@@ -85,7 +86,7 @@ impl State {
             word: 0,
             beats: 0,
             connections: Vec::new(alloc),
-            engines: Vec::new(alloc),
+            engines: Registry::new(alloc),
             next_engine: 0,
             by_use: Vec::new(alloc),
             tasks: Tasks::new(alloc),
@@ -152,15 +153,15 @@ impl State {
     pub fn end_engine(&mut self, engine: u32) -> Result<(), AllocError>
         ensures { OnOk result (plain self.new ≡ engine_ended (Some engine) (plain self.old)) }
     {
-        end_engine(&mut self.engines, engine);
+        self.engines.end(engine);
         self.tasks.end_on(engine)
     }
 
     /// Ends the engine on a connection, where there is one.
     pub fn end_engine_on(&mut self, conn: u32) -> Result<(), AllocError>
-        ensures { OnOk result (plain self.new ≡ engine_ended (option_map (λ e. e.number) (engine_on self.old.engines.items conn)) (plain self.old)) }
+        ensures { OnOk result (plain self.new ≡ engine_ended (option_map (λ e. e.number) (engine_on self.old.engines conn)) (plain self.old)) }
     {
-        if let Some(engine) = number_on(&self.engines, conn) {
+        if let Some(engine) = self.engines.number_on(conn) {
             self.end_engine(engine)?;
         }
         Ok(())
@@ -178,6 +179,7 @@ impl State {
         ensures { OnOk result (plain self.new ≡ beaten (plain self.old)) }
     {
         self.beats = one_more(self.beats)?;
+        self.engines.refresh();
         Ok(())
     }
 
@@ -210,7 +212,7 @@ impl State {
     pub fn mark(&mut self, conn: u32, beat: u64)
         ensures { plain self.new ≡ echoed_by conn (Some beat) (plain self.old) }
     {
-        mark_on(&mut self.engines, conn, beat);
+        self.engines.mark(conn, beat);
     }
 
     /// Takes a hand-out, of a direct request or another.

@@ -5,22 +5,24 @@ ghost use Rattle.std.specs.List.Sorted.{IsStrictlySortedBy};
 ghost use Rattle.std.specs.Option.{option_copied, option_and_then};
 ghost use Rattle.std.specs.Ordering.{nat_cmp};
 ghost use Rattle.place_sets.specs.Sets.{at_place};
-ghost use Rattle.dense_numbers.specs.Counts.{Moved};
 ghost use Rattle.cluster_state.specs.Seen.{ending_as, settled_as, handed_to, ended_on, lost_all, replied_with, settled_with, purged_out, seen_in, place_in, changed, on_unsettled};
 ghost use Rattle.cluster_state.specs.Marking.{Marked};
 ghost use Rattle.cluster_state.specs.Loading.{Counts, Counted};
+ghost use Rattle.cluster_state.specs.Tallying.{AllTold};
 ghost use Rattle.cluster_state.specs.Places.{Alike, asking};
 ghost use Rattle.cluster_state.specs.Waiting.{Awaited, IsNoted, WaitsGrow};
 
 use crate::attempts::Ending;
-use crate::loads::{loaded, loaded_at, tallied};
-use crate::marks::{Marks, mark, mark_all, no_marks, tidy, tidy_all, tidy_waiting_all, wake_all};
+use crate::loads::tallied;
+use crate::marks::{Marks, mark, mark_all, no_marks, wake_all};
 use crate::table::Table;
+use crate::tallies::{Tallies, classes_at, classes_of, follow, no_classes, set_aside, take_back};
 use crate::task::{Settled, Task};
+use crate::tidying::{tidy, tidy_all, tidy_waiting_all};
 use cluster_types::message::Ids;
 use cluster_types::shared_message::SharedMessage;
 use cluster_types::text::Text;
-use dense_numbers::counts::moved;
+use dense_numbers::flags::set;
 use std::alloc::{AllocError, Global};
 use std::collections::BTreeSet;
 use std::marker::Model;
@@ -35,8 +37,8 @@ pub struct Tasks {
     marks: Marks,
     /// Places of those that wait for an id.
     waiters: Waiters,
-    /// How many Submits run on each engine. There are none where a change failed half-way.
-    counts: Option<Vec<u32>>,
+    /// How many run, finished or wait, by engine.
+    tallies: Tallies,
 }
 
 impl Model for Tasks {
@@ -48,7 +50,7 @@ impl Model for Tasks {
 
     ghost view = { λ t. t.table };
 
-    ghost invariant = { λ t. Beside t.table t.marks t.waiters t.counts };
+    ghost invariant = { λ t. Beside t.table t.marks t.waiters t.tallies };
 }
 
 // Each change of a task: its place is put into all sets, the task is changed, and its place is taken out of the sets that
@@ -136,6 +138,18 @@ pub fn places_in(alloc: Global, set: &BTreeSet<usize>) -> Result<Vec<usize>, All
     set.iter().copied().collect(alloc)
 }
 
+/// Has the places of tasks that were watched by an engine that ended watched by others, where there are any.
+fn watch_anew(table: &Table, marks: &mut Marks, engine: u32) -> Result<(), AllocError>
+    requires { Marked table.now marks.old }
+    ensures { Marked table.now marks.new }
+{
+    let _ = set(&mut marks.ended, engine);
+    let places = marks.watches.places(table.allocator(), u64::from(engine))?;
+    wake_all(marks, &places)?;
+    tidy_waiting_all(table, marks, &places);
+    Ok(())
+}
+
 /// Ends the attempts of unsettled tasks on an engine.
 fn end_in(table: &mut Table, marks: &mut Marks, engine: u32) -> Result<(), AllocError>
     requires { Marked table.old marks.old }
@@ -147,7 +161,7 @@ fn end_in(table: &mut Table, marks: &mut Marks, engine: u32) -> Result<(), Alloc
     mark_all(marks, &places)?;
     table.end_all(&places, engine)?;
     tidy_all(table, marks, &places);
-    Ok(())
+    watch_anew(table, marks, engine)
 }
 
 /// Ends the attempts of all unsettled tasks, by an Open.
@@ -172,30 +186,6 @@ fn counted_in(table: &Table, marks: &Marks) -> Result<Option<Vec<u32>>, AllocErr
     let alloc = table.allocator();
     let places = places_in(alloc, &marks.running)?;
     tallied(alloc, table, &places)
-}
-
-/// Puts the counts of all Submits that run.
-fn count_anew(counts: &mut Option<Vec<u32>>, table: &Table, marks: &Marks) -> Result<(), AllocError>
-    requires { Marked table.now marks.now }
-    ensures ok { OnOk result (Counted table.now counts.new) }
-    ensures err { OnErr result (counts.new ≡ counts.old) }
-{
-    *counts = counted_in(table, marks)?;
-    Ok(())
-}
-
-/// Puts the counts that were kept, once a Submit that ran on one engine runs on another.
-fn follow(
-    counts: &mut Option<Vec<u32>>,
-    kept: Option<Vec<u32>>,
-    before: Option<u32>,
-    after: Option<u32>,
-) -> Result<(), AllocError>
-    ensures ok { OnOk result (Moved kept before after counts.new) }
-    ensures err { OnErr result (counts.new ≡ counts.old) }
-{
-    *counts = moved(kept, before, after)?;
-    Ok(())
 }
 
 /// Notes that the task at a place waits for some ids.
@@ -232,7 +222,7 @@ impl Tasks {
             table: Table::new(alloc),
             marks: no_marks(alloc),
             waiters: Waiters::new(alloc),
-            counts: Some(Vec::new(alloc)),
+            tallies: Tallies::new(alloc),
         }
     }
 
@@ -284,11 +274,12 @@ impl Tasks {
         ensures { OnOk result (self.new ≡ self.old ++ task ∷ []) }
     {
         let place = self.table.len();
-        let after = loaded(&task);
-        let kept = self.counts.take();
+        let after = classes_of(&task);
+        let kept = self.tallies.take();
         note_waits(&mut self.waiters, &task.request().after.ids, place)?;
+        note_waits(&mut self.waiters, &task.request().follow.ids, place)?;
         push_onto(&mut self.table, &mut self.marks, task)?;
-        follow(&mut self.counts, kept, None, after)
+        follow(&mut self.tallies, kept, no_classes(), after)
     }
 
     /// Begins an attempt of a task on an engine.
@@ -296,14 +287,14 @@ impl Tasks {
         ensures { OnOk result (self.new ≡ changed id.now (handed_to engine) self.old) }
     {
         if let Some(place) = self.table.place_of(id) {
-            let before = loaded_at(&self.table, place);
-            let kept = self.counts.take();
+            let before = classes_at(&self.table, place);
+            let kept = self.tallies.take();
             hand_in(&mut self.table, &mut self.marks, place, engine)?;
             follow(
-                &mut self.counts,
+                &mut self.tallies,
                 kept,
                 before,
-                loaded_at(&self.table, place),
+                classes_at(&self.table, place),
             )?;
         }
         Ok(())
@@ -320,14 +311,14 @@ impl Tasks {
         ensures { OnOk result (self.new ≡ changed id.now (replied_with header.now (ending_as how) reply) self.old) }
     {
         if let Some(place) = self.table.place_of(id) {
-            let before = loaded_at(&self.table, place);
-            let kept = self.counts.take();
+            let before = classes_at(&self.table, place);
+            let kept = self.tallies.take();
             take_reply_in(&mut self.table, &mut self.marks, place, header, how, reply)?;
             follow(
-                &mut self.counts,
+                &mut self.tallies,
                 kept,
                 before,
-                loaded_at(&self.table, place),
+                classes_at(&self.table, place),
             )?;
         }
         Ok(())
@@ -343,8 +334,8 @@ impl Tasks {
         ensures { OnOk result (self.new ≡ changed id.now (settled_with (settled_as settled) outcome) self.old) }
     {
         if let Some(place) = self.table.place_of(id) {
-            let before = loaded_at(&self.table, place);
-            let kept = self.counts.take();
+            let before = classes_at(&self.table, place);
+            let kept = self.tallies.take();
             let waiting = self.waiters.of(id);
             settle_in(
                 &mut self.table,
@@ -356,10 +347,10 @@ impl Tasks {
                 outcome,
             )?;
             follow(
-                &mut self.counts,
+                &mut self.tallies,
                 kept,
                 before,
-                loaded_at(&self.table, place),
+                classes_at(&self.table, place),
             )?;
         }
         Ok(())
@@ -370,14 +361,14 @@ impl Tasks {
         ensures { OnOk result (self.new ≡ changed id.now purged_out self.old) }
     {
         if let Some(place) = self.table.place_of(id) {
-            let before = loaded_at(&self.table, place);
-            let kept = self.counts.take();
+            let before = classes_at(&self.table, place);
+            let kept = self.tallies.take();
             purge_in(&mut self.table, &mut self.marks, place)?;
             follow(
-                &mut self.counts,
+                &mut self.tallies,
                 kept,
                 before,
-                loaded_at(&self.table, place),
+                classes_at(&self.table, place),
             )?;
         }
         Ok(())
@@ -387,25 +378,34 @@ impl Tasks {
     pub fn end_on(&mut self, engine: u32) -> Result<(), AllocError>
         ensures { OnOk result (self.new ≡ map (on_unsettled (ended_on engine)) self.old) }
     {
-        let _ = self.counts.take();
+        let places = places_in(self.table.allocator(), &self.marks.running)?;
+        let rest = set_aside(&mut self.tallies, &self.table, &places)?;
         end_in(&mut self.table, &mut self.marks, engine)?;
-        count_anew(&mut self.counts, &self.table, &self.marks)
+        take_back(&mut self.tallies, rest, &self.table, &places)
     }
 
     /// Ends the attempts of all unsettled tasks, by an Open.
     pub fn lose_all(&mut self) -> Result<(), AllocError>
         ensures { OnOk result (self.new ≡ map (on_unsettled lost_all) self.old) }
     {
-        let _ = self.counts.take();
+        let places = places_in(self.table.allocator(), &self.marks.running)?;
+        let rest = set_aside(&mut self.tallies, &self.table, &places)?;
         lose_in(&mut self.table, &mut self.marks)?;
-        count_anew(&mut self.counts, &self.table, &self.marks)
+        take_back(&mut self.tallies, rest, &self.table, &places)
     }
 
     /// How many Submits run on each engine, where that was kept.
     pub fn counts(&self) -> Option<&Vec<u32>>
         ensures { IfSome result (λ counts. Counts self.now counts.now.items) }
     {
-        self.counts.as_ref()
+        self.tallies.loads.as_ref()
+    }
+
+    /// How many run, finished or wait, by engine.
+    pub fn tallies(&self) -> &Tallies
+        ensures { AllTold self.now result.now }
+    {
+        &self.tallies
     }
 
     /// How many Submits run on each engine, counted anew. There is no answer where a load would pass the end of its

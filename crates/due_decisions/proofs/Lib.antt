@@ -1,3 +1,4 @@
+pub mod LaneSteps
 pub mod Lists
 pub mod OpenRooms
 pub mod OpenTasks

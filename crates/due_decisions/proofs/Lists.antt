@@ -1,23 +1,9 @@
 -- Searches and counts over lists.
-use Rattle.std.proofs.Common.{◌≡◌, ap, sym, ◌∙◌, ℕ, suc, ◌+◌, ◌<◌, List, [], ◌∷◌, ◌++◌, length, take, drop, set, get_or, Bool, true, false, cond, not, ◌&&◌, ◌||◌, map, refl, subst, Option, Some, None, ◌⊎◌, inl, inr, ⊎_elim, arith}
-use Rattle.std.specs.Prelude.{◌==◌, find, filter, nat_eq}
+use Rattle.std.proofs.Common.{◌≡◌, ap, sym, ◌∙◌, ℕ, ◌+◌, ◌<◌, List, [], ◌∷◌, ◌++◌, length, take, drop, set, get_or, Bool, true, false, cond, ◌&&◌, ◌||◌, map, refl, arith}
+use Rattle.std.specs.Prelude.{filter}
 use Rattle.std.specs.List.{list_any}
-use Rattle.std.specs.Option.{is_some}
-use Rattle.std.proofs.lemmas.Bool.{ne_eqb, eqb-true, both_ways}
 use Rattle.std.proofs.lemmas.List.{get_or_default}
 use Rattle.std.proofs.lemmas.List.Edits.{map_over_more}
-use Rattle.cluster_defs.specs.Words.{Id, is_empty}
-use Rattle.cluster_defs.specs.Tasks.{Settled}
-use Rattle.cluster_defs.specs.Dependencies.{same_engine, apart, scattered}
-
-pub none_listed : {X : Type 0} (xs : List X) → (length xs == 0) ≡ is_empty xs
-none_listed [] = refl
-none_listed (x ∷ xs) = ne_eqb (suc (length xs)) 0 (λ e. omega arith)
-
-pub same_truth : (a b : Bool) → (a ≡ true → b ≡ true) → (b ≡ true → a ≡ true) → a ≡ b
-same_truth true b to from = sym (to refl)
-same_truth false true to from = from refl
-same_truth false false to from = refl
 
 pub right_of : (a b : Bool) → b ≡ true → (a || b) ≡ true
 right_of true b h = refl
@@ -32,15 +18,6 @@ pub any_never : {X : Type 0} (p : X → Bool) → ((x : X) → p x ≡ false) �
 any_never p off [] = refl
 any_never p off (x ∷ xs) = rw (off x) (any_never p off xs)
 
--- what is found is one of them
-pub found_any : {X : Type 0} (p q : X → Bool) (xs : List X) (x : X) → find p xs ≡ Some x → q x ≡ true → list_any q xs ≡ true
-found_any p q [] x e h = cc
-found_any {X} p q (y ∷ ys) x e h =
-    (elim (p y) as (λ b. cond b (Some y) (find p ys) ≡ Some x → (q y || list_any q ys) ≡ true) [
-      | true ↦ λ here. let same : y ≡ x = cc in left_of _ _ (ap q same ∙ h)
-      | false ↦ λ rest. right_of _ _ (found_any p q ys x rest h)
-    ]) e
-
 -- one that passes, and what passes of it passes of some
 pub record Among {X : Type 0} (p : X → Bool) (xs : List X) : Type 0 where
   pub one : X
@@ -54,63 +31,6 @@ any_among {X} p (x ∷ xs) h =
       | true ↦ λ on _. record { one = x; passes = on; again = λ q is. left_of _ _ is }
       | false ↦ λ _ rest. let a = any_among p xs rest in record { one = a.one; passes = a.passes; again = λ q is. right_of _ _ (a.again q is) }
     ]) refl h
-
--- SCATTERED
-
-far : (a x y : Option ℕ) → not (same_engine x y) ≡ true → (not (same_engine a x) ≡ true) ⊎ (not (same_engine a y) ≡ true)
-far None x y h = inl refl
-far (Some m) None y h = inl refl
-far (Some m) (Some n) None h = inr refl
-far (Some m) (Some n) (Some k) h =
-    elim (nat_eq n m) as (λ b. nat_eq n m ≡ b → (not b ≡ true) ⊎ (not (nat_eq k m) ≡ true)) [
-      | true ↦ λ on. inr (let same : n ≡ m = eqb-true n m on in subst (λ z. not (nat_eq k z) ≡ true) same h)
-      | false ↦ λ _. inl refl
-    ] refl
-
-far_from : (f : Settled) (a b : Option Settled) → apart a b ≡ true → (apart (Some f) a ≡ true) ⊎ (apart (Some f) b ≡ true)
-far_from f None b h = cc
-far_from f (Some x) None h = cc
-far_from f (Some x) (Some y) h = far f.engine x.engine y.engine h
-
-first_apart : (s : Id → Option Settled) (ids : List Id) (first : Id) (f : Settled) → s first ≡ Some f → find (λ i. is_some (s i)) ids ≡ Some first → list_any (λ j. apart (Some f) (s j)) ids ≡ scattered s ids
-first_apart s ids first f is found =
-    same_truth (list_any (λ j. apart (Some f) (s j)) ids) (scattered s ids)
-    (λ on. found_any (λ i. is_some (s i)) (λ i. list_any (λ j. apart (s i) (s j)) ids) ids first found (ap (λ o. list_any (λ j. apart o (s j)) ids) is ∙ on))
-    (λ on. let i = any_among (λ i. list_any (λ j. apart (s i) (s j)) ids) ids on in
-    let j = any_among (λ j. apart (s i.one) (s j)) ids i.passes in
-    ⊎_elim (i.again (λ k. apart (Some f) (s k))) (j.again (λ k. apart (Some f) (s k))) (far_from f (s i.one) (s j.one) j.passes))
-
-at_first : (s : Id → Option Settled) (ids : List Id) (first : Id) (o : Option Settled) → s first ≡ o → is_some o ≡ true → find (λ i. is_some (s i)) ids ≡ Some first → list_any (λ j. apart o (s j)) ids ≡ scattered s ids
-at_first s ids first None is on found = cc
-at_first s ids first (Some f) is on found = first_apart s ids first f is found
-
-found_passes : {X : Type 0} (p : X → Bool) (xs : List X) (x : X) → find p xs ≡ Some x → p x ≡ true
-found_passes p [] x e = cc
-found_passes {X} p (y ∷ ys) x e =
-    (elim (p y) as (λ b. p y ≡ b → cond b (Some y) (find p ys) ≡ Some x → p x ≡ true) [
-      | true ↦ λ on is. let same : y ≡ x = cc in ap p (sym same) ∙ on
-      | false ↦ λ _ is. found_passes p ys x is
-    ]) refl e
-
--- two of some ids finished on different engines where one did on another than the first that finished
-pub scattered_by_first : (s : Id → Option Settled) (ids : List Id) (first : Id) → find (λ i. is_some (s i)) ids ≡ Some first → list_any (λ j. apart (s first) (s j)) ids ≡ scattered s ids
-scattered_by_first s ids first found = at_first s ids first (s first) refl (found_passes (λ i. is_some (s i)) ids first found) found
-
-none_apart : (s : Id → Option Settled) (ids xs : List Id) → find (λ i. is_some (s i)) xs ≡ None → list_any (λ i. list_any (λ j. apart (s i) (s j)) ids) xs ≡ false
-none_apart s ids [] e = refl
-none_apart s ids (x ∷ xs) e =
-    (elim (s x) as (λ o. s x ≡ o → cond (is_some o) (Some x) (find (λ i. is_some (s i)) xs) ≡ None → (list_any (λ j. apart (s x) (s j)) ids || list_any (λ i. list_any (λ j. apart (s i) (s j)) ids) xs) ≡ false) [
-      | None ↦ λ is rest. rw (is, any_never (λ j. apart None (s j)) (λ j. refl) ids) (none_apart s ids xs rest)
-      | Some f ↦ λ _ none. cc
-    ]) refl e
-
-pub scattered_none : (s : Id → Option Settled) (ids : List Id) → find (λ i. is_some (s i)) ids ≡ None → scattered s ids ≡ false
-scattered_none s ids e = none_apart s ids ids e
-
--- nothing is found by a test that is never passed
-pub find_never : {X : Type 0} (p : X → Bool) → ((x : X) → p x ≡ false) → (xs : List X) → find p xs ≡ None
-find_never p off [] = refl
-find_never p off (x ∷ xs) = rw (off x) (find_never p off xs)
 
 pub any_and : {X : Type 0} (b : Bool) (q : X → Bool) (xs : List X) → list_any (λ x. b && q x) xs ≡ (b && list_any q xs)
 any_and true q xs = refl
@@ -161,6 +81,6 @@ map_step f xs ys i d y lt long is made =
     let x = get_or ys i d in
     ap (set ys i) made ∙ map_over_more f xs ys i x lt is (get_or_default ys i d x (omega arith))
 
-pub empty_list : {X : Type 0} (xs : List X) → (length xs == 0) ≡ true → xs ≡ []
-empty_list [] h = refl
-empty_list (x ∷ xs) h = absurd (both_ways (length (x ∷ xs) == 0) (ne_eqb (suc (length xs)) 0 (λ e. omega arith)) h)
+pub filter_none : {X : Type 0} (p : X → Bool) → ((x : X) → p x ≡ false) → (xs : List X) → filter p xs ≡ []
+filter_none p off [] = refl
+filter_none p off (x ∷ xs) = rw (off x) (filter_none p off xs)

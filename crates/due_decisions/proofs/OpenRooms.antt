@@ -1,5 +1,5 @@
 -- Engines with room, by what is kept of them.
-use Rattle.std.proofs.Common.{◌≡◌, ap, sym, ◌∙◌, ℕ, List, [], ◌∷◌, ◌++◌, Bool, true, false, ◌||◌, map, refl}
+use Rattle.std.proofs.Common.{◌≡◌, ap, ◌∙◌, ℕ, List, [], ◌∷◌, ◌++◌, Bool, true, false, ◌||◌, map, refl}
 use Rattle.std.specs.Prelude.{◌==◌, filter}
 use Rattle.std.specs.List.{list_any}
 use Rattle.cluster_defs.specs.declared.engine.Engine.{Engine}
@@ -10,7 +10,7 @@ use Rattle.cluster_state.specs.Seen.{Seen}
 use Rattle.cluster_state.specs.Loading.{load_in, Counts}
 use Rattle.due_decisions.specs.declared.rooms.Room.{Room}
 use Rattle.due_decisions.specs.Table.{leaves_room, rooms_in}
-use Rattle.due_decisions.proofs.Lists.{map_alike, filter_alike}
+use Rattle.due_decisions.proofs.Lists.{map_alike}
 
 or_turn : (a b c : Bool) → (a || (b || c)) ≡ (b || (a || c))
 or_turn true true c = refl
@@ -21,16 +21,9 @@ any_push : {X : Type 0} (p : X → Bool) (xs : List X) (x : X) → (p x || list_
 any_push p [] x = refl
 any_push p (y ∷ xs) x = or_turn (p x) (p y) (list_any p xs) ∙ ap (λ b. p y || b) (any_push p xs x)
 
--- an engine more
-pub live_more : (es : List Engine) (e : Engine) (old new : List Bool) → ((n : ℕ) → is_set old n ≡ lists_number n es) → ((n : ℕ) → is_set new n ≡ (e.number == n || is_set old n)) → (n : ℕ) → is_set new n ≡ lists_number n (es ++ e ∷ [])
-live_more es e old new is sets n = sets n ∙ ap (λ b. e.number == n || b) (is n) ∙ any_push (λ (x : Engine). x.number == n) es e
-
--- the rooms of the engines that are live, and so of those that are set
-pub rooms_live : (counts by_use : List ℕ) (live : List Bool) (engines : List Engine) (hwm : ℕ) → ((n : ℕ) → is_set live n ≡ lists_number n engines)
-    → filter (λ (r : Room). leaves_room hwm r.load) (map (λ n. let r : Room = record { engine = n; load = count_of counts n } in r) (filter (is_set live) by_use))
-    ≡ filter (λ (r : Room). leaves_room hwm r.load) (map (λ n. let r : Room = record { engine = n; load = count_of counts n } in r) (filter (λ n. lists_number n engines) by_use))
-rooms_live counts by_use live engines hwm is =
-    ap (λ ns. filter (λ (r : Room). leaves_room hwm r.load) (map (λ n. let r : Room = record { engine = n; load = count_of counts n } in r) ns)) (filter_alike (is_set live) (λ n. lists_number n engines) is by_use)
+-- a room more
+pub open_more : (rs : List Room) (r : Room) (old new : List Bool) → ((n : ℕ) → is_set old n ≡ list_any (λ r. r.engine == n) rs) → ((n : ℕ) → is_set new n ≡ (r.engine == n || is_set old n)) → (n : ℕ) → is_set new n ≡ list_any (λ r. r.engine == n) (rs ++ r ∷ [])
+open_more rs r old new is sets n = sets n ∙ ap (λ b. r.engine == n || b) (is n) ∙ any_push (λ (x : Room). x.engine == n) rs r
 
 -- the loads that right counts tell
 pub rooms_counted : (ts : List Seen) (counts by_use : List ℕ) (engines : List Engine) (hwm : ℕ) → Counts ts counts

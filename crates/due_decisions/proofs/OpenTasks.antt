@@ -1,23 +1,32 @@
--- What is due of a task is due of one that isn't settled.
-use Rattle.std.proofs.Common.{◌≡◌, ap, sym, ◌∙◌, ℕ, List, [], Bool, true, false, cond, not, ◌&&◌, ◌||◌, ◌+◌, ◌*◌, refl, Option, Some, None, length}
-use Rattle.std.specs.Prelude.{◌==◌, find, slice_get}
-use Rattle.std.specs.List.{list_any, list_all}
+-- What may run and what fails is in the sets that are for it.
+use Rattle.std.proofs.Common.{◌≡◌, ap, sym, ◌∙◌, ℕ, List, [], Bool, true, false, cond, not, ◌&&◌, ◌||◌, refl, Option, Some, None, ◌⊎◌, inl, inr, ⊎_elim, suc, length, arith, ◌∷◌}
+use Rattle.std.specs.Prelude.{◌==◌, nat_le, slice_get, filter, find}
+use Rattle.std.specs.Ordering.{nat_cmp}
+use Rattle.std.specs.BTreeMap.{is_at}
+use Rattle.std.specs.List.{list_any}
 use Rattle.std.specs.Option.{is_some}
-use Rattle.cluster_defs.specs.declared.engine.Engine.{Engine}
-use Rattle.cluster_defs.specs.Tasks.{Task}
-use Rattle.cluster_defs.specs.Words.{Id, is_empty}
+use Rattle.std.proofs.lemmas.Bool.{both_ways, ne_eqb, eq-eqb}
+use Rattle.place_sets.proofs.Covering.{found_none, off_from}
+use Rattle.place_sets.specs.Sets.{has, holds, holds_at}
+use Rattle.place_sets.specs.Lanes.{in_lane, in_some}
+use Rattle.place_sets.proofs.Leasts.{lane_among}
 use Rattle.cluster_types.specs.declared.verdict.Cause.{Cause}
 use Rattle.cluster_types.specs.declared.verdict.Cause.TheVariants.{ImpossibleDependency, InvalidDependency, TaskTimeout}
+use Rattle.cluster_defs.specs.declared.engine.Engine.{Engine}
+use Rattle.cluster_defs.specs.Engines.{lists_number}
+use Rattle.cluster_defs.specs.Tasks.{Task}
+use Rattle.cluster_defs.specs.Words.{Id, is_empty}
 use Rattle.cluster_defs.specs.Requests.{Request, is_direct, is_bound, is_target}
-use Rattle.cluster_defs.specs.Dependencies.{met, on_engine, unreachable}
-use Rattle.cluster_defs.specs.Scheduling.{may_run_as, excludes, rests, failing_as, failing, is_dead, is_live, follow_spoilt, is_past, is_timed_out}
-use Rattle.std.specs.BTreeSet.{BTreeSet}
-use Rattle.place_sets.specs.Sets.{holds, Covers}
+use Rattle.cluster_defs.specs.Dependencies.{asked, met, quantified, on_engine}
+use Rattle.cluster_defs.specs.Scheduling.{may_run_as, excludes, rests, failing_as, is_dead, is_timed_out}
+use Rattle.cluster_state.specs.declared.marks.Marks.{Marks}
 use Rattle.cluster_state.specs.Seen.{Seen}
-use Rattle.cluster_state.specs.Waiting.{doubtful_as}
+use Rattle.cluster_state.specs.Marking.{Marked}
+use Rattle.cluster_state.specs.Fitting.{hopeless_as, late_as, is_tied}
 use Rattle.due_decisions.specs.declared.rooms.Room.{Room}
-use Rattle.due_decisions.specs.Table.{settled_in, alone, among, failing_in, ready_as, ready, doubtful, takes_as, takes, fits}
-use Rattle.due_decisions.proofs.Lists.{any_and, any_same, find_never, empty_list}
+use Rattle.due_decisions.specs.Table.{settled_in, alone, among, failing_in, ready_as, ready, takes_as, takes, fits, hopeless, late, rooms_for}
+use Rattle.due_decisions.proofs.LaneSteps.{in_none}
+use Rattle.due_decisions.proofs.Lists.{any_and, any_same, any_among, left_of, right_of, filter_alike, filter_none}
 
 regroup : (b k fo ta e : Bool) → (b && (k && fo && ta) && e) ≡ (b && k && (fo && ta && e))
 regroup true true fo ta e = refl
@@ -39,68 +48,118 @@ fits_split ts t n = fits_as ts t.attempts n (rests (alone t) t.row.id) (not (exc
 pub fits_some : (ts : List Seen) (t : Seen) (rooms : List Room) → (ready ts t && list_any (λ r. takes ts t r.engine) rooms) ≡ list_any (λ r. fits ts t r.engine) rooms
 fits_some ts t rooms = sym (any_same (λ r. fits ts t r.engine) (λ r. ready ts t && takes ts t r.engine) (λ r. fits_split ts t r.engine) rooms ∙ any_and (ready ts t) (λ r. takes ts t r.engine) rooms)
 
+-- the rooms that take a task that is ready are those where it may run, and there are none where it isn't
+pub rooms_ready : (ts : List Seen) (t : Seen) (rooms : List Room) → ready ts t ≡ true → filter (λ r. takes ts t r.engine) rooms ≡ rooms_for ts rooms t
+rooms_ready ts t rooms on = filter_alike (λ (r : Room). takes ts t r.engine) (λ r. fits ts t r.engine) (λ r. sym (fits_split ts t r.engine ∙ ap (λ b. b && takes ts t r.engine) on)) rooms
+
+pub rooms_unready : (ts : List Seen) (t : Seen) (rooms : List Room) → ready ts t ≡ false → [] ≡ rooms_for ts rooms t
+rooms_unready ts t rooms off = sym (filter_none (λ (r : Room). fits ts t r.engine) (λ r. fits_split ts t r.engine ∙ ap (λ b. b && takes ts t r.engine) off) rooms)
+
+-- a task that is ready, isn't tied and was declined by no engine may run on any
+any_target : (b e : Bool) (targets mets : Bool) → (b || not e) ≡ false → ((e || mets) && (not b || targets)) ≡ true
+any_target false true targets mets off = refl
+any_target true e targets mets off = cc
+any_target false false targets mets off = cc
+
+fits_untied : (ts : List Seen) (t : Seen) (r : Request) → t.request ≡ Some r → ready ts t ≡ true → is_tied r ≡ false → t.attempts.excluded ≡ [] → (n : ℕ) → fits ts t n ≡ true
+fits_untied ts t r is ready_now free none = λ n.
+    let takes_it : takes_as ts n t.request ≡ true = ap (takes_as ts n) is ∙ any_target (is_bound r) (is_empty r.follow.ids) (list_any (λ m. m == n) r.targets) (quantified r.follow.all (λ i. asked r.follow (on_engine n (settled_in ts i))) r.follow.ids) free in
+    let kept : not (excludes (alone t) t.row.id n) ≡ true = ap (λ ns. not (list_any (λ m. m == n) ns)) none in
+    fits_split ts t n ∙ rw (ready_now, takes_it, kept) refl
+
+no_and : (b : Bool) → (b && false) ≡ true → ⊥
+no_and true on = cc
+no_and false on = cc
+
+pub fits_any : (ts : List Seen) (t : Seen) → ready ts t ≡ true → ((r : Request) → t.request ≡ Some r → is_tied r ≡ false) → t.attempts.excluded ≡ [] → (n : ℕ) → fits ts t n ≡ true
+fits_any ts t ready_now free none =
+    elim t.request as (λ o. t.request ≡ o → (n : ℕ) → fits ts t n ≡ true) [
+      | None ↦ λ is. absurd (no_and (rests (alone t) t.row.id) (sym (ap (λ o. rests (alone t) t.row.id && ready_as (settled_in ts) t.attempts o) is) ∙ ready_now))
+      | Some r ↦ λ is. fits_untied ts t r is ready_now (free r is) none
+    ] refl
+
+filter_all : {X : Type 0} (p : X → Bool) → ((x : X) → p x ≡ true) → (xs : List X) → xs ≡ filter p xs
+filter_all p on [] = refl
+filter_all p on (x ∷ xs) = rw (on x) (ap (λ ys. x ∷ ys) (filter_all p on xs))
+
+pub rooms_all : (ts : List Seen) (t : Seen) (rooms : List Room) → ((n : ℕ) → fits ts t n ≡ true) → rooms ≡ rooms_for ts rooms t
+rooms_all ts t rooms on = filter_all (λ (r : Room). fits ts t r.engine) (λ r. on r.engine) rooms
+
+-- WHAT MAY RUN
+
+holds_one : (p : Seen → Bool) (o : Option Seen) {P : Type 0} → holds p o ≡ true → ((t : Seen) → o ≡ Some t → p t ≡ true → P) → P
+holds_one p None on give = cc
+holds_one p (Some t) on give = give t refl on
+
+held : (p : Seen → Bool) (o : Option Seen) (t : Seen) → o ≡ Some t → p t ≡ true → holds p o ≡ true
+held p o t is on = ap (holds p) is ∙ on
+
+-- what may run on an engine with room is free, or in the lane of such an engine
+pub fits_covers : (ts : List Seen) (rooms : List Room) (m : Marks) → Marked ts m
+    → (i : ℕ) → holds_at (λ t. list_any (λ r. fits ts t r.engine) rooms) ts i ≡ true → (has m.free i || in_some (λ n. list_any (λ r. r.engine == n) rooms) m.lanes i) ≡ true
+fits_covers ts rooms m is i on =
+    let looks : ℕ → Bool = λ n. list_any (λ (r : Room). r.engine == n) rooms in
+    holds_one (λ t. list_any (λ r. fits ts t r.engine) rooms) (slice_get ts i) on (λ t at fit.
+    let a = any_among (λ (r : Room). fits ts t r.engine) rooms fit in
+    let n = a.one.engine in
+    ⊎_elim
+    (λ here. left_of (has m.free i) (in_some looks m.lanes i) here)
+    (λ here. right_of (has m.free i) (in_some looks m.lanes i) (lane_among looks m.lanes n i (a.again (λ r. r.engine == n) (eq-eqb n n refl)) here))
+    (is.free n i (held (λ u. fits ts u n) (slice_get ts i) t at a.passes)))
+
+-- where no set of those that may run has a place, none may
+pub none_fit : (ts : List Seen) (m : Marks) → Marked ts m → m.free.keys ≡ [] → m.lanes ≡ [] → (rooms : List Room) → find (λ t. list_any (λ r. fits ts t r.engine) rooms) ts ≡ None
+none_fit ts m is free lanes rooms =
+    sym (found_none (λ (t : Seen). list_any (λ (r : Room). fits ts t r.engine) rooms) ts (λ i. off_from (holds_at (λ (t : Seen). list_any (λ (r : Room). fits ts t r.engine) rooms) ts i) (λ on.
+    holds_one (λ t. list_any (λ r. fits ts t r.engine) rooms) (slice_get ts i) on (λ t at fit.
+    let a = any_among (λ (r : Room). fits ts t r.engine) rooms fit in
+    let n = a.one.engine in
+    ⊎_elim
+    (λ here. both_ways (has m.free i) (ap (list_any (is_at (nat_cmp i))) free) here)
+    (λ here. both_ways (in_lane m.lanes n i) (in_none m.lanes n i lanes) here)
+    (is.free n i (held (λ u. fits ts u n) (slice_get ts i) t at a.passes))))))
+
+find_never : {X : Type 0} (p : X → Bool) → ((x : X) → p x ≡ false) → (xs : List X) → find p xs ≡ None
+find_never p off [] = refl
+find_never p off (x ∷ xs) = rw (off x) (find_never p off xs)
+
+empty_list : {X : Type 0} (xs : List X) → (length xs == 0) ≡ true → xs ≡ []
+empty_list [] h = refl
+empty_list (x ∷ xs) h = absurd (both_ways (length (x ∷ xs) == 0) (ne_eqb (suc (length xs)) 0 (λ e. omega arith)) h)
+
 -- no room, no task that may run
-pub none_fit : (ts : List Seen) (rooms : List Room) → true ≡ (length rooms == 0) → None ≡ find (λ t. list_any (λ r. fits ts t r.engine) rooms) ts
-none_fit ts rooms h =
+pub no_rooms : (ts : List Seen) (rooms : List Room) → true ≡ (length rooms == 0) → None ≡ find (λ t. list_any (λ r. fits ts t r.engine) rooms) ts
+no_rooms ts rooms h =
     sym (find_never (λ (t : Seen). list_any (λ r. fits ts t r.engine) rooms) (λ t. ap (list_any (λ r. fits ts t r.engine)) (empty_list rooms (sym h))) ts)
 
-waits : (b c : Bool) → (b && c) ≡ true → b ≡ true
-waits true c on = refl
-waits false c on = on
+-- WHAT FAILS
 
-holds_waits : (p q : Seen → Bool) → ((t : Seen) → p t ≡ true → q t ≡ true) → (o : Option Seen) → holds p o ≡ true → holds q o ≡ true
-holds_waits p q up None on = on
-holds_waits p q up (Some t) on = up t on
+fails_as : (rest d inv dead after : Bool) (x y z : Cause) → is_some (cond rest (cond d None (cond inv (Some x) (cond dead (Some y) (cond after (Some z) None)))) None) ≡ true
+    → ((rest && (not d && (inv || dead))) ≡ true) ⊎ ((rest && (not d && after)) ≡ true)
+fails_as false d inv dead after x y z on = cc
+fails_as true true inv dead after x y z on = cc
+fails_as true false true dead after x y z on = inl refl
+fails_as true false false true after x y z on = inl refl
+fails_as true false false false true x y z on = inr refl
+fails_as true false false false false x y z on = cc
 
--- what may run is ready
-pub fitting_covers : (ts : List Seen) (rooms : List Room) (s : BTreeSet ℕ) → Covers (ready ts) ts s → Covers (λ t. list_any (λ r. fits ts t r.engine) rooms) ts s
-fitting_covers ts rooms s covers = λ i on. covers i (
-    holds_waits (λ t. list_any (λ r. fits ts t r.engine) rooms) (ready ts)
-    (λ t on. waits (ready ts t) (list_any (λ r. takes ts t r.engine) rooms) (fits_some ts t rooms ∙ on)) (slice_get ts i) on)
-
-dead_if : (u b n c s : Bool) → (u || (b && n) || (c && s)) ≡ true → (u || (b || c)) ≡ true
-dead_if true b n c s on = refl
-dead_if false true n c s on = refl
-dead_if false false n true s on = refl
-dead_if false false n false s on = cc
-
-past_if : (b : Bool) (now at : ℕ) → is_past now (cond b None (Some at)) ≡ true → not b ≡ true
-past_if true now at on = cc
-past_if false now at on = refl
-
-cause_if : (inv dead late u b c t : Bool) (x y z : Cause) → (dead ≡ true → (u || (b || c)) ≡ true) → (late ≡ true → t ≡ true) → is_some (cond inv (Some x) (cond dead (Some y) (cond late (Some z) None))) ≡ true → (inv || (u || (b || (c || t)))) ≡ true
-cause_if true dead late u b c t x y z one two on = refl
-cause_if false true late u b c t x y z one two on = regroup_or u b c t (one refl)
-  where
-    regroup_or : (u b c t : Bool) → (u || (b || c)) ≡ true → (u || (b || (c || t))) ≡ true
-    regroup_or true b c t on = refl
-    regroup_or false true c t on = refl
-    regroup_or false false true t on = refl
-    regroup_or false false false t on = cc
-cause_if false false true true b c t x y z one two on = refl
-cause_if false false true false true c t x y z one two on = refl
-cause_if false false true false false true t x y z one two on = refl
-cause_if false false true false false false t x y z one two on = two refl
-cause_if false false false u b c t x y z one two on = cc
-
-both_if : (r d k : Bool) (o : Option Cause) → is_some (cond r (cond d None o) None) ≡ true → (is_some o ≡ true → k ≡ true) → (r && (not d && k)) ≡ true
-both_if false d k o on up = cc
-both_if true true k o on up = cc
-both_if true false k o on up = up on
-
-request_if : (ts : List Seen) (live : List Engine) (now : ℕ) (a : Task) (id : Id) (r : Bool) (o : Option Request) → is_some (cond r (failing_as (among ts live now a) id o) None) ≡ true → (r && doubtful_as (settled_in ts) o) ≡ true
-request_if ts live now a id false o on = cc
-request_if ts live now a id true None on = on
-request_if ts live now a id true (Some q) on =
+request_fails : (ts : List Seen) (live : List Engine) (now : ℕ) (a : Task) (id : Id) (rest : Bool) (o : Option Request) → is_some (cond rest (failing_as (among ts live now a) id o) None) ≡ true
+    → ((rest && hopeless_as ts live a o) ≡ true) ⊎ ((rest && late_as now o) ≡ true)
+request_fails ts live now a id true None on = cc
+request_fails ts live now a id false None on = cc
+request_fails ts live now a id rest (Some q) on =
     let f = among ts live now a in
-    let u = unreachable q.after (settled_in ts) in
-    let c = not (is_empty q.follow.ids) in
-    both_if true (is_direct q) (q.invalid || (u || (is_bound q || (c || not (q.timeout == 0))))) (failing f id q) on
-    (cause_if q.invalid (is_dead f id q) (is_timed_out f q) u (is_bound q) c (not (q.timeout == 0)) InvalidDependency ImpossibleDependency TaskTimeout
-    (dead_if u (is_bound q) (list_all (λ n. not (is_live f n && not (excludes f id n))) q.targets) c (follow_spoilt f id q q.follow.all)) (past_if (q.timeout == 0) now (q.accepted_at + 1000 * q.timeout)))
+    fails_as rest (is_direct q) q.invalid (is_dead f id q) (is_timed_out f q) InvalidDependency ImpossibleDependency TaskTimeout on
 
--- what fails without an attempt may do so
-pub failing_covers : (live : List Engine) (now : ℕ) (ts : List Seen) (s : BTreeSet ℕ) → Covers (doubtful ts) ts s → Covers (λ t. is_some (failing_in ts live now t)) ts s
-failing_covers live now ts s covers = λ i on. covers i (
-    holds_waits (λ t. is_some (failing_in ts live now t)) (doubtful ts)
-    (λ t on. request_if ts live now t.attempts t.row.id (rests (alone t) t.row.id) t.request on) (slice_get ts i) on)
+-- what fails is in the set of what may, in the lane of an engine that isn't live, or in that of a moment that came
+pub fails_covers : (ts : List Seen) (live : List Engine) (now : ℕ) (m : Marks) → Marked ts m → (i : ℕ) → holds_at (λ t. is_some (failing_in ts live now t)) ts i ≡ true
+    → ((has m.doubtful i || in_some (λ n. not (lists_number n live)) m.watches i) || in_some (λ n. nat_le n now) m.deadlines i) ≡ true
+fails_covers ts live now m is i on =
+    holds_one (λ t. is_some (failing_in ts live now t)) (slice_get ts i) on (λ t at fails.
+    let d = has m.doubtful i in
+    let w = in_some (λ n. not (lists_number n live)) m.watches i in
+    let l = in_some (λ n. nat_le n now) m.deadlines i in
+    ⊎_elim
+    (λ dead. left_of (d || w) l (⊎_elim (λ here. left_of d w here) (λ some. right_of d w (lane_among (λ n. not (lists_number n live)) m.watches some.0 i some.1 some.2)) (is.hopeless live i (held (hopeless ts live) (slice_get ts i) t at dead))))
+    (λ after. ⊎_elim (λ here. left_of (d || w) l (left_of d w here)) (λ some. right_of (d || w) l (lane_among (λ n. nat_le n now) m.deadlines some.0 i some.1 some.2)) (is.late now i (held (late now) (slice_get ts i) t at after)))
+    (request_fails ts live now t.attempts t.row.id (rests (alone t) t.row.id) t.request fails))

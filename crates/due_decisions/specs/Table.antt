@@ -1,5 +1,5 @@
 -- What is due, read off the table of all tasks.
-use Rattle.std.specs.Prelude.{ℕ, nat_lt, nat_le, ◌+◌, ◌==◌, List, [], map, slice_get, Option, Some, None, Bool, false, not, ◌&&◌, ◌||◌, if◌then◌else◌, filter, find, count_by, option_map}
+use Rattle.std.specs.Prelude.{ℕ, nat_lt, ◌==◌, List, map, slice_get, Option, None, Bool, ◌||◌, if◌then◌else◌, filter, find, option_map}
 use Rattle.std.specs.List.{list_any}
 use Rattle.std.specs.Option.{is_some, option_and_then}
 use Rattle.cluster_types.specs.declared.config.Scheme.{Scheme}
@@ -8,26 +8,17 @@ use Rattle.cluster_types.specs.declared.verdict.Cause.{Cause}
 use Rattle.cluster_types.specs.declared.entry.Entry.{Entry}
 use Rattle.cluster_types.specs.declared.entry.Entry.TheVariants.{Settle}
 use Rattle.cluster_defs.specs.declared.engine.Engine.{Engine}
-use Rattle.cluster_defs.specs.Words.{Id, or_else}
+use Rattle.cluster_defs.specs.Words.{or_else}
 use Rattle.cluster_defs.specs.Engines.{lists_number}
-use Rattle.cluster_defs.specs.Tasks.{Task, runs_at}
-use Rattle.cluster_defs.specs.Dependencies.{met, on_engine}
-use Rattle.cluster_defs.specs.Requests.{Request, is_direct, is_target}
-use Rattle.cluster_defs.specs.Facts.{Facts, nothing_yet, is_direct_id}
-use Rattle.cluster_defs.specs.Scheduling.{lose_due, verdict, is_final, settle_as, rests, failing_as, ready_for, hand_to, may_run_as, excludes, pick}
-use Rattle.place_sets.specs.Sets.{holds_at}
+use Rattle.cluster_defs.specs.Facts.{Facts, nothing_yet}
+use Rattle.cluster_defs.specs.Scheduling.{lose_due, verdict, settle_as, rests, failing_as, ready_for, hand_to, pick}
 use Rattle.cluster_state.specs.Seen.{Seen}
 pub use Rattle.cluster_state.specs.Standing.{alone, final_at, direct_at}
-pub use Rattle.cluster_state.specs.Waiting.{settled_in, ready_as, ready, doubtful}
+pub use Rattle.cluster_state.specs.Waiting.{settled_in, ready_as, ready}
+pub use Rattle.cluster_state.specs.Fitting.{among, takes_as, takes, fits, hopeless, late}
 pub use Rattle.cluster_state.specs.Loading.{loads, load_in}
 use Rattle.cluster_state.specs.Plain.{Plain}
 use Rattle.due_decisions.specs.declared.rooms.Room.{Room}
-
--- FACTS OF A PART OF THE DATA
-
--- the attempts of one task, the live engines and how all tasks were settled
-abbrev pub among : List Seen → List Engine → ℕ → Task → Facts
-among ts live now a = record nothing_yet { now = now; engines = record { live = live; next = 0 }; task = λ id. a; settled = settled_in ts }
 
 -- (a) LOSE
 
@@ -71,18 +62,6 @@ leaves_room hwm load = hwm == 0 || nat_lt load hwm
 abbrev pub rooms_in : List Seen → List Engine → ℕ → List ℕ → List Room
 rooms_in ts live hwm by_use =
     filter (λ r. leaves_room hwm r.load) (map (λ n. record { engine = n; load = load_in ts n }) (filter (λ n. lists_number n live) by_use))
-
--- an engine where what it follows is met, that is a target and didn't decline it
-abbrev pub takes_as : List Seen → ℕ → Option Request → Bool
-takes_as ts n None = false
-takes_as ts n (Some r) = met r.follow (λ i. on_engine n (settled_in ts i)) && is_target n r
-
-abbrev pub takes : List Seen → Seen → ℕ → Bool
-takes ts t n = takes_as ts n t.request && not (excludes (alone t) t.row.id n)
-
--- whether a task may run on an engine that is live and has room
-abbrev pub fits : List Seen → Seen → ℕ → Bool
-fits ts t n = rests (alone t) t.row.id && may_run_as (among ts [] 0 t.attempts) t.row.id n t.request && not (excludes (alone t) t.row.id n)
 
 abbrev pub rooms_for : List Seen → List Room → Seen → List Room
 rooms_for ts rooms t = filter (λ r. fits ts t r.engine) rooms

@@ -6,7 +6,7 @@ ghost use Rattle.cluster_defs.specs.Scheduling.{due};
 ghost use Rattle.cluster_state.specs.Stands.{plain, Knows};
 ghost use Rattle.due_decisions.specs.Table.{hand_then, direct_then, fail_then, settle_then, due_in};
 
-use crate::handing::{direct_due, hand_due};
+use crate::handing::{direct_due, hand_due, none_waits};
 use crate::losing::lose_due;
 use crate::rooms::rooms_in;
 use crate::settling::{fail_due, settle_due};
@@ -19,6 +19,9 @@ use std::alloc::{AllocError, Global};
 fn hand_step(alloc: Global, state: &State, chooser: &Chooser) -> Result<Option<Entry>, AllocError>
     ensures { IfOk result (λ d. d ≡ hand_then (plain state.now)) }
 {
+    if none_waits(&state.tasks) {
+        return Ok(None);
+    }
     let rooms = rooms_in(
         alloc,
         &state.tasks,

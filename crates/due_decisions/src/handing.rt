@@ -1,14 +1,19 @@
 //! Direct requests that wait for their engine, and Submits that may run.
 
-ghost use Rattle.std.specs.Prelude.{◌≡◌, find, slice_get, option_map, map, IfOk};
+ghost use Rattle.std.specs.Prelude.{◌≡◌, ◌==◌, ℕ, List, [], true, false, None, Some, filter, find, slice_get, option_map, map, IfOk};
 ghost use Rattle.std.specs.List.{list_any};
 ghost use Rattle.std.specs.Option.{option_copied};
-ghost use Rattle.place_sets.specs.Sets.{holds_at};
+ghost use Rattle.place_sets.specs.Sets.{has, holds_at};
+ghost use Rattle.place_sets.specs.Lanes.{in_some};
+ghost use Rattle.place_sets.specs.Least.{IsLeast};
+ghost use Rattle.dense_numbers.specs.Flags.{is_set};
+ghost use Rattle.cluster_defs.specs.Requests.{Request as RequestFacts};
+ghost use Rattle.cluster_state.specs.Fitting.{is_tied};
+ghost use Rattle.due_decisions.specs.declared.rooms.Room.{Room};
 ghost use Rattle.due_decisions.specs.Table.{direct_at, direct_of, direct_in, ready, takes, fits, rooms_for, picked, hand_of, hand_in};
 
-use crate::dependencies::is_met_on;
-use crate::failing::{is_excluded, is_target};
-use crate::rooms::Room;
+use crate::rooms::{Room, is_open, open_numbers};
+use cluster_state::fitting::{is_tied, takes};
 use cluster_state::readiness::is_ready;
 use cluster_state::standing::{is_direct_at, ready_for};
 use cluster_state::table::Table;
@@ -17,6 +22,8 @@ use cluster_state::tasks::Tasks;
 use cluster_types::config::Scheme;
 use cluster_types::entry::Entry;
 use load_schemes::chooser::Chooser;
+use place_sets::lanes::Lanes;
+use place_sets::least::lesser;
 use std::alloc::{AllocError, Global};
 use std::collections::BTreeSet;
 
@@ -59,15 +66,6 @@ pub fn direct_due(tasks: &Tasks) -> Result<Option<Entry>, AllocError>
     }
 }
 
-/// Whether a task may run on an engine, as far as the two go together.
-fn takes(table: &Table, task: &Task, engine: u32) -> bool
-    ensures { result ≡ takes table.now task.now engine }
-{
-    is_met_on(&task.request().follow, table, engine)
-        && is_target(task.request(), engine)
-        && !is_excluded(task.attempts(), engine)
-}
-
 /// Whether a task may run on one of some engines, as far as the two go together.
 fn any_takes(table: &Table, rooms: &[Room], task: &Task) -> bool
     ensures { result ≡ list_any (λ r. takes table.now task.now r.engine) rooms.now }
@@ -92,8 +90,8 @@ fn may_run_at(table: &Table, rooms: &[Room], place: usize) -> bool
     }
 }
 
-/// The place of the lowest such task.
-fn waiting_place(table: &Table, places: &BTreeSet<usize>, rooms: &[Room]) -> Option<usize>
+/// The first of some places where one does.
+fn first_waiting(table: &Table, places: &BTreeSet<usize>, rooms: &[Room]) -> Option<usize>
     ensures { result ≡ find (holds_at (λ t. list_any (λ r. fits table.now t r.engine) rooms.now) table.now) places.now.keys }
 {
     places
@@ -102,24 +100,83 @@ fn waiting_place(table: &Table, places: &BTreeSet<usize>, rooms: &[Room]) -> Opt
         .find(|p| may_run_at(table, rooms, *p))
 }
 
-/// The lowest such task.
-fn waiting_task<'a>(tasks: &'a Tasks, rooms: &[Room]) -> Option<&'a Task>
-    ensures { option_copied result ≡ find (λ t. list_any (λ r. fits tasks.now t r.engine) rooms.now) tasks.now }
+/// The least of some places where one does.
+fn waiting_place(table: &Table, places: &BTreeSet<usize>, rooms: &[Room]) -> Option<usize>
+    ensures { IsLeast (holds_at (λ t. list_any (λ r. fits table.now t r.engine) rooms.now) table.now) (has places.now) result }
 {
-    if rooms.is_empty() {
-        None
-    } else {
-        let places = &tasks.marks().ready;
-        let _many = places.len();
-        tasks.at(waiting_place(tasks.table(), places, rooms))
-    }
+    let _many = places.len();
+    first_waiting(table, places, rooms)
 }
 
-/// Whether a task waits, and may run on an engine.
-fn is_fitting(table: &Table, task: &Task, engine: u32) -> bool
-    ensures { result ≡ fits table.now task.now engine }
+/// The least of the places in the lanes of some engines.
+fn place_in_lanes(table: &Table, lanes: &Lanes, with_room: &[bool], rooms: &[Room]) -> Option<usize>
+    ensures { IsLeast (holds_at (λ t. list_any (λ r. fits table.now t r.engine) rooms.now) table.now) (in_some (is_set with_room.now) lanes.now) result }
 {
-    is_ready(table, task) && takes(table, task, engine)
+    let mut least = None;
+    for (engine, places) in lanes.as_map().iter() {
+        if is_open(with_room, *engine) {
+            least = lesser(least, waiting_place(table, places, rooms));
+        }
+    }
+    least
+}
+
+/// The least of the places in the lanes of the engines with room.
+fn laned_place(
+    alloc: Global,
+    table: &Table,
+    lanes: &Lanes,
+    rooms: &[Room],
+) -> Result<Option<usize>, AllocError>
+    ensures { IfOk result (λ o. IsLeast (holds_at (λ t. list_any (λ r. fits table.now t r.engine) rooms.now) table.now) (in_some (λ n. list_any (λ r. r.engine == n) rooms.now) lanes.now) o) }
+{
+    if lanes.as_map().is_empty() {
+        return Ok(None);
+    }
+    let with_room = open_numbers(alloc, rooms)?;
+    Ok(place_in_lanes(table, lanes, &with_room, rooms))
+}
+
+/// Whether no task waits to be handed out.
+pub fn none_waits(tasks: &Tasks) -> bool
+    ensures { result ≡ true → (rooms : List Room) → find (λ t. list_any (λ r. fits tasks.now t r.engine) rooms) tasks.now ≡ None }
+{
+    let marks = tasks.marks();
+    marks.free.is_empty() && marks.lanes.as_map().is_empty()
+}
+
+/// The lowest task that waits, and may run on one of some engines: it may run on any, or is in the lane of one of them.
+fn waiting_task<'a>(
+    alloc: Global,
+    tasks: &'a Tasks,
+    rooms: &[Room],
+) -> Result<Option<&'a Task>, AllocError>
+    ensures { IfOk result (λ o. option_copied o ≡ find (λ t. list_any (λ r. fits tasks.now t r.engine) rooms.now) tasks.now) }
+{
+    if rooms.is_empty() {
+        return Ok(None);
+    }
+    let marks = tasks.marks();
+    let table = tasks.table();
+    let free = waiting_place(table, &marks.free, rooms);
+    let laned = laned_place(alloc, table, &marks.lanes, rooms)?;
+    Ok(tasks.at(lesser(free, laned)))
+}
+
+/// The rooms that take a task, as far as the two go together.
+fn rooms_taking(
+    alloc: Global,
+    table: &Table,
+    rooms: &[Room],
+    task: &Task,
+) -> Result<Vec<Room>, AllocError>
+    ensures { IfOk result (λ v. v.items ≡ filter (λ r. takes table.now task.now r.engine) rooms.now) }
+{
+    rooms
+        .iter()
+        .filter(|r| takes(table, task, r.engine))
+        .copied()
+        .collect(alloc)
 }
 
 /// The rooms where a task may run.
@@ -131,11 +188,11 @@ fn rooms_for(
 ) -> Result<Vec<Room>, AllocError>
     ensures { IfOk result (λ v. v.items ≡ rooms_for table.now rooms.now task.now) }
 {
-    rooms
-        .iter()
-        .filter(|r| is_fitting(table, task, r.engine))
-        .copied()
-        .collect(alloc)
+    if is_ready(table, task) {
+        rooms_taking(alloc, table, rooms, task)
+    } else {
+        Ok(Vec::new(alloc))
+    }
 }
 
 /// The loads of engines.
@@ -173,6 +230,49 @@ fn picked(
     Ok(engine_at(rooms, place))
 }
 
+/// Whether no target, nothing that it follows and no decline keeps a task from an engine.
+fn is_anywhere(task: &Task) -> bool
+    ensures free { result ≡ true → (r : RequestFacts) → task.now.request ≡ Some r → is_tied r ≡ false }
+    ensures none { result ≡ true → task.now.attempts.excluded ≡ [] }
+{
+    if is_tied(task.request()) {
+        false
+    } else {
+        task.attempts().excluded.is_empty()
+    }
+}
+
+/// Whether a task may run on any engine that is live and has room.
+fn takes_any(table: &Table, task: &Task) -> bool
+    ensures { result ≡ true → (n : ℕ) → fits table.now task.now n ≡ true }
+{
+    if is_anywhere(task) {
+        is_ready(table, task)
+    } else {
+        false
+    }
+}
+
+/// The engine that is picked of those where a task may run.
+fn engine_for(
+    alloc: Global,
+    table: &Table,
+    rooms: &[Room],
+    chooser: &Chooser,
+    scheme: Scheme,
+    word: u64,
+    task: &Task,
+) -> Result<Option<u32>, AllocError>
+    ensures { IfOk result (λ n. n ≡ picked scheme word (rooms_for table.now rooms.now task.now)) }
+{
+    if takes_any(table, task) {
+        picked(alloc, chooser, scheme, word, rooms)
+    } else {
+        let fitting = rooms_for(alloc, table, rooms, task)?;
+        picked(alloc, chooser, scheme, word, &fitting)
+    }
+}
+
 /// The hand-out of a task to the engine that is picked of those where it may run.
 fn hand_of(
     alloc: Global,
@@ -185,8 +285,7 @@ fn hand_of(
 ) -> Result<Option<Entry>, AllocError>
     ensures { IfOk result (λ d. d ≡ hand_of table.now rooms.now scheme word task.now) }
 {
-    let fitting = rooms_for(alloc, table, rooms, task)?;
-    match picked(alloc, chooser, scheme, word, &fitting)? {
+    match engine_for(alloc, table, rooms, chooser, scheme, word, task)? {
         Some(engine) => Ok(Some(Entry::Hand {
             id: task.id().clone()?,
             engine,
@@ -206,7 +305,7 @@ pub fn hand_due(
 ) -> Result<Option<Entry>, AllocError>
     ensures { IfOk result (λ d. d ≡ hand_in tasks.now rooms.now scheme word) }
 {
-    match waiting_task(tasks, rooms) {
+    match waiting_task(alloc, tasks, rooms)? {
         Some(task) => hand_of(alloc, tasks.table(), rooms, chooser, scheme, word, task),
         None => Ok(None),
     }

@@ -1,7 +1,6 @@
 //! The one decision that is due, worked out over the data of a cluster.
 #![tactic(auto)]
 
-mod dependencies;
 pub mod due;
 mod failing;
 mod handing;

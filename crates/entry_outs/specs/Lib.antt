@@ -4,3 +4,4 @@ pub mod Memory
 pub mod Reached
 pub mod Repeats
 pub mod Rows
+pub mod Shown

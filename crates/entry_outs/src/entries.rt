@@ -53,10 +53,17 @@ fn message_outs(
 
 /// What a beat sends.
 fn beat_round(alloc: Global, place: u64, state: &State, moment: u64) -> Result<Outs, AllocError>
-    ensures { IfOk result (λ outs. outs ≡ map (beat_out state.now.opens place moment (state.now.beats + 1)) state.now.engines.items) }
+    ensures { IfOk result (λ outs. outs ≡ map (beat_out state.now.opens place moment (state.now.beats + 1)) state.now.engines) }
 {
     let beat = one_more(state.beats)?;
-    let outs = beat_outs(alloc, state.opens, place, moment, beat, &state.engines)?;
+    let outs = beat_outs(
+        alloc,
+        state.opens,
+        place,
+        moment,
+        beat,
+        state.engines.as_slice(),
+    )?;
     Ok(outs)
 }
 

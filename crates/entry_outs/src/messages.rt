@@ -21,7 +21,6 @@ use crate::questions::query_outs;
 use crate::rows::Rows;
 use cluster_defs::answer::Answer;
 use cluster_defs::engine::Joining;
-use cluster_state::engines::{joining, number_on};
 use cluster_state::state::State;
 use cluster_types::config::Channel;
 use cluster_types::event::Event;
@@ -84,16 +83,16 @@ fn join_answer(alloc: Global, next: u32, joining: Joining) -> Result<Answer, All
 fn join_on(alloc: Global, state: &State, conn: u32, uuid: &Text) -> Result<Answer, AllocError>
     ensures { IfOk result (λ a. a ≡ join_answer (plain state.now).engines.next (joining (plain state.now).engines conn uuid.now)) }
 {
-    let joining = joining(&state.engines, state.next_engine, conn, uuid);
+    let joining = state.engines.joining(state.next_engine, conn, uuid);
     let answer = join_answer(alloc, state.next_engine, joining)?;
     Ok(answer)
 }
 
 /// What an engine's leave on a connection is answered.
 fn leave_on(alloc: Global, state: &State, conn: u32) -> Result<Answer, AllocError>
-    ensures { IfOk result (λ a. a ≡ leave_answer (left_engine state.now.engines.items conn (Some Event.Leave))) }
+    ensures { IfOk result (λ a. a ≡ leave_answer (left_engine state.now.engines conn (Some Event.Leave))) }
 {
-    match number_on(&state.engines, conn) {
+    match state.engines.number_on(conn) {
         Some(_) => ok_answer(alloc),
         None => refusal(alloc, "NotJoined", "", &Ids::new(alloc)),
     }
@@ -193,7 +192,7 @@ fn leave_outs(
     state: &State,
     message: &SharedMessage,
 ) -> Result<Outs, AllocError>
-    ensures { IfOk result (λ outs. outs ≡ answer_out slip.opens slip.place slip.conn slip.moment (codes "unregistration_reply") message.now.header (Some (leave_answer (left_engine state.now.engines.items slip.conn (Some Event.Leave))))) }
+    ensures { IfOk result (λ outs. outs ≡ answer_out slip.opens slip.place slip.conn slip.moment (codes "unregistration_reply") message.now.header (Some (leave_answer (left_engine state.now.engines slip.conn (Some Event.Leave))))) }
 {
     let answer = leave_on(alloc, state, slip.conn)?;
     let outs = answered_as(alloc, slip, "unregistration_reply", message, answer)?;

@@ -20,7 +20,6 @@ ghost use Rattle.cluster_defs.specs.declared.connection.Connection.{Connection a
 
 use cluster_defs::connection::Connection;
 use cluster_state::attempts::engine_of;
-use cluster_state::engines::conn_of;
 use cluster_state::outcomes::outcome_for;
 use cluster_state::request::Owner;
 use cluster_state::state::State;
@@ -120,10 +119,10 @@ fn hand_out(alloc: Global, state: &State, id: &Text) -> Result<Option<SharedMess
 
 /// What a Hand sends: the request, to the engine.
 pub fn hand_outs(alloc: Global, state: &State, id: &Text, engine: u32) -> Result<Outs, AllocError>
-    ensures { IfOk result (λ outs. outs ≡ pass_to (conn_in engine state.now.engines.items) (hand_out (facts_in (plain state.now)) id.now)) }
+    ensures { IfOk result (λ outs. outs ≡ pass_to (conn_in engine state.now.engines) (hand_out (facts_in (plain state.now)) id.now)) }
 {
     let message = hand_out(alloc, state, id)?;
-    let outs = pass_to(alloc, conn_of(&state.engines, engine), message)?;
+    let outs = pass_to(alloc, state.engines.conn_of(engine), message)?;
     Ok(outs)
 }
 

@@ -97,7 +97,7 @@ fn query_answer(
     ensures { IfOk result (λ a. a ≡ answer (facts_in (plain state.now)) channel query.now msg_type.now) }
 {
     let rows = Rows::new(state);
-    let live = asked_live(alloc, query, &state.engines)?;
+    let live = asked_live(alloc, query, state.engines.as_slice())?;
     let answer = answer(alloc, &rows, &live, channel, query, msg_type)?;
     Ok(answer)
 }

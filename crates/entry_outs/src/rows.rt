@@ -1,20 +1,35 @@
 //! The records of all tasks, as questions are answered off them.
 
-ghost use Rattle.std.specs.Prelude.{◌≡◌, map};
+ghost use Rattle.std.specs.Prelude.{◌≡◌, map, option_map};
 ghost use Rattle.cluster_types.specs.Records.{AreRecords};
+ghost use Rattle.dense_numbers.specs.Counts.{count_of};
 ghost use Rattle.cluster_state.specs.Stands.{plain};
 ghost use Rattle.entry_outs.specs.Reached.{Reached};
+ghost use Rattle.entry_outs.specs.Shown.{LoadsShown};
 
 use cluster_state::state::State;
 use cluster_state::tasks::Tasks;
 use cluster_types::record::{Record, Records};
 use cluster_types::text::Text;
+use dense_numbers::counts::count;
+use hub_queries::lengths::{Lengths, QueueCounts};
 
 /// The records of all tasks of a cluster, in order of number.
 #[derive(Drop)]
 pub struct Rows<'a> {
     tasks: &'a Tasks,
     ghost sound: { AreRecords (map (λ t. t.row) tasks.now) },
+    ghost shown: { LoadsShown tasks.now },
+}
+
+/// The count of a number, where there are counts.
+fn kept(counts: &Option<Vec<u32>>, number: u32) -> Option<u32>
+    ensures { result ≡ option_map (λ counts. count_of counts.items number) counts.now }
+{
+    match counts {
+        Some(counts) => Some(count(counts, number)),
+        None => None,
+    }
 }
 
 impl<'a> Rows<'a> {
@@ -54,5 +69,24 @@ impl<'a> Records for Rows<'a> {
             Some(task) => Some(task.row()),
             None => None,
         }
+    }
+}
+
+impl<'a> QueueCounts for Rows<'a> {
+    fn waiting(&self) -> Option<u32> {
+        let tallies = self.tasks.tallies();
+        kept(&tallies.unassigned, 0)
+    }
+
+    fn queue(&self, engine: u32) -> Option<Lengths> {
+        let tallies = self.tasks.tallies();
+        let queue = kept(&tallies.directs, engine)?;
+        let completed = kept(&tallies.finished, engine)?;
+        let tasks = kept(&tallies.loads, engine)?;
+        Some(Lengths {
+            queue,
+            completed,
+            tasks,
+        })
     }
 }

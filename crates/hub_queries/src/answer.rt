@@ -8,6 +8,7 @@ ghost use Rattle.cluster_defs.specs.declared.answer.Answer.{Answer};
 ghost use Rattle.hub_queries.specs.Ascending.{Ascends};
 
 use crate::engines::LiveEngines;
+use crate::lengths::QueueCounts;
 use crate::limits::{limited, plain, refusal};
 use crate::queues::{connection_answer, history_answer, queues_answer};
 use crate::results::result_answer;
@@ -15,7 +16,6 @@ use cluster_defs::answer::Answer;
 use cluster_types::config::Channel;
 use cluster_types::event::Query;
 use cluster_types::octets::Octets;
-use cluster_types::record::Records;
 use cluster_types::sequence::Sequence;
 use cluster_types::text::Text;
 use std::alloc::{AllocError, Global};
@@ -76,7 +76,7 @@ fn within(
 
 /// The answer to a question that came on a channel in a message of a type, off the records of all tasks and the live
 /// engines. On the hub's channel an answer past a limit gives way to a refusal.
-pub fn answer<R: Records>(
+pub fn answer<R: QueueCounts>(
     alloc: Global,
     table: &R,
     live: &LiveEngines,

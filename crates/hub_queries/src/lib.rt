@@ -3,6 +3,7 @@
 
 pub mod answer;
 pub mod engines;
+pub mod lengths;
 pub mod limits;
 mod queues;
 mod results;

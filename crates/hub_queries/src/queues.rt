@@ -13,9 +13,10 @@ ghost use Rattle.hub_queries.specs.Rows.{row_of};
 ghost use Rattle.hub_queries.specs.Tallies.{tallied};
 
 use crate::engines::{LiveEngines, asked, first_missing, numbers_of};
+use crate::lengths::QueueCounts;
 use crate::limits::{plain, refusal};
-use crate::rows::{Row, rows_of};
-use crate::scan::{Kind, tally_of};
+use crate::rows::{Row, shown_rows};
+use crate::scan::{Kind, tally_of, waiting};
 use crate::tally::Tally;
 use cluster_defs::answer::Answer;
 use cluster_types::message::Engines;
@@ -146,7 +147,7 @@ fn no_such_engine(alloc: Global, number: u32) -> Result<Answer, AllocError>
 
 /// The answer on the queues of the listed engines; an empty list asks for all. With `verbose` it has the ids in the
 /// place of their numbers.
-pub fn queues_answer<R: Records>(
+pub fn queues_answer<R: QueueCounts>(
     alloc: Global,
     table: &R,
     live: &LiveEngines,
@@ -162,8 +163,8 @@ pub fn queues_answer<R: Records>(
         return Ok(refused);
     }
     let asked = asked(alloc, numbers.as_slice(), targets.as_slice())?;
-    let unassigned = tally_of(alloc, table, Kind::Waiting, verbose)?;
-    let rows = rows_of(alloc, table, asked.as_slice(), verbose)?;
+    let unassigned = waiting(alloc, table, verbose)?;
+    let rows = shown_rows(alloc, table, asked.as_slice(), verbose)?;
     let text = queue_text(alloc, &unassigned, rows.as_slice())?;
     Ok(plain(alloc, Octets::from_string(text)?))
 }

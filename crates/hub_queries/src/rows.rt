@@ -1,11 +1,14 @@
 //! The queues of the engines that are asked for, off the records in one pass.
 
-ghost use Rattle.std.specs.Prelude.{◌≡◌, ◌+◌, ◌<◌, ◌^◌, ◌++◌, ◌∷◌, [], Bool, List, Some, is_some, not, ◌&&◌, length, map, take, IfOk, OnOk};
+ghost use Rattle.std.specs.Prelude.{◌≡◌, ◌+◌, ◌<◌, ◌^◌, ◌++◌, ◌∷◌, [], Bool, false, List, Some, is_some, not, ◌&&◌, length, map, take, IfOk, IfSome, OnOk};
 ghost use Rattle.cluster_types.specs.declared.record.Record.{Record};
+ghost use Rattle.cluster_defs.specs.RecordAnswers.{queue_in};
 ghost use Rattle.hub_queries.specs.Ascending.{Ascends};
+ghost use Rattle.hub_queries.specs.Lengths.{lengths_of};
 ghost use Rattle.hub_queries.specs.Rows.{row_of};
 
 use crate::engines::place_of;
+use crate::lengths::{Lengths, QueueCounts};
 use crate::tally::Tally;
 use cluster_types::record::{Record, Records};
 use std::alloc::{AllocError, Global};
@@ -43,6 +46,36 @@ fn empty_rows(alloc: Global, numbers: &[u32], verbose: bool) -> Result<Vec<Row>,
         rows.push(empty_row(alloc, *number, verbose))?;
     }
     Ok(rows)
+}
+
+/// The row of an engine that has so many ids.
+fn counted_row(alloc: Global, number: u32, lengths: Lengths) -> Row
+    ensures { (records : List Record) → lengths ≡ lengths_of (queue_in records number) → result ≡ row_of false records number }
+{
+    Row {
+        number,
+        queue: Tally::counted(alloc, lengths.queue),
+        completed: Tally::counted(alloc, lengths.completed),
+        tasks: Tally::counted(alloc, lengths.tasks),
+    }
+}
+
+/// The rows of these engines without ids, off the numbers that are kept, where all are.
+fn counted_rows<R: QueueCounts>(
+    alloc: Global,
+    table: &R,
+    numbers: &[u32],
+) -> Result<Option<Vec<Row>>, AllocError>
+    ensures { IfOk result (λ o. IfSome o (λ v. v.items ≡ map (row_of false (R.records table.now)) numbers.now)) }
+{
+    let mut rows = Vec::new(alloc);
+    for number in numbers {
+        let Some(lengths) = table.queue(*number) else {
+            return Ok(None);
+        };
+        rows.push(counted_row(alloc, *number, lengths))?;
+    }
+    Ok(Some(rows))
 }
 
 /// Whether it was sent to its engine alone, and runs.
@@ -106,7 +139,7 @@ fn add_place<R: Records>(
 }
 
 /// The rows of these engines, off all records.
-pub fn rows_of<R: Records>(
+fn rows_of<R: Records>(
     alloc: Global,
     table: &R,
     numbers: &[u32],
@@ -120,4 +153,23 @@ pub fn rows_of<R: Records>(
         add_place(rows.as_mut_slice(), alloc, table, place, numbers, verbose)?;
     }
     Ok(rows)
+}
+
+/// The rows of these engines. Without `verbose` no record is looked at where the numbers are kept.
+pub fn shown_rows<R: QueueCounts>(
+    alloc: Global,
+    table: &R,
+    numbers: &[u32],
+    verbose: bool,
+) -> Result<Vec<Row>, AllocError>
+    requires { Ascends numbers.now }
+    ensures { IfOk result (λ v. v.items ≡ map (row_of verbose (R.records table.now)) numbers.now) }
+{
+    if verbose {
+        return rows_of(alloc, table, numbers, true);
+    }
+    match counted_rows(alloc, table, numbers)? {
+        Some(rows) => Ok(rows),
+        None => rows_of(alloc, table, numbers, false),
+    }
 }

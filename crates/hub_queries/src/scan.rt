@@ -2,11 +2,12 @@
 
 ghost use Rattle.std.specs.Prelude.{◌≡◌, ◌+◌, ◌<◌, ◌^◌, ◌++◌, Bool, List, length, IfOk, OnOk};
 ghost use Rattle.std.specs.Option.{option_copied};
-ghost use Rattle.cluster_defs.specs.RecordAnswers.{ids_where};
+ghost use Rattle.cluster_defs.specs.RecordAnswers.{ids_where, waits_in};
 ghost use Rattle.cluster_defs.specs.Words.{Id};
 ghost use Rattle.hub_queries.specs.Kinds.{is_kind, id_if};
 ghost use Rattle.hub_queries.specs.Tallies.{tallied};
 
+use crate::lengths::QueueCounts;
 use crate::tally::Tally;
 use cluster_types::record::{Record, Records};
 use std::alloc::{AllocError, Global};
@@ -60,4 +61,18 @@ pub fn tally_of<R: Records>(
         add_kind(&mut tally, alloc, kind, table.at(place))?;
     }
     Ok(tally)
+}
+
+/// The unsettled ids that are for any engine and without a current attempt. Without `verbose` no record is looked at where
+/// their number is kept.
+pub fn waiting<R: QueueCounts>(alloc: Global, table: &R, verbose: bool) -> Result<Tally, AllocError>
+    ensures { IfOk result (λ t. t ≡ tallied verbose (ids_where waits_in (R.records table.now))) }
+{
+    if verbose {
+        return tally_of(alloc, table, Kind::Waiting, true);
+    }
+    match table.waiting() {
+        Some(count) => Ok(Tally::counted(alloc, count)),
+        None => tally_of(alloc, table, Kind::Waiting, false),
+    }
 }

@@ -1,6 +1,6 @@
 //! Ids that are counted and, where that is asked, listed.
 
-ghost use Rattle.std.specs.Prelude.{◌≡◌, ◌+◌, ◌<◌, ◌^◌, ◌++◌, ◌∷◌, [], Bool, List, length, map, if◌then◌else◌, IfOk, OnOk, string_bytes};
+ghost use Rattle.std.specs.Prelude.{◌≡◌, ◌+◌, ◌<◌, ◌^◌, ◌++◌, ◌∷◌, [], Bool, false, List, length, map, if◌then◌else◌, IfOk, OnOk, string_bytes};
 ghost use Rattle.json.specs.Print.{quoted};
 ghost use Rattle.message_defs.specs.Texts.{counted};
 ghost use Rattle.cluster_defs.specs.Words.{Id};
@@ -47,6 +47,17 @@ impl Tally {
         Tally {
             verbose,
             count: 0,
+            listed: String::new(alloc),
+        }
+    }
+
+    /// The tally of so many ids, which are counted alone.
+    pub fn counted(alloc: Global, count: u32) -> Tally
+        ensures { (ids : List Id) → count ≡ length ids → result ≡ tallied false ids }
+    {
+        Tally {
+            verbose: false,
+            count: count as usize,
             listed: String::new(alloc),
         }
     }

@@ -1,8 +1,7 @@
 -- Changes at the members of a set that covers all that a change changes.
-use Rattle.std.proofs.Common.{◌≡◌, ap, sym, ◌∙◌, ℕ, zero, suc, ◌+◌, ◌<◌, List, [], ◌∷◌, map, Bool, true, false, cond, ◌||◌, refl, subst, Option, Some, None, arith}
+use Rattle.std.proofs.Common.{◌≡◌, ap, sym, ◌∙◌, ℕ, zero, suc, ◌<◌, List, [], ◌∷◌, map, Bool, true, false, ◌||◌, refl, subst, Option, Some, None, arith}
 use Rattle.std.specs.Prelude.{slice_get, option_map}
 use Rattle.std.specs.Ordering.{nat_cmp}
-use Rattle.std.specs.List.{list_any, AllByRecursion}
 use Rattle.std.specs.List.Sorted.{IsStrictlySortedBy}
 use Rattle.std.specs.BTreeSet.{BTreeSet}
 use Rattle.std.specs.BTreeMap.{is_at}
@@ -29,7 +28,7 @@ apart_at f zero (x ∷ xs) (suc i) other = refl
 apart_at f (suc place) (x ∷ xs) zero other = refl
 apart_at f (suc place) (x ∷ xs) (suc i) other = apart_at f place xs i (λ e. other (ap suc e))
 
-here_at : {X : Type 0} (f : X → X) (place : ℕ) (xs : List X) → slice_get (at_place f place xs) place ≡ option_map f (slice_get xs place)
+pub here_at : {X : Type 0} (f : X → X) (place : ℕ) (xs : List X) → slice_get (at_place f place xs) place ≡ option_map f (slice_get xs place)
 here_at f place [] = refl
 here_at f zero (x ∷ xs) = refl
 here_at f (suc place) (x ∷ xs) = here_at f place xs
@@ -39,7 +38,7 @@ map_get f [] i = refl
 map_get f (x ∷ xs) zero = refl
 map_get f (x ∷ xs) (suc i) = map_get f xs i
 
-others : {X : Type 0} (f : X → X) (ms : List ℕ) (xs : List X) (i : ℕ) → member ms i ≡ false → slice_get (at_places f ms xs) i ≡ slice_get xs i
+pub others : {X : Type 0} (f : X → X) (ms : List ℕ) (xs : List X) (i : ℕ) → member ms i ≡ false → slice_get (at_places f ms xs) i ≡ slice_get xs i
 others f [] xs i off = refl
 others f (m ∷ ms) xs i off =
     others f ms (at_place f m xs) i (off_from (member ms i) (λ on. both_ways (member (m ∷ ms) i) off (later (is_at (nat_cmp i) m) (member ms i) on)))

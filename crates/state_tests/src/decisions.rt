@@ -18,6 +18,7 @@ use cluster_types::verdict::{Cause, Verdict};
 use due_decisions::due::due;
 use load_schemes::chooser::{Choose, Chooser};
 use load_schemes::place::place_of;
+use place_sets::lanes::Lanes;
 use std::alloc::Global;
 use std::process::Abort;
 
@@ -313,4 +314,57 @@ fn worked_decisions(rt: HostRuntime) {
     decides(&rt, &chooser, state, "a", Outcome::Handed(0));
     let state = with_beats(&rt, alloc, 2);
     decides(&rt, &chooser, state, "a", Outcome::Lost(0));
+}
+
+/// A Submit whose targets are the engines 0 and 1, with a timeout of five seconds.
+fn bound<R: Abort>(rt: &R, alloc: Global) -> Request {
+    let mut request = impatient(rt, alloc);
+    let uuid = text(rt, alloc, "e");
+    request.listed.push(uuid).expect(rt, "memory is ample");
+    request.targets.push(0).expect(rt, "memory is ample");
+    request.targets.push(1).expect(rt, "memory is ample");
+    request
+}
+
+/// Whether the first task is in these sets and lanes alone: of those that may run, on engine 0, on engine 1; of those that
+/// may fail, by engine 0, by engine 1.
+fn stands(state: &State, wanted: [bool; 6]) -> bool {
+    let marks = state.tasks.marks();
+    let found = [
+        marks.free.contains(&0),
+        has_first(&marks.lanes, 0),
+        has_first(&marks.lanes, 1),
+        marks.doubtful.contains(&0),
+        has_first(&marks.watches, 0),
+        has_first(&marks.watches, 1),
+    ];
+    found == wanted
+}
+
+/// Whether the lane of a number has the first place.
+fn has_first(lanes: &Lanes, number: u64) -> bool {
+    match lanes.as_map().get(&number) {
+        Some(lane) => lane.contains(&0),
+        None => false,
+    }
+}
+
+#[test]
+fn a_bound_task_is_watched_by_one_engine(rt: HostRuntime) {
+    let alloc = rt.alloc();
+    let mut state = two_engines(&rt, alloc);
+    add(&rt, alloc, &mut state.tasks, "a", bound(&rt, alloc));
+    assert!(rt; stands(&state, [false, true, true, false, true, false]));
+    assert!(rt; has_first(&state.tasks.marks().deadlines, 6000));
+    state.end_engine(0).expect(&rt, "memory is ample");
+    assert!(rt; stands(&state, [false, true, true, false, false, true]));
+    let chooser = new_chooser(&rt, alloc);
+    assert_eq!(rt;
+        decided(&rt, alloc, &chooser, &state, "a"),
+        Outcome::Handed(1)
+    );
+    state.end_engine(1).expect(&rt, "memory is ample");
+    assert!(rt; stands(&state, [false, true, true, true, false, false]));
+    let impossible = Outcome::Failed(Cause::ImpossibleDependency);
+    assert_eq!(rt; decided(&rt, alloc, &chooser, &state, "a"), impossible);
 }

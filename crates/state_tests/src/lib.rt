@@ -7,6 +7,10 @@ mod beside;
 #[cfg(test)]
 mod decisions;
 #[cfg(test)]
+mod lanes;
+#[cfg(test)]
+mod registry;
+#[cfg(test)]
 mod schemes;
 #[cfg(test)]
 mod state;

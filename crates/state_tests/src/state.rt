@@ -6,10 +6,7 @@ use cluster_defs::acceptance::Acceptance;
 use cluster_defs::engine::{Engine, Joining};
 use cluster_state::acceptance::{connection_on, is_invalid, is_known, targets_of};
 use cluster_state::attempts::{Attempts, Ending, engine_of, is_never, one_more, runs, runs_at};
-use cluster_state::engines::{
-    conn_of, end_engine, engine_named, engine_on, joining, mark_on, number_on, raises_some,
-    use_engine,
-};
+use cluster_state::engines::use_engine;
 use cluster_state::state::State;
 use cluster_types::config::{Channel, Scheme};
 use cluster_types::entry::{Entry, Input};
@@ -159,13 +156,13 @@ fn reply<R: Abort>(rt: &R, alloc: Global, state: &mut State, header: &str) -> bo
 /// What comes of it that an engine with this uuid joins on a connection.
 fn joining_on<R: Abort>(rt: &R, alloc: Global, state: &State, conn: u32, uuid: &str) -> Joining {
     let uuid = text(rt, alloc, uuid);
-    joining(&state.engines, state.next_engine, conn, &uuid)
+    state.engines.joining(state.next_engine, conn, &uuid)
 }
 
 /// The engines with these uuids.
 fn targets<R: Abort>(rt: &R, alloc: Global, state: &State, uuids: &[&str]) -> Engines {
     let listed = ids(rt, alloc, uuids);
-    targets_of(alloc, &state.engines, listed.as_slice()).expect(rt, "memory is ample")
+    targets_of(alloc, state.engines.as_slice(), listed.as_slice()).expect(rt, "memory is ample")
 }
 
 fn beats<R: Abort>(rt: &R, state: &mut State) {
@@ -174,7 +171,7 @@ fn beats<R: Abort>(rt: &R, state: &mut State) {
 
 /// Whether this echo on connection 1 raises a mark.
 fn would_raise(state: &State, beat: u64) -> bool {
-    raises_some(&state.engines, 1, beat)
+    state.engines.raises(1, beat)
 }
 
 /// Whether this echo on connection 1 is taken.
@@ -183,7 +180,7 @@ fn echoes(state: &mut State, beat: u64) -> bool {
 }
 
 fn marks(state: &mut State, beat: u64) {
-    mark_on(&mut state.engines, 1, beat);
+    state.engines.mark(1, beat);
 }
 
 /// Whether the engine on connection 1 leaves.
@@ -199,7 +196,7 @@ fn is_connected(state: &State, conn: u32) -> bool {
 fn connections_and_engines(rt: HostRuntime) {
     let alloc = rt.alloc();
     let mut state = joined(&rt, alloc);
-    assert!(rt; state.next_engine == 1 && number_on(&state.engines, 1) == Some(0));
+    assert!(rt; state.next_engine == 1 && state.engines.number_on(1) == Some(0));
     assert_eq!(rt;
         joining_on(&rt, alloc, &state, 1, "e0"),
         Joining::Repeat { engine: 0 }
@@ -240,13 +237,13 @@ fn used<R: Abort>(rt: &R, alloc: Global) -> Vec<u32> {
 fn an_engine_is_found(rt: HostRuntime) {
     let mut state = joined(&rt, rt.alloc());
     assert!(rt;
-        engine_on(&state.engines, 1).is_some()
-            && engine_named(&state.engines, b"e0").is_some()
-            && engine_named(&state.engines, b"e1").is_none()
-            && conn_of(&state.engines, 0) == Some(1)
+        state.engines.on(1).is_some()
+            && state.engines.named(b"e0").is_some()
+            && state.engines.named(b"e1").is_none()
+            && state.engines.conn_of(0) == Some(1)
     );
-    end_engine(&mut state.engines, 0);
-    assert!(rt; engine_on(&state.engines, 1).is_none());
+    state.engines.end(0);
+    assert!(rt; state.engines.on(1).is_none());
     let by_use = used(&rt, rt.alloc());
     assert!(rt; by_use.as_slice() == [1, 0].as_slice());
 }
@@ -414,6 +411,64 @@ fn loads_follow_the_tasks(rt: HostRuntime) {
     assert!(rt; load_of(&state, 0) == Some(0));
 }
 
+/// Whether a number has this count.
+fn counts_are(counts: &Option<Vec<u32>>, number: u32, wanted: u32) -> bool {
+    match counts {
+        Some(counts) => count(counts, number) == wanted,
+        None => false,
+    }
+}
+
+/// Whether so many Submits wait, so many Submits and Directs run on engine 0, and so many tasks finished there.
+fn numbers_are(state: &State, unassigned: u32, loads: u32, directs: u32, finished: u32) -> bool {
+    let tallies = state.tasks.tallies();
+    counts_are(&tallies.unassigned, 0, unassigned)
+        && counts_are(&tallies.loads, 0, loads)
+        && counts_are(&tallies.directs, 0, directs)
+        && counts_are(&tallies.finished, 0, finished)
+}
+
+/// Whether a request with this id, to engine 0 alone, is accepted on connection 2.
+fn directs<R: Abort>(rt: &R, alloc: Global, state: &mut State, id: &str) -> bool {
+    let buffers = Sequence::new(alloc);
+    let request = SharedMessage::new(alloc, b"e0", b"h", b"{}", b"{}", b"{}", buffers).expect(
+        rt,
+        "memory is ample",
+    );
+    let submission = submission(rt, alloc, id);
+    state
+        .take_demand(2, 5, &request, true, &submission)
+        .expect(rt, "memory is ample")
+}
+
+#[test]
+fn numbers_follow_attempts(rt: HostRuntime) {
+    let alloc = rt.alloc();
+    let mut state = accepted(&rt, alloc);
+    assert!(rt; numbers_are(&state, 1, 0, 0, 0));
+    hand(&rt, alloc, &mut state);
+    assert!(rt; numbers_are(&state, 0, 1, 0, 0));
+    assert!(rt; directs(&rt, alloc, &mut state, "d"));
+    assert!(rt; numbers_are(&state, 0, 1, 0, 0));
+    let direct = text(&rt, alloc, "d");
+    state.hand(&direct, 0, true).expect(&rt, "memory is ample");
+    assert!(rt; numbers_are(&state, 0, 1, 1, 0));
+    ends_engine(&rt, &mut state);
+    assert!(rt; numbers_are(&state, 1, 0, 0, 0));
+}
+
+#[test]
+fn numbers_follow_what_finished(rt: HostRuntime) {
+    let alloc = rt.alloc();
+    let mut state = handed(&rt, alloc);
+    assert!(rt; reply(&rt, alloc, &mut state, "r"));
+    let _ = settle(&rt, &mut state, text(&rt, alloc, "a"));
+    assert!(rt; numbers_are(&state, 0, 0, 0, 1));
+    let listed = ids(&rt, alloc, &["a"]);
+    assert!(rt; purges(&rt, &mut state, &listed));
+    assert!(rt; numbers_are(&state, 0, 0, 0, 0));
+}
+
 #[test]
 fn a_task_is_settled_once(rt: HostRuntime) {
     let alloc = rt.alloc();
@@ -422,7 +477,7 @@ fn a_task_is_settled_once(rt: HostRuntime) {
         assert!(rt; reply(&rt, alloc, &mut state, header) == counts);
     }
     let _ = settle(&rt, &mut state, text(&rt, alloc, "a"));
-    assert!(rt; state.tasks.len() == 1 && state.tasks.marks().ready.is_empty());
+    assert!(rt; state.tasks.len() == 1 && state.tasks.marks().free.is_empty());
     assert!(rt; is_settled(&state, &text(&rt, alloc, "a")));
     let listed = ids(&rt, alloc, &["a"]);
     assert!(rt; resubmits(&rt, &mut state, &listed));

@@ -4,6 +4,7 @@ use Rattle.place_sets.proofs.Sweeping.{sweep}
 use Rattle.cluster_state.specs.Seen.{ended_on, on_unsettled}
 use Rattle.cluster_state.specs.Marking.{HasAll}
 use Rattle.cluster_state.specs.Standing.{runs_open}
+use Rattle.cluster_state.proofs.Watching.{at_ok}
 use Rattle.cluster_state.proofs.Marking.{marked_grown, marked_aside, idle_ended}
 use Rattle.cluster_state.proofs.tasks.end_in.Goals as goal
 
@@ -11,8 +12,8 @@ pub returns-clause-ok : goal.returns-clause-ok
 returns-clause-ok c =
     let ts = c.args.table.now in
     let f = on_unsettled (ended_on c.args.engine) in
-    c.in_ok-end_all.ensures.ok ∙ ap (λ ps. at_places f ps ts) (c.deref-2.ensures.value ∙ c.in_ok-places.ensures.places)
-    ∙ sweep runs_open f ts c.args.marks.now.running c.in_ok-places.ensures.sorted c.requires.running (idle_ended c.args.engine)
+    at_ok c.watch_anew.result (c.in_ok-end_all.ensures.ok ∙ ap (λ ps. at_places f ps ts) (c.deref-2.ensures.value ∙ c.in_ok-places.ensures.places)
+    ∙ sweep runs_open f ts c.args.marks.now.running c.in_ok-places.ensures.sorted c.requires.running (idle_ended c.args.engine))
 
 pub tidy_all-requires : goal.tidy_all-requires
 tidy_all-requires c =

@@ -1,7 +1,6 @@
 use Rattle.std.proofs.Common.{ap, ◌∙◌}
 use Rattle.std.specs.Prelude.{slice_get, find}
-use Rattle.std.specs.Option.{option_and_then, is_some}
-use Rattle.std.specs.List.{list_any}
+use Rattle.std.specs.Option.{option_and_then}
 use Rattle.place_sets.specs.Sets.{holds_at}
 use Rattle.place_sets.proofs.Covering.{find_covered}
 use Rattle.cluster_state.specs.Standing.{direct_at}

@@ -20,8 +20,8 @@ returns-in-Some g c =
     ∙ ap (find (λ n. not (list_any (λ m. nat_eq m n) (map (λ e. e.0) live)))) listed ∙ missing_same live targets in
     c.in_ok-refused.ensures ∙ ap (queues_in (g.R.Records.records c.args.table.now) live targets c.args.verbose) missing
 
-pub rows_of-requires : goal.rows_of-requires
-rows_of-requires g c =
+pub shown_rows-requires : goal.shown_rows-requires
+shown_rows-requires g c =
     let live = c.args.live.now in
     let targets = c.args.targets.now in
     let numbers : c.as_slice-3.result.now ≡ map (λ e. e.0) live = c.as_slice-3.ensures.value ∙ c.in_ok-numbers.ensures in

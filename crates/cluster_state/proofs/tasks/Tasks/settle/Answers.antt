@@ -1,8 +1,8 @@
-use Rattle.std.proofs.Common.{subst, sym, ap, ◌∙◌, None}
+use Rattle.std.proofs.Common.{subst, sym, ap, ◌∙◌}
 use Rattle.cluster_state.specs.Seen.{settled_with, settled_as, changed}
 use Rattle.cluster_state.specs.Places.{Beside}
 use Rattle.cluster_state.proofs.Places.{at_is_changed, none_is_changed}
-use Rattle.cluster_state.proofs.Loading.{beside_lost, beside_moved}
+use Rattle.cluster_state.proofs.Tallying.{beside_lost, beside_moved}
 use Rattle.cluster_state.proofs.tasks.Tasks.settle.Goals as goal
 
 pub invariant_of-self : goal.invariant_of-self
@@ -10,7 +10,7 @@ invariant_of-self c =
     let us = c.settle_in.new.table in
     let n = c.settle_in.new.marks in
     let waits = c.self.inside.waiters in
-    subst (λ o. Beside us n waits o) (sym c.take-kept.ensures.after) (beside_lost c.self.inside.table us c.self.inside.marks n waits c.self.inside.counts c.self.invariant c.settle_in.ensures.requests c.settle_in.ensures.marked)
+    subst (λ o. Beside us n waits o) (sym c.take-kept.ensures.after) (beside_lost c.self.inside.table us c.self.inside.marks n waits c.self.inside.tallies c.self.invariant c.settle_in.ensures.requests c.settle_in.ensures.marked)
 
 pub invariant_of-self-in_err-follow : goal.invariant_of-self-in_err-follow
 invariant_of-self-in_err-follow c =
@@ -18,13 +18,13 @@ invariant_of-self-in_err-follow c =
     let n = c.settle_in.new.marks in
     let waits = c.self.inside.waiters in
     subst (λ o. Beside us n waits o) (sym (c.in_err-follow.ensures.err ∙ c.take-kept.ensures.after))
-    (beside_lost c.self.inside.table us c.self.inside.marks n waits c.self.inside.counts c.self.invariant c.settle_in.ensures.requests c.settle_in.ensures.marked)
+    (beside_lost c.self.inside.table us c.self.inside.marks n waits c.self.inside.tallies c.self.invariant c.settle_in.ensures.requests c.settle_in.ensures.marked)
 
 pub invariant_of-self-in-Continue-branch-2 : goal.invariant_of-self-in-Continue-branch-2
 invariant_of-self-in-Continue-branch-2 c =
     let f = settled_with (settled_as c.args.settled) c.args.outcome in
-    beside_moved f c.in-Some.place c.self.inside.table c.settle_in.new.table c.self.inside.marks c.settle_in.new.marks c.self.inside.waiters c.self.inside.counts c.take-kept.result c.follow.new.counts c.loaded_at-before.result c.loaded_at.result
-    c.self.invariant c.take-kept.ensures.value c.settle_in.ensures.requests c.settle_in.ensures.marked c.in_ok-settle_in.ensures.ok c.loaded_at-before.ensures c.loaded_at.ensures c.in_ok-follow.ensures.ok
+    beside_moved f c.in-Some.place c.self.inside.table c.settle_in.new.table c.self.inside.marks c.settle_in.new.marks c.self.inside.waiters c.self.inside.tallies c.take-kept.result c.follow.new.tallies c.classes_at-before.result c.classes_at.result
+    c.self.invariant c.take-kept.ensures.value c.settle_in.ensures.requests c.settle_in.ensures.marked c.in_ok-settle_in.ensures.ok c.classes_at-before.ensures c.classes_at.ensures c.in_ok-follow.ensures.ok
 
 pub returns-in_ok-follow : goal.returns-in_ok-follow
 returns-in_ok-follow c =

@@ -1,0 +1,4 @@
+pub mod Apart
+pub mod Keeping
+pub mod Least
+pub mod Telling
