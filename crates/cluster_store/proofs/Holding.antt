@@ -23,11 +23,13 @@ use Rattle.cluster_store.specs.declared.fault.StepError.{StepError}
 use Rattle.cluster_store.specs.declared.fault.StepError.TheVariants.{Reopen, HistoryFull, BatchFull, OutOfMemory}
 use Rattle.cluster_store.specs.declared.waiting.Waiting.{Waiting}
 use Rattle.cluster_store.specs.Queues.{waits, after, need_after}
-use Rattle.cluster_store.specs.Stores.{up_to, written, IsRefused}
+use Rattle.cluster_store.specs.Stores.{up_to, written, of_batch, IsRefused, IsRefusedFor}
 use Rattle.cluster_store.specs.Held.{judged, judged_by, IsHeld, told_of}
 use Rattle.disk_model.specs.Crashes.{LeavesOnly}
 use Rattle.task_journal.specs.Journal.{StandsFor}
 use Rattle.task_journal.specs.Settled.{Outcome}
+use Rattle.task_journal.specs.declared.fault.ExtendFault.{ExtendFault}
+use Rattle.task_journal.specs.declared.fault.ExtendFault.TheVariants as extends
 use Rattle.cluster_store.proofs.Images.{weakened}
 use Rattle.cluster_store.proofs.Opens.{same_stands}
 use Rattle.cluster_store.proofs.Remade.{plan_keeps, plan_allows}
@@ -201,3 +203,15 @@ refused_memory mark limit new es Reopen same fits long either = ⊎_elim (λ is.
 refused_memory mark limit new es (HistoryFull entries bytes) same fits long either = ⊎_elim (λ is. cc) (λ is. cc) either
 refused_memory mark limit new es BatchFull same fits long either = (refl, fits, subst (λ (xs : List Entry). 2 ^ 32 ≤ length (spellings xs)) same (long refl))
 refused_memory mark limit new es OutOfMemory same fits long either = refl
+
+abbrev pub unkept : ExtendFault → Result (Unit {0}) ExtendFault
+unkept fault = Err fault
+
+-- why a step is refused whose kept entries don't go into the batch
+pub refused_batch : (limit : HistorySize) (new : History) (es batch : List Entry) (fault : ExtendFault) (error : StepError) → error ≡ of_batch fault → es ≡ batch → is_past limit (size_since new) ≡ false →
+    (unkept fault ≡ unkept extends.TooLong → 2 ^ 32 ≤ length (spellings es)) → IsRefusedFor limit new batch error
+refused_batch limit new es batch fault error is same fits long = subst (IsRefusedFor limit new batch) (sym is) (by fault long)
+  where
+    by : (f : ExtendFault) → (unkept f ≡ unkept extends.TooLong → 2 ^ 32 ≤ length (spellings es)) → IsRefusedFor limit new batch (of_batch f)
+    by extends.TooLong long = (fits, subst (λ (xs : List Entry). 2 ^ 32 ≤ length (spellings xs)) same (long refl))
+    by extends.OutOfMemory long = tt

@@ -1,4 +1,4 @@
-use Rattle.std.proofs.Common.{◌≡◌, ◌∙◌, ◌++◌, ◌∷◌, ◌≤◌, ◌^◌, List, All, length, false, sym, ap, refl, subst}
+use Rattle.std.proofs.Common.{◌≡◌, ◌∙◌, ◌-◌, ◌++◌, ◌∷◌, ◌≤◌, ◌^◌, List, All, length, false, sym, ap, refl, subst}
 use Rattle.std.proofs.lemmas.List.{length-reverse}
 use Rattle.cluster_types.specs.declared.entry.Entry.{Entry}
 use Rattle.cluster_types.specs.declared.entry.Entry.TheVariants.{Input}
@@ -21,6 +21,29 @@ pub take_memory-requires : goal.take_memory-requires
 take_memory-requires g c =
     subst (All IsWithinLimits) (sym (plan_keeps c.plan.new.self c.in_ok-plan.plan c.self.inside.core.history c.args.input c.in_ok-plan.ensures.ok c.plan.ensures.same c.in_ok-plan.ensures.input))
     (step_fits c.self.inside.core.history c.args.input c.requires.fits)
+
+pub returns-in-Err-clause-err : goal.returns-in-Err-clause-err
+returns-in-Err-clause-err g c =
+    let old = c.self.inside.core.history in
+    let new : StoreView g.row.D.Denot = record {
+      disk = c.self.inside.journal.disk;
+      history = c.plan.new.self.history;
+      limits = c.plan.new.self.limits;
+      mark = c.self.inside.mark;
+      lines = c.take_memory.new.queues;
+      failed = c.self.inside.journal.failed;
+      fulls = c.self.inside.fulls;
+    } in
+    subst (λ (v : StoreView g.row.D.Denot). Becomes v v.history (told v) v.fulls new) c.self.view_is (record {
+      disk = refl;
+      history_is = c.plan.ensures.same;
+      limits = c.plan.ensures.limits;
+      mark = refl;
+      taken_are = λ x. ap (λ (h : History). length (sendings_to h x) - length (left_at c.take_memory.new.queues x)) c.plan.ensures.same
+          ∙ ap (λ (ws : List Waiting). length (sendings_to old x) - length ws) (c.take_memory.ensures.left x);
+      failed = refl;
+      fulls_are = refl;
+    })
 
 pub returns-in-Err-clause-why : goal.returns-in-Err-clause-why
 returns-in-Err-clause-why g c =
