@@ -165,15 +165,13 @@ impl Known {
 
     /// Takes an entry with what its message means.
     fn take(&mut self, entry: &Entry, scratch: &mut Scratch) -> Result<(), AllocError>
-        requires next { IsNext (plain self.old.state) entry.now }
         requires time { InTime entry.now }
         requires now { self.old.state.moment ≤ last_moment }
         ensures data { OnOk result (plain self.new.state ≡ plain_after (facts_in (plain self.old.state)) entry.now (event_in (facts_in (plain self.old.state)) entry.now) (plain self.old.state)) }
         ensures place { OnOk result (self.new.place ≡ entry_place entry.now self.old.place) }
     {
         let event = event_of_entry(self.state.allocator(), &self.state, entry, scratch)?;
-        let ruling = ruling(&self.state, entry, &event)?;
-        self.state.take(entry, &event, ruling)?;
+        self.state.take(entry, &event)?;
         self.place = next_place(self.place, entry)?;
         Ok(())
     }

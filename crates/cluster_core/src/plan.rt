@@ -25,7 +25,6 @@ use cluster_types::out::{Out, Outs};
 use cluster_types::text::Text;
 use due_decisions::due::due;
 use entry_outs::entries::outs;
-use entry_outs::rulings::ruling;
 use load_schemes::chooser::Chooser;
 use std::alloc::{AllocError, Global};
 use std::marker::Model;
@@ -137,9 +136,8 @@ impl Plan {
         let entry = Entry::Input(input.clone()?);
         let place = next_place(place, &entry)?;
         let Meaning { event, msg_type } = meaning;
-        let ruling = ruling(&state, &entry, event)?;
-        let outs = outs(alloc, place, &state, &entry, event, msg_type, &ruling)?.into_vec();
-        let is_kept = state.take(&entry, event, ruling)?;
+        let outs = outs(alloc, place, &state, &entry, event, msg_type)?.into_vec();
+        let is_kept = state.take(&entry, event)?;
         let stops = stops_after(was_stopping, &input, event);
         let kept = kept_one(alloc, is_kept, entry)?;
         Ok(Plan {
@@ -177,11 +175,10 @@ impl Plan {
         let place = next_place(self.known.place, &decision)?;
         let none = Text::new(alloc, "")?;
         let state = &self.known.state;
-        let ruling = ruling(state, &decision, &None)?;
-        let mut outs = outs(alloc, place, state, &decision, &None, &none, &ruling)?.into_vec();
+        let mut outs = outs(alloc, place, state, &decision, &None, &none)?.into_vec();
         self.outs.append(&mut outs)?;
         self.kept.push(same_entry(&decision)?)?;
-        self.known.state.take(&decision, &None, ruling)?;
+        self.known.state.take(&decision, &None)?;
         self.known.place = place;
         self.decisions.push(decision)?;
         Ok(())

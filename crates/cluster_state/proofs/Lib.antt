@@ -15,7 +15,7 @@ pub mod Multiplying
 pub mod Pieces
 pub mod Marking
 pub mod Places
-pub mod Rulings
+pub mod Purging
 pub mod Scattered
 pub mod Steps
 pub mod Tallying

@@ -4,7 +4,6 @@ pub mod Loading
 pub mod Marking
 pub mod Places
 pub mod Plain
-pub mod Ruled
 pub mod Seen
 pub mod Settling
 pub mod Standing

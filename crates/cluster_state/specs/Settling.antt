@@ -3,7 +3,7 @@ use Rattle.std.specs.Prelude.{◌≡◌, ℕ, Option, Some, None}
 use Rattle.cluster_types.specs.declared.verdict.Verdict.{Verdict}
 use Rattle.cluster_types.specs.declared.verdict.Cause.{Cause}
 use Rattle.cluster_defs.specs.Tasks.{settled_as as settled_from}
-use Rattle.cluster_state.specs.declared.settling.Settling.{Settling}
+use Rattle.cluster_state.specs.declared.entries.Settling.{Settling}
 use Rattle.cluster_state.specs.Seen.{Seen, settled_as}
 use Rattle.cluster_state.specs.Plain.{outcome_for}
 

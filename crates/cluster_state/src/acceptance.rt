@@ -361,12 +361,11 @@ impl State {
         message: &SharedMessage,
         direct: bool,
         submission: &Submission,
-        accepted: bool,
     ) -> Result<bool, AllocError>
-        ensures told { IfOk result (λ b. b ≡ accepted) }
-        ensures after { OnOk result (plain self.new ≡ accepted_by (if accepted then Some (record { direct = direct; submission = submission.now }) else None) (request_made (facts_in (plain self.old)) conn moment message.now) (body_of message.now) (plain self.old)) }
+        ensures told { IfOk result (λ b. b ≡ is_accepted (acceptance (facts_in (plain self.old)) (record { direct = direct; submission = submission.now }) message.now)) }
+        ensures after { OnOk result (plain self.new ≡ accepted_by (accepted_as (facts_in (plain self.old)) message.now (record { direct = direct; submission = submission.now })) (request_made (facts_in (plain self.old)) conn moment message.now) (body_of message.now) (plain self.old)) }
     {
-        if !accepted {
+        if self.acceptance(direct, submission, message) != Acceptance::Accepted {
             return Ok(false);
         }
         let request = self.request_made(conn, moment, message, direct, submission)?;

@@ -19,8 +19,6 @@ pub mod purges;
 pub mod readiness;
 pub mod replies;
 pub mod request;
-pub mod ruling;
-pub mod settling;
 pub mod standing;
 pub mod state;
 pub mod table;

@@ -1,6 +1,6 @@
 //! What is known of a cluster.
 
-ghost use Rattle.std.specs.Prelude.{◌≡◌, ◌==◌, ◌≤◌, ◌+◌, ◌%◌, true, false, Some, None, IfOk, OnOk, option_map};
+ghost use Rattle.std.specs.Prelude.{◌≡◌, ◌≤◌, ◌+◌, ◌%◌, true, Some, None, IfOk, OnOk, option_map};
 ghost use Rattle.cluster_types.specs.Limits.{most_engines};
 ghost use Rattle.cluster_defs.specs.Facts.{nothing_yet};
 ghost use Rattle.cluster_defs.specs.Engines.{engine_on, with_mark, with_engine};
@@ -192,7 +192,7 @@ impl State {
 
     /// Makes an engine.
     pub fn join(&mut self, conn: u32, uuid: &Text) -> Result<(), AllocError>
-        requires { (self.old.next_engine == most_engines) ≡ false }
+        requires { self.old.next_engine + 1 ≤ most_engines }
         ensures { OnOk result (plain self.new ≡ joined_by conn (Some uuid.now) (plain self.old)) }
     {
         let number = self.next_engine;

@@ -3,7 +3,7 @@
 ghost use Rattle.std.specs.Prelude.{◌≡◌, ◌++◌, [], false, IfOk, Some, codes};
 ghost use Rattle.hex.specs.Hex.{encode_lower};
 ghost use Rattle.message_defs.specs.Texts.{submit_refused};
-ghost use Rattle.cluster_defs.specs.Acceptance.{acceptance as acceptance_of};
+ghost use Rattle.cluster_defs.specs.Acceptance.{acceptance};
 ghost use Rattle.cluster_defs.specs.Queries.{refusal, demand_answer};
 ghost use Rattle.cluster_defs.specs.Outcomes.{outcome};
 ghost use Rattle.cluster_defs.specs.Outs.{pass_to, answer_out, repeat_out};
@@ -135,12 +135,11 @@ pub fn demand_outs(
     direct: bool,
     submission: &Submission,
     message: &SharedMessage,
-    acceptance: Acceptance,
 ) -> Result<Outs, AllocError>
-    requires reached { Reached (plain state.now) }
-    requires accepted { acceptance ≡ acceptance_of (facts_in (plain state.now)) (record { direct = direct; submission = submission.now }) message.now }
-    ensures { IfOk result (λ outs. outs ≡ answer_out slip.opens slip.place slip.conn slip.moment submit_refused message.now.header (demand_answer submission.now.id message.now.target (acceptance_of (facts_in (plain state.now)) (record { direct = direct; submission = submission.now }) message.now)) ++ repeat_out (facts_in (plain state.now)) slip.conn submission.now.id (acceptance_of (facts_in (plain state.now)) (record { direct = direct; submission = submission.now }) message.now)) }
+    requires { Reached (plain state.now) }
+    ensures { IfOk result (λ outs. outs ≡ answer_out slip.opens slip.place slip.conn slip.moment submit_refused message.now.header (demand_answer submission.now.id message.now.target (acceptance (facts_in (plain state.now)) (record { direct = direct; submission = submission.now }) message.now)) ++ repeat_out (facts_in (plain state.now)) slip.conn submission.now.id (acceptance (facts_in (plain state.now)) (record { direct = direct; submission = submission.now }) message.now)) }
 {
+    let acceptance = state.acceptance(direct, submission, message);
     if is_again(acceptance) {
         let outcome = outcome_of(state, &submission.id)?;
         let outs = pass_to(alloc, Some(slip.conn), outcome)?;

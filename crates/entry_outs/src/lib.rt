@@ -9,4 +9,3 @@ mod messages;
 mod passes;
 mod questions;
 mod rows;
-pub mod rulings;

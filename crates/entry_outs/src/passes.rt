@@ -126,29 +126,41 @@ pub fn hand_outs(alloc: Global, state: &State, id: &Text, engine: u32) -> Result
     Ok(outs)
 }
 
-/// What a Settle sends, by how the task is settled: the outcome, to the owner.
+/// How a task is settled at a moment.
+fn settled_at(task: &Task, verdict: Verdict, cause: Cause, moment: u64) -> Settled
+    ensures is { settled_seen result ≡ settled_as verdict cause moment task.now.attempts }
+    ensures moment { result.moment ≡ moment }
+    ensures cause { result.cause ≡ cause }
+{
+    Settled {
+        verdict,
+        cause,
+        engine: engine_of(task.attempts().last),
+        moment,
+    }
+}
+
+/// What a Settle sends: the outcome, to the owner.
 pub fn settle_outs(
     alloc: Global,
     state: &State,
     id: &Text,
-    settling: &Option<Settling>,
+    verdict: Verdict,
+    cause: Cause,
 ) -> Result<Outs, AllocError>
     requires reached { Reached (plain state.now) }
+    requires moment { state.now.moment ≤ last_moment }
     requires unsettled { is_settled (facts_in (plain state.now)) id.now ≡ false }
-    ensures { (v : VerdictType) (c : CauseType) → IsSettling v c state.now.moment (seen_in state.now.tasks id.now) settling.now → IfOk result (λ outs. outs ≡ pass_to (owner_conn (facts_in (plain state.now)) ((facts_in (plain state.now)).request_of id.now)) (outcome (step (facts_in (plain state.now)) (Entry.Settle id.now v c) None) id.now)) }
+    ensures { IfOk result (λ outs. outs ≡ pass_to (owner_conn (facts_in (plain state.now)) ((facts_in (plain state.now)).request_of id.now)) (outcome (step (facts_in (plain state.now)) (Entry.Settle id.now verdict cause) None) id.now)) }
 {
-    let Some(
-        Settling {
-            settled: _,
-            outcome,
-        },
-    ) = settling
-    else {
-        return Ok(Outs::new(alloc));
-    };
-    let Some(task) = state.tasks.find(id) else {
-        return Ok(Outs::new(alloc));
-    };
-    let conn = owner_conn(&state.connections, &task.request().owner);
-    pass_to(alloc, conn, copied(outcome)?)
+    match state.tasks.find(id) {
+        Some(task) => {
+            let settled = settled_at(task, verdict, cause, state.moment);
+            let outcome = outcome_for(alloc, settled, task)?;
+            let conn = owner_conn(&state.connections, &task.request().owner);
+            let outs = pass_to(alloc, conn, outcome)?;
+            Ok(outs)
+        }
+        None => Ok(Outs::new(alloc)),
+    }
 }

@@ -26,7 +26,6 @@ pub struct Pass {
 
 /// Takes an entry, and says what it does.
 fn take_entry(state: &mut State, entry: &Entry, scratch: &mut Scratch) -> Result<Note, AllocError>
-    requires next { IsNext (plain state.old) entry.now }
     requires time { InTime entry.now }
     requires now { state.old.moment ≤ last_moment }
     ensures note { IfOk result (λ note. note ≡ note_of (facts_in (plain state.old)) entry.now) }
@@ -35,8 +34,7 @@ fn take_entry(state: &mut State, entry: &Entry, scratch: &mut Scratch) -> Result
     let alloc = state.allocator();
     let event = event_in(alloc, state, entry, scratch)?;
     let known = state.tasks.len() as u64;
-    let ruling = ruling(state, entry, &event)?;
-    let kept = state.take(entry, &event, ruling)?;
+    let kept = state.take(entry, &event)?;
     let note = note_of(alloc, known, kept, &event)?;
     Ok(note)
 }
