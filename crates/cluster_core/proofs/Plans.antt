@@ -11,6 +11,7 @@ use Rattle.cluster_defs.specs.Histories.{History, facts, Legal, place, is_stoppi
 use Rattle.cluster_defs.specs.Outs.{outs_from}
 use Rattle.cluster_defs.proofs.Falls.{due_falls}
 use Rattle.cluster_state.specs.Plain.{Plain, facts_in, plain_after, InTime}
+use Rattle.entry_outs.specs.Reached.{IsNext}
 use Rattle.cluster_core.specs.Steps.{CoreView, PlanView, planned, AllInTime, IsReadOff, IsGrown, IsPlan, kept_from, entry_place}
 use Rattle.cluster_core.proofs.Growing.{stands_more, facts_told}
 
@@ -57,6 +58,10 @@ pub time_at : (xs : List Entry) (i : ℕ) (e : Entry) → i < length xs → e �
 time_at xs i e lt is time =
     let here : AllInTime (e ∷ reverse (take i xs)) = time_below (reverse (drop (i + 1) xs)) (e ∷ reverse (take i xs)) (subst AllInTime (turned_at xs i e lt is) time) in
     here.0
+
+-- and it may stand next after them
+pub next_at : (xs : List Entry) (i : ℕ) (e : Entry) (p : Plain) (at : ℕ) → i < length xs → e ≡ get_or xs i e → Legal (reverse xs) → IsReadOff (reverse (take i xs)) p at → IsNext p e
+next_at xs i e p at lt is legal s = record { history = reverse (take i xs); legal = (allowed_at xs i e lt is legal, s.legal); is = s.data_are }
 
 -- data that stand for a front of a history stand for one entry more
 pub stands_at : (xs : List Entry) (i : ℕ) (e : Entry) (p q : Plain) (at next_at : ℕ) → i < length xs → e ≡ get_or xs i e → Legal (reverse xs) → AllInTime (reverse xs) → IsReadOff (reverse (take i xs)) p at →

@@ -73,6 +73,11 @@ pub record IsGrown (old : History) (p : PlanView) : Type 0 where
   pub kept_are : p.kept ≡ kept_from (length old) (planned old p)
   pub stops_is : p.stops ≡ is_stopping (planned old p)
 
+-- a plan that has grown, and after which no decision is due where it keeps nothing
+pub record RestsUnkept (old : History) (p : PlanView) : Type 0 where
+  pub grown : IsGrown old p
+  pub rests : p.kept ≡ [] → due (facts (planned old p)) ≡ None
+
 -- a plan for a core: its decisions are all that are due after its input, and the core has room for them
 pub record IsPlan (core : CoreView) (p : PlanView) : Type 0 where
   pub grown : IsGrown core.history p

@@ -13,6 +13,7 @@ ghost use Rattle.cluster_defs.specs.Histories.{facts, Legal, place};
 ghost use Rattle.cluster_state.specs.Plain.{facts_in, plain_of, plain_after, InTime};
 ghost use Rattle.cluster_state.specs.Stands.{plain};
 ghost use Rattle.entry_outs.specs.Asked.{type_on, told_type};
+ghost use Rattle.entry_outs.specs.Reached.{IsNext};
 ghost use Rattle.cluster_core.specs.Steps.{AllInTime, IsReadOff, understood, entry_place};
 
 use crate::meaning::Meaning;
@@ -25,6 +26,7 @@ use cluster_types::config::Channel;
 use cluster_types::entry::{Entry, Input};
 use cluster_types::event::Event;
 use cluster_types::shared_message::SharedMessage;
+use entry_outs::rulings::ruling;
 use json::Scratch;
 use std::alloc::{AllocError, Global};
 
@@ -165,13 +167,15 @@ impl Known {
 
     /// Takes an entry with what its message means.
     fn take(&mut self, entry: &Entry, scratch: &mut Scratch) -> Result<(), AllocError>
+        requires next { IsNext (plain self.old.state) entry.now }
         requires time { InTime entry.now }
         requires now { self.old.state.moment ≤ last_moment }
         ensures data { OnOk result (plain self.new.state ≡ plain_after (facts_in (plain self.old.state)) entry.now (event_in (facts_in (plain self.old.state)) entry.now) (plain self.old.state)) }
         ensures place { OnOk result (self.new.place ≡ entry_place entry.now self.old.place) }
     {
         let event = event_of_entry(self.state.allocator(), &self.state, entry, scratch)?;
-        self.state.take(entry, &event)?;
+        let ruling = ruling(&self.state, entry, &event)?;
+        self.state.take(entry, &event, ruling)?;
         self.place = next_place(self.place, entry)?;
         Ok(())
     }

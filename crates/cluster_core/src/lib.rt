@@ -7,3 +7,4 @@ pub mod machine;
 pub mod meaning;
 pub mod plan;
 pub mod size;
+mod taken;

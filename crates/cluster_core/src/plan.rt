@@ -1,6 +1,6 @@
 //! Plans of steps.
 
-ghost use Rattle.std.specs.Prelude.{◌≡◌, ◌≤◌, ◌++◌, ◌∷◌, ◌+◌, [], length, reverse, true, Some, None, IfOk, OnOk};
+ghost use Rattle.std.specs.Prelude.{◌≡◌, ◌≤◌, ◌++◌, ◌∷◌, ◌+◌, [], length, reverse, nat_lt, true, Some, None, IfOk, OnOk};
 ghost use Rattle.cluster_types.specs.declared.entry.Entry.{Entry};
 ghost use Rattle.cluster_types.specs.Limits.{last_moment};
 ghost use Rattle.cluster_defs.specs.Facts.{event_in};
@@ -11,20 +11,18 @@ ghost use Rattle.cluster_state.specs.Plain.{facts_in, plain_after, InTime};
 ghost use Rattle.cluster_state.specs.Stands.{plain};
 ghost use Rattle.entry_outs.specs.Asked.{type_on, told_type};
 ghost use Rattle.entry_outs.specs.Reached.{IsNext};
-ghost use Rattle.cluster_core.specs.Steps.{PlanView, IsReadOff, IsGrown, planned, kept_one, entry_place, stops_after};
+ghost use Rattle.cluster_core.specs.Steps.{PlanView, IsReadOff, IsGrown, RestsUnkept, planned, kept_one, entry_place, stops_after};
 ghost use Rattle.cluster_core.specs.More.{IsMore};
 ghost use Rattle.cluster_core.specs.Growth.{size_next, sizes_next};
 
 use crate::known::{Known, next_place};
 use crate::meaning::Meaning;
 use crate::size::HistorySize;
-use cluster_state::state::State;
+use crate::taken::{Taken, take_entry};
 use cluster_types::entry::{Entries, Entry, Input};
 use cluster_types::event::{Event, Query};
-use cluster_types::out::{Out, Outs};
-use cluster_types::text::Text;
+use cluster_types::out::Out;
 use due_decisions::due::due;
-use entry_outs::entries::outs;
 use load_schemes::chooser::Chooser;
 use std::alloc::{AllocError, Global};
 use std::marker::Model;
@@ -135,10 +133,8 @@ impl Plan {
         let Known { mut state, place } = known;
         let entry = Entry::Input(input.clone()?);
         let place = next_place(place, &entry)?;
-        let Meaning { event, msg_type } = meaning;
-        let outs = outs(alloc, place, &state, &entry, event, msg_type)?.into_vec();
-        let is_kept = state.take(&entry, event)?;
-        let stops = stops_after(was_stopping, &input, event);
+        let Taken { outs, is_kept } = take_entry(alloc, place, &mut state, &entry, meaning)?;
+        let stops = stops_after(was_stopping, &input, &meaning.event);
         let kept = kept_one(alloc, is_kept, entry)?;
         Ok(Plan {
             input,
@@ -164,6 +160,16 @@ impl Plan {
         Ok(decision)
     }
 
+    /// Notes a decision that was taken, and what it sends.
+    fn note(&mut self, mut outs: Vec<Out>, decision: Entry) -> Result<(), AllocError>
+        ensures { OnOk result (self.new ≡ record self.old { outs = self.old.outs ++ outs.items; kept = self.old.kept ++ decision ∷ []; decisions = self.old.decisions ++ decision ∷ [] }) }
+    {
+        self.outs.append(&mut outs)?;
+        self.kept.push(same_entry(&decision)?)?;
+        self.decisions.push(decision)?;
+        Ok(())
+    }
+
     /// Adds a decision.
     fn add(&mut self, alloc: Global, decision: Entry) -> Result<(), AllocError>
         requires next { IsNext self.old.plain decision }
@@ -173,15 +179,17 @@ impl Plan {
         ensures { OnOk result (IsMore self.old self.new decision) }
     {
         let place = next_place(self.known.place, &decision)?;
-        let none = Text::new(alloc, "")?;
-        let state = &self.known.state;
-        let mut outs = outs(alloc, place, state, &decision, &None, &none)?.into_vec();
-        self.outs.append(&mut outs)?;
-        self.kept.push(same_entry(&decision)?)?;
-        self.known.state.take(&decision, &None)?;
+        let none = Meaning::none(alloc)?;
+        let taken = take_entry(alloc, place, &mut self.known.state, &decision, &none)?;
         self.known.place = place;
-        self.decisions.push(decision)?;
-        Ok(())
+        self.note(taken.outs, decision)
+    }
+
+    /// Whether it keeps anything.
+    fn keeps(&self) -> bool
+        ensures { result ≡ nat_lt 0 (length self.now.kept) }
+    {
+        0 < self.kept.len()
     }
 
     /// The size of a history with the step, by its size before.
@@ -231,6 +239,24 @@ fn decide_rest(
     Ok(())
 }
 
+/// Adds the decisions that are due. None is where the input alone is there and changed nothing.
+fn decide(
+    alloc: Global,
+    history: &[Entry],
+    plan: &mut Plan,
+    chooser: &Chooser,
+) -> Result<(), AllocError>
+    requires { RestsUnkept (reverse history.now) plan.old }
+    ensures input { OnOk result (plan.new.input ≡ plan.old.input) }
+    ensures grown { OnOk result (IsGrown (reverse history.now) plan.new) }
+    ensures all { OnOk result (planned (reverse history.now) plan.new ≡ decide_all (planned (reverse history.now) plan.old)) }
+{
+    if !plan.keeps() {
+        return Ok(());
+    }
+    decide_rest(alloc, history, plan, chooser)
+}
+
 impl Plan {
     /// Works a step out. `history` is the history before it, `meaning` that of its input, `was_stopping` whether a
     /// shutdown was asked.
@@ -254,7 +280,7 @@ impl Plan {
         ensures all { IfOk result (λ p. planned (reverse history.now) p ≡ decide_all (Entry.Input input ∷ reverse history.now)) }
     {
         let mut plan = Plan::begin(alloc, known, input, meaning, was_stopping)?;
-        decide_rest(alloc, history, &mut plan, chooser)?;
+        decide(alloc, history, &mut plan, chooser)?;
         Ok(plan)
     }
 }

@@ -3,11 +3,7 @@ use Rattle.std.specs.Prelude.{ℕ, max, ◌==◌, List, [], ◌∷◌, ◌++◌,
 use Rattle.cluster_types.specs.declared.config.Channel.{Channel}
 use Rattle.cluster_types.specs.declared.config.Channel.TheVariants.{Hub, Task, Mux, Engine}
 use Rattle.cluster_defs.specs.declared.connection.Connection.{Connection}
-
--- who speaks on a connection: its channel and its identity
-pub record Peer : Type 0 where
-  pub channel : Channel
-  pub identity : List ℕ
+use Rattle.cluster_defs.specs.declared.connection.Owner.{Owner}
 
 abbrev pub same_channel : Channel → Channel → Bool
 same_channel Hub Hub = true
@@ -23,10 +19,11 @@ connection_on live conn = find (λ c. c.number == conn) live
 abbrev pub channel_on : List Connection → ℕ → Option Channel
 channel_on live conn = option_map (λ c. c.channel) (connection_on live conn)
 
-abbrev pub peer_of : Connection → Peer
+-- who speaks on a connection: its channel and its identity
+abbrev pub peer_of : Connection → Owner
 peer_of c = record { channel = c.channel; identity = c.identity }
 
-abbrev pub peer_on : List Connection → ℕ → Option Peer
+abbrev pub peer_on : List Connection → ℕ → Option Owner
 peer_on live conn = option_map peer_of (connection_on live conn)
 
 -- the live connections after an Up and after a Down
@@ -36,7 +33,7 @@ with_connection conn channel identity live = live ++ record { number = conn; cha
 abbrev pub without_connection : ℕ → List Connection → List Connection
 without_connection conn live = filter (λ c. not (c.number == conn)) live
 
-abbrev pub is_of_peer : Peer → Connection → Bool
+abbrev pub is_of_peer : Owner → Connection → Bool
 is_of_peer peer c = same_channel c.channel peer.channel && bytes_eq c.identity peer.identity
 
 -- the greatest of some numbers
@@ -45,5 +42,5 @@ highest [] = None
 highest (n ∷ ns) = Some (fold max n ns)
 
 -- the live connection of a peer, of several the one with the highest number
-abbrev pub reached : List Connection → Peer → Option ℕ
+abbrev pub reached : List Connection → Owner → Option ℕ
 reached live peer = highest (map (λ c. c.number) (filter (is_of_peer peer) live))

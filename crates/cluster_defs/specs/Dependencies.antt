@@ -4,7 +4,7 @@ use Rattle.std.specs.List.{list_any, list_all}
 use Rattle.cluster_types.specs.declared.event.Dep.{Dep}
 use Rattle.cluster_types.specs.Verdicts.{completed}
 use Rattle.cluster_defs.specs.Words.{Id, is_empty, is_number}
-use Rattle.cluster_defs.specs.Tasks.{Settled}
+use Rattle.cluster_defs.specs.declared.settled.Settled.{Settled}
 
 -- whether an id finished in a kind that is asked for: completed where `success`, failed where `failure`
 abbrev pub asked : Dep → Option Settled → Bool

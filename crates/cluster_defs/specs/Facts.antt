@@ -15,7 +15,8 @@ use Rattle.cluster_defs.specs.declared.connection.Connection.{Connection}
 use Rattle.cluster_defs.specs.Words.{Id}
 use Rattle.cluster_defs.specs.Connections.{channel_on}
 use Rattle.cluster_defs.specs.Engines.{Engines}
-use Rattle.cluster_defs.specs.Tasks.{Task, new_task, Settled}
+use Rattle.cluster_defs.specs.declared.settled.Settled.{Settled}
+use Rattle.cluster_defs.specs.Tasks.{Task, new_task}
 use Rattle.cluster_defs.specs.Requests.{Request, Body, is_direct}
 
 pub record Facts : Type 0 where

@@ -16,7 +16,8 @@ use Rattle.cluster_types.specs.declared.config.Scheme.{Scheme}
 use Rattle.cluster_defs.specs.declared.engine.Engine.{Engine}
 use Rattle.cluster_defs.specs.Words.{Id, is_listed, once}
 use Rattle.cluster_defs.specs.Engines.{conn_in}
-use Rattle.cluster_defs.specs.Tasks.{Settled, engine_of}
+use Rattle.cluster_defs.specs.declared.settled.Settled.{Settled}
+use Rattle.cluster_defs.specs.Tasks.{engine_of}
 use Rattle.cluster_defs.specs.Facts.{is_settled}
 use Rattle.cluster_types.specs.Limits.{most_ids}
 use Rattle.cluster_defs.specs.Purges.{purge_list, purging, resubmitting}

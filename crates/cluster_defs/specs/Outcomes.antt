@@ -9,7 +9,7 @@ use Rattle.cluster_types.specs.declared.verdict.Cause.TheVariants.{Reply}
 use Rattle.edges.specs.Date.{date_of}
 use Rattle.message_defs.specs.Texts.{made_header, reply_type, outcome_id, empty_object, outcome_content}
 use Rattle.cluster_defs.specs.Words.{Id}
-use Rattle.cluster_defs.specs.Tasks.{Settled}
+use Rattle.cluster_defs.specs.declared.settled.Settled.{Settled}
 use Rattle.cluster_defs.specs.Requests.{Request, Body}
 use Rattle.cluster_defs.specs.Facts.{Facts}
 

@@ -20,10 +20,10 @@ inflight f = filter (λ id. not (is_settled f id))
 abbrev pub gone_or_unknown : Facts → List Id → List Id
 gone_or_unknown f = filter (λ id. not (is_listed id f.known) || f.purged id)
 
--- the ids that a Purge lists: with `all` every settled id that isn't purged
-abbrev pub purge_list : Facts → Bool → List Id → List Id
-purge_list f true ids = filter (λ id. is_settled f id && not (f.purged id)) f.known
-purge_list f false ids = once ids
+-- the ids that a Purge lists: with `all` every one that may go, else each of the listed ones once
+abbrev pub purge_list_by : List Id → Bool → List Id → List Id
+purge_list_by may_go true ids = may_go
+purge_list_by may_go false ids = once ids
 
 -- what a Purge comes to, by the order of its refusals
 pub data Purging : Type 0 where
@@ -31,10 +31,18 @@ pub data Purging : Type 0 where
   Inflight : List Id → Purging
   Drops : List Id → Purging
 
+-- by which ids are absent, that is never known or purged, and which are settled
+abbrev pub purging_by : (Id → Bool) → (Id → Bool) → List Id → Purging
+purging_by absent settled ids =
+    if not (is_empty (filter absent ids)) then Unknown (filter absent ids)
+    else (if not (is_empty (filter (λ id. not (settled id)) ids)) then Inflight (filter (λ id. not (settled id)) ids) else Drops ids)
+
+-- with `all` every settled id that isn't purged may go
+abbrev pub purge_list : Facts → Bool → List Id → List Id
+purge_list f = purge_list_by (filter (λ id. is_settled f id && not (f.purged id)) f.known)
+
 abbrev pub purging : Facts → List Id → Purging
-purging f ids =
-    if not (is_empty (gone_or_unknown f ids)) then Unknown (gone_or_unknown f ids)
-    else (if not (is_empty (inflight f ids)) then Inflight (inflight f ids) else Drops ids)
+purging f = purging_by (λ id. not (is_listed id f.known) || f.purged id) (is_settled f)
 
 abbrev pub dropped : Purging → Option (List Id)
 dropped (Drops ids) = Some ids
@@ -75,16 +83,23 @@ pub data Resubmitting : Type 0 where
   NoRoom : Resubmitting
   Makes : List Copy → Resubmitting
 
--- of ids that are known and not purged
+-- of ids that are known and not purged, by which are settled, where so many ids are known of so many that may be
+abbrev pub resubmitting_known_by : (Id → Bool) → ℕ → ℕ → List Id → Resubmitting
+resubmitting_known_by settled known most ids =
+    if not (is_empty (filter (λ id. not (settled id)) ids)) then Running (filter (λ id. not (settled id)) ids)
+    else (if nat_lt most (known + length ids) then NoRoom else Makes (copies_from (known + 1) ids))
+
+-- by which ids were never known, and which are purged, besides
+abbrev pub resubmitting_by : (Id → Bool) → (Id → Bool) → (Id → Bool) → ℕ → ℕ → List Id → Resubmitting
+resubmitting_by unknown purged settled known most ids =
+    if not (is_empty (filter unknown ids)) then NeverKnown (filter unknown ids)
+    else (if not (is_empty (filter purged ids)) then Gone (filter purged ids) else resubmitting_known_by settled known most ids)
+
 abbrev pub resubmitting_known : Facts → List Id → Resubmitting
-resubmitting_known f ids =
-    if not (is_empty (inflight f ids)) then Running (inflight f ids)
-    else (if nat_lt most_ids (length f.known + length ids) then NoRoom else Makes (copies_from (length f.known + 1) ids))
+resubmitting_known f = resubmitting_known_by (is_settled f) (length f.known) most_ids
 
 abbrev pub resubmitting : Facts → List Id → Resubmitting
-resubmitting f ids =
-    if not (is_empty (never_known f ids)) then NeverKnown (never_known f ids)
-    else (if not (is_empty (gone f ids)) then Gone (gone f ids) else resubmitting_known f ids)
+resubmitting f = resubmitting_by (λ id. not (is_listed id f.known)) (λ id. f.purged id) (is_settled f) (length f.known) most_ids
 
 abbrev pub made : Resubmitting → Option (List Copy)
 made (Makes copies) = Some copies

@@ -19,12 +19,13 @@ use Rattle.cluster_defs.specs.declared.acceptance.Acceptance.TheVariants.{Reserv
 use Rattle.cluster_defs.specs.declared.answer.Answer.{Answer}
 use Rattle.cluster_defs.specs.declared.engine.Joining.{Joining}
 use Rattle.cluster_defs.specs.declared.engine.Joining.TheVariants.{Repeat, AlreadyJoined, UuidInUse, UsedUp, Accepted as AcceptedEngine}
-use Rattle.cluster_defs.specs.Words.{Id, is_empty, is_number, once}
+use Rattle.cluster_defs.specs.Words.{Id, is_empty, is_listed, is_number, once}
 use Rattle.cluster_defs.specs.Engines.{joining, left_engine}
-use Rattle.cluster_defs.specs.Tasks.{runs_at, Settled}
+use Rattle.cluster_defs.specs.declared.settled.Settled.{Settled}
+use Rattle.cluster_defs.specs.Tasks.{runs_at}
 use Rattle.cluster_defs.specs.Facts.{Facts, is_settled, is_direct_id}
 use Rattle.cluster_defs.specs.Acceptance.{acceptance}
-use Rattle.cluster_defs.specs.Purges.{inflight, gone_or_unknown, purge_list, Purging, Unknown, Inflight, Drops, purging, Resubmitting, NeverKnown, Gone, Running, NoRoom, Makes, resubmitting}
+use Rattle.cluster_defs.specs.Purges.{purge_list, Purging, Unknown, Inflight, Drops, purging, Resubmitting, NeverKnown, Gone, Running, NoRoom, Makes, resubmitting}
 use Rattle.cluster_defs.specs.Scheduling.{is_live, rests}
 use Rattle.cluster_defs.specs.Outcomes.{outcome}
 
@@ -38,13 +39,60 @@ refusal ename evalue ids = plain (error_content ename evalue ids)
 
 -- QUESTIONS
 
--- the live engines, ascending
-abbrev pub connection_answer : Facts → Answer
-connection_answer f = plain (connection_content (map (λ e. (e.number, e.uuid)) f.engines.live))
+-- all that questions are answered off
+pub record QueryView : Type 0 where
+  pub live : List (ℕ × List ℕ)  -- the live engines with their uuids, ascending
+  pub numbers : List ℕ  -- their numbers
+  pub lives : ℕ → Bool  -- whether an engine is live
+  pub waiting : List Id  -- the unsettled Submits without a current attempt, by number
+  pub queue : ℕ → EngineQueue  -- what an engine has
+  pub unpurged : List Id  -- the ids that aren't purged, by number
+  pub absent : Id → Bool  -- whether an id was never known, or is purged
+  pub settled : Id → Bool
+  pub left : Id → Option SettledText  -- what a settled id left
 
--- the ids that aren't purged, by number
-abbrev pub history_answer : Facts → Answer
-history_answer f = plain (history_content (filter (λ id. not (f.purged id)) f.known))
+-- the engines that are shown, ascending: all live ones, or those that are listed
+abbrev pub shown : List ℕ → List ℕ → List ℕ
+shown numbers targets = filter (λ n. is_empty targets || list_any (λ m. is_number m (Some n)) targets) numbers
+
+-- refused where a listed engine isn't live, with the first such number
+abbrev pub queues_by : QueryView → List ℕ → Bool → Option ℕ → Answer
+queues_by v targets verbose (Some n) = refusal (codes "NoSuchEngine") (decimal n) []
+queues_by v targets verbose None = plain (queue_content verbose v.waiting (map v.queue (shown v.numbers targets)))
+
+-- what the settled ids left, in order, where that was asked
+abbrev pub all_left_by : (Id → Option SettledText) → Bool → List Id → List SettledText
+all_left_by left true ids = []
+all_left_by left false ids = filter_map left ids
+
+abbrev pub results_by : (Id → Bool) → List Id → List SettledText → Answer
+results_by settled ids results = record {
+  content = result_content (filter (λ id. not (settled id)) ids) (filter settled ids) results;
+  buffers = flat_map (λ r. r.outcome.buffers) results;
+}
+
+-- refused where an id was never known, or is purged; an id that repeats counts once
+abbrev pub result_by : QueryView → List Id → Bool → Answer
+result_by v ids status_only =
+    if not (is_empty (filter v.absent ids)) then refusal (codes "UnknownIds") [] (filter v.absent ids)
+    else results_by v.settled ids (all_left_by v.left status_only (filter v.settled ids))
+
+-- on channel task it is the metadata that doesn't read
+abbrev pub bad_name : Channel → List ℕ
+bad_name Task = codes "BadMetadata"
+bad_name _ = codes "BadContent"
+
+-- what a question is answered
+abbrev pub answer_by : QueryView → Channel → Query → List ℕ → Answer
+answer_by v channel Connection msg_type = plain (connection_content v.live)
+answer_by v channel (Queue targets verbose) msg_type = queues_by v targets verbose (find (λ n. not (v.lives n)) targets)
+answer_by v channel (ResultQuery ids status_only) msg_type = result_by v (once ids) status_only
+answer_by v channel History msg_type = plain (history_content v.unpurged)
+answer_by v channel Shutdown msg_type = plain ok_content
+answer_by v channel UnknownQuery msg_type = refusal (codes "UnknownRequest") msg_type []
+answer_by v channel (Bad field) msg_type = refusal (bad_name channel) field []
+
+-- AS A HISTORY SAYS
 
 -- whether an id finished on an engine
 abbrev pub finished_on : ℕ → Option Settled → Bool
@@ -64,18 +112,6 @@ engine_queue f n = record {
 abbrev pub unassigned : Facts → List Id
 unassigned f = filter (λ id. rests f id && not (is_direct_id f id)) f.known
 
--- the engines that are shown, ascending: all live ones, or those that are listed
-abbrev pub shown : Facts → List ℕ → List ℕ
-shown f targets = filter (λ n. is_empty targets || list_any (λ m. is_number m (Some n)) targets) (map (λ e. e.number) f.engines.live)
-
-abbrev pub queue_of : Facts → List ℕ → Bool → Option ℕ → Answer
-queue_of f targets verbose (Some n) = refusal (codes "NoSuchEngine") (decimal n) []
-queue_of f targets verbose None = plain (queue_content verbose (unassigned f) (map (engine_queue f) (shown f targets)))
-
--- refused where a listed engine isn't live, with the first such number
-abbrev pub queue_answer : Facts → List ℕ → Bool → Answer
-queue_answer f targets verbose = queue_of f targets verbose (find (λ n. not (is_live f n)) targets)
-
 -- what a settled id left
 abbrev pub left_as : Id → Settled → Message → SettledText
 left_as id s m = record { id = id; engine = s.engine; verdict = verdict_name s.verdict; cause = cause_name s.cause; outcome = m }
@@ -83,37 +119,30 @@ left_as id s m = record { id = id; engine = s.engine; verdict = verdict_name s.v
 abbrev pub left_by : Facts → Id → Option SettledText
 left_by f id = option_and_then (λ s. option_map (left_as id s) (outcome f id)) (f.settled id)
 
--- what the settled ids left, in order, where that was asked
-abbrev pub results_of : Facts → Bool → List Id → List SettledText
-results_of f true ids = []
-results_of f false ids = filter_map (left_by f) ids
-
-abbrev pub result_with : Facts → List Id → List SettledText → Answer
-result_with f ids results = record {
-  content = result_content (inflight f ids) (filter (is_settled f) ids) results;
-  buffers = flat_map (λ r. r.outcome.buffers) results;
+abbrev pub view_of : Facts → QueryView
+view_of f = record {
+  live = map (λ e. (e.number, e.uuid)) f.engines.live;
+  numbers = map (λ e. e.number) f.engines.live;
+  lives = is_live f;
+  waiting = unassigned f;
+  queue = engine_queue f;
+  unpurged = filter (λ id. not (f.purged id)) f.known;
+  absent = λ id. not (is_listed id f.known) || f.purged id;
+  settled = is_settled f;
+  left = left_by f;
 }
 
--- refused where an id was never known, or is purged; an id that repeats counts once
+abbrev pub results_of : Facts → Bool → List Id → List SettledText
+results_of f = all_left_by (left_by f)
+
+abbrev pub result_with : Facts → List Id → List SettledText → Answer
+result_with f = results_by (is_settled f)
+
 abbrev pub result_answer : Facts → List Id → Bool → Answer
-result_answer f ids status_only =
-    if not (is_empty (gone_or_unknown f ids)) then refusal (codes "UnknownIds") [] (gone_or_unknown f ids)
-    else result_with f ids (results_of f status_only (filter (is_settled f) ids))
+result_answer f = result_by (view_of f)
 
--- on channel task it is the metadata that doesn't read
-abbrev pub bad_name : Channel → List ℕ
-bad_name Task = codes "BadMetadata"
-bad_name _ = codes "BadContent"
-
--- what a question is answered
 abbrev pub answer_query : Facts → Channel → Query → List ℕ → Answer
-answer_query f channel Connection msg_type = connection_answer f
-answer_query f channel (Queue targets verbose) msg_type = queue_answer f targets verbose
-answer_query f channel (ResultQuery ids status_only) msg_type = result_answer f (once ids) status_only
-answer_query f channel History msg_type = history_answer f
-answer_query f channel Shutdown msg_type = plain ok_content
-answer_query f channel UnknownQuery msg_type = refusal (codes "UnknownRequest") msg_type []
-answer_query f channel (Bad field) msg_type = refusal (bad_name channel) field []
+answer_query f = answer_by (view_of f)
 
 -- REQUESTS
 

@@ -1,16 +1,15 @@
 -- The answers to questions, off the records of all tasks and the live engines alone.
-use Rattle.std.specs.Prelude.{ℕ, List, [], map, Option, Some, None, Bool, true, false, not, ◌&&◌, ◌||◌, if◌then◌else◌, filter, find, filter_map, flat_map, bytes_eq, codes, decimal, option_map}
+use Rattle.std.specs.Prelude.{ℕ, List, [], map, Option, Some, None, Bool, true, false, not, ◌&&◌, filter, find, bytes_eq, option_map}
 use Rattle.std.specs.List.{list_any}
 use Rattle.std.specs.Option.{is_some, option_and_then}
 use Rattle.cluster_types.specs.Verdicts.{verdict_name, cause_name}
 use Rattle.cluster_types.specs.declared.config.Channel.{Channel}
 use Rattle.cluster_types.specs.declared.event.Query.{Query}
-use Rattle.cluster_types.specs.declared.event.Query.TheVariants.{Connection, Queue, Result as ResultQuery, History, Shutdown, Unknown, Bad}
 use Rattle.cluster_types.specs.declared.record.Record.{Record}
-use Rattle.message_defs.specs.Texts.{ok_content, connection_content, history_content, queue_content, result_content, EngineQueue, Settled as SettledText}
+use Rattle.message_defs.specs.Texts.{EngineQueue, Settled as SettledText}
 use Rattle.cluster_defs.specs.declared.answer.Answer.{Answer}
-use Rattle.cluster_defs.specs.Words.{Id, is_empty, is_number, once}
-use Rattle.cluster_defs.specs.Queries.{plain, refusal, bad_name, limited}
+use Rattle.cluster_defs.specs.Words.{Id, is_number}
+use Rattle.cluster_defs.specs.Queries.{QueryView, shown, queues_by, all_left_by, results_by, result_by, answer_by, limited}
 
 -- the ids of the records that pass a test, by number
 abbrev pub ids_where : (Record → Bool) → List Record → List Id
@@ -42,17 +41,12 @@ queue_in records n = record {
   tasks = ids_where (λ r. runs_in n r && not r.direct) records;
 }
 
--- the live engines that are asked for, ascending: all, or those that are listed
+-- the live engines that are asked for
 abbrev pub asked_engines : List (ℕ × List ℕ) → List ℕ → List ℕ
-asked_engines live targets = filter (λ n. is_empty targets || list_any (λ m. is_number m (Some n)) targets) (map (λ e. e.0) live)
+asked_engines live = shown (map (λ e. e.0) live)
 
 abbrev pub lives_in : List (ℕ × List ℕ) → ℕ → Bool
 lives_in live n = list_any (λ e. is_number n (Some e.0)) live
-
-abbrev pub queues_in : List Record → List (ℕ × List ℕ) → List ℕ → Bool → Option ℕ → Answer
-queues_in records live targets verbose (Some n) = refusal (codes "NoSuchEngine") (decimal n) []
-queues_in records live targets verbose None =
-    plain (queue_content verbose (ids_where waits_in records) (map (queue_in records) (asked_engines live targets)))
 
 -- RESULTS
 
@@ -69,31 +63,35 @@ abbrev pub left_in : Record → Option SettledText
 left_in r =
     option_and_then (λ v. option_map (λ m. record { id = r.id; engine = r.engine; verdict = verdict_name v.0; cause = cause_name v.1; outcome = m }) r.outcome) r.settled
 
-abbrev pub all_left : List Record → Bool → List Id → List SettledText
-all_left records true ids = []
-all_left records false ids = filter_map (λ id. option_and_then left_in (record_in records id)) ids
-
-abbrev pub results_in : List Record → List Id → List SettledText → Answer
-results_in records ids results = record {
-  content = result_content (filter (λ id. not (is_settled_record (record_in records id))) ids) (filter (λ id. is_settled_record (record_in records id)) ids) results;
-  buffers = flat_map (λ r. r.outcome.buffers) results;
-}
-
-abbrev pub result_in : List Record → List Id → Bool → Answer
-result_in records ids status_only =
-    if not (is_empty (filter (λ id. gone_as (record_in records id)) ids)) then refusal (codes "UnknownIds") [] (filter (λ id. gone_as (record_in records id)) ids)
-    else results_in records ids (all_left records status_only (filter (λ id. is_settled_record (record_in records id)) ids))
-
 -- THE ANSWER
 
+abbrev pub view_in : List Record → List (ℕ × List ℕ) → QueryView
+view_in records live = record {
+  live = live;
+  numbers = map (λ e. e.0) live;
+  lives = lives_in live;
+  waiting = ids_where waits_in records;
+  queue = queue_in records;
+  unpurged = ids_where (λ r. not r.purged) records;
+  absent = λ id. gone_as (record_in records id);
+  settled = λ id. is_settled_record (record_in records id);
+  left = λ id. option_and_then left_in (record_in records id);
+}
+
+abbrev pub queues_in : List Record → List (ℕ × List ℕ) → List ℕ → Bool → Option ℕ → Answer
+queues_in records live = queues_by (view_in records live)
+
+abbrev pub all_left : List Record → Bool → List Id → List SettledText
+all_left records = all_left_by (λ id. option_and_then left_in (record_in records id))
+
+abbrev pub results_in : List Record → List Id → List SettledText → Answer
+results_in records = results_by (λ id. is_settled_record (record_in records id))
+
+abbrev pub result_in : List Record → List Id → Bool → Answer
+result_in records = result_by (view_in records [])
+
 abbrev pub query_in : List Record → List (ℕ × List ℕ) → Channel → Query → List ℕ → Answer
-query_in records live channel Connection msg_type = plain (connection_content live)
-query_in records live channel (Queue targets verbose) msg_type = queues_in records live targets verbose (find (λ n. not (lives_in live n)) targets)
-query_in records live channel (ResultQuery ids status_only) msg_type = result_in records (once ids) status_only
-query_in records live channel History msg_type = plain (history_content (ids_where (λ r. not r.purged) records))
-query_in records live channel Shutdown msg_type = plain ok_content
-query_in records live channel Unknown msg_type = refusal (codes "UnknownRequest") msg_type []
-query_in records live channel (Bad field) msg_type = refusal (bad_name channel) field []
+query_in records live = answer_by (view_in records live)
 
 -- a question's answer, by the records in order of number and the live engines with their uuids, ascending
 abbrev pub answer_in : List Record → List (ℕ × List ℕ) → Channel → Query → List ℕ → Answer

@@ -6,11 +6,11 @@ use Rattle.cluster_types.specs.declared.message.Message.{Message}
 use Rattle.cluster_types.specs.declared.event.Dep.{Dep}
 use Rattle.cluster_defs.specs.declared.engine.Engine.{Engine}
 use Rattle.cluster_defs.specs.Words.{Id, is_empty, is_listed}
-use Rattle.cluster_defs.specs.Connections.{Peer}
+use Rattle.cluster_defs.specs.declared.connection.Owner.{Owner}
 
 -- what an accepted request says, without what is passed on unread
 pub record Request : Type 0 where
-  pub owner : Option Peer  -- the channel and identity that submitted it
+  pub owner : Option Owner  -- the channel and identity that submitted it
   pub direct_to : Option ℕ  -- of a direct request its engine, of any other none
   pub target : List ℕ  -- the identity frame
   pub msg_type : List ℕ

@@ -18,7 +18,8 @@ use Rattle.cluster_defs.specs.declared.attempt.Attempt.TheVariants.{EndedOk, End
 use Rattle.cluster_defs.specs.Words.{Id, or_else, is_empty}
 use Rattle.cluster_defs.specs.Connections.{connection_on}
 use Rattle.cluster_defs.specs.Engines.{lists_number, missed}
-use Rattle.cluster_defs.specs.Tasks.{runs, runs_at, is_never, Settled}
+use Rattle.cluster_defs.specs.declared.settled.Settled.{Settled}
+use Rattle.cluster_defs.specs.Tasks.{runs, runs_at, is_never}
 use Rattle.cluster_defs.specs.Dependencies.{asked, met, unreachable, on_engine, scattered}
 use Rattle.cluster_defs.specs.Requests.{Request, is_direct, is_bound, is_target, deadline}
 use Rattle.cluster_defs.specs.Facts.{Facts, event_in, is_settled, is_direct_id}
@@ -148,9 +149,12 @@ direct_due f = option_and_then (λ id. hand_to id (ready_for f id)) (find (λ id
 abbrev pub load : Facts → ℕ → ℕ
 load f n = count_by (λ id. runs_at n (f.task id).last && not (is_direct_id f id)) f.known
 
--- its load is below `hwm`; 0 is no bound
+-- whether a load is below the bound `hwm`; 0 is no bound
+abbrev pub leaves_room : ℕ → ℕ → Bool
+leaves_room hwm load = hwm == 0 || nat_lt load hwm
+
 abbrev pub has_room : Facts → ℕ → Bool
-has_room f n = f.hwm == 0 || nat_lt (load f n) f.hwm
+has_room f n = leaves_room f.hwm (load f n)
 
 -- what its request says: a Submit with attempts left, what it waits for met, what it follows met there, a target
 abbrev pub may_run_as : Facts → Id → ℕ → Option Request → Bool

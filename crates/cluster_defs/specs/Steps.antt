@@ -14,7 +14,8 @@ use Rattle.cluster_defs.specs.declared.engine.Engine.{Engine}
 use Rattle.cluster_defs.specs.Words.{Id, or_else}
 use Rattle.cluster_defs.specs.Connections.{with_connection, without_connection}
 use Rattle.cluster_defs.specs.Engines.{Engines, engine_on, joined, with_engine, left_engine, without_left, echoed, with_mark}
-use Rattle.cluster_defs.specs.Tasks.{Task, lost, handed, counts, after_reply, after_end, Settled, settled_as}
+use Rattle.cluster_defs.specs.declared.settled.Settled.{Settled}
+use Rattle.cluster_defs.specs.Tasks.{Task, lost, handed, counts, after_reply, after_end, settled_as}
 use Rattle.cluster_defs.specs.Requests.{Request, Body, parts_of}
 use Rattle.cluster_defs.specs.Facts.{Facts, event_in, is_direct_id}
 use Rattle.cluster_defs.specs.Acceptance.{accepted, accepted_id, request_from, body_from}

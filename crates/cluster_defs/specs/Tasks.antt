@@ -7,7 +7,10 @@ use Rattle.cluster_types.specs.declared.verdict.Verdict.{Verdict}
 use Rattle.cluster_types.specs.declared.verdict.Cause.{Cause}
 use Rattle.cluster_defs.specs.declared.attempt.Attempt.{Attempt}
 use Rattle.cluster_defs.specs.declared.attempt.Attempt.TheVariants.{Never, Running, EndedOk, EndedBadly, Lost, Declined}
+use Rattle.cluster_defs.specs.declared.attempt.Ending.{Ending}
+use Rattle.cluster_defs.specs.declared.attempt.Ending.TheVariants.{Well, Badly, Declines}
 use Rattle.cluster_defs.specs.declared.engine.Engine.{Engine}
+use Rattle.cluster_defs.specs.declared.settled.Settled.{Settled}
 use Rattle.cluster_defs.specs.Words.{Id, is_number}
 use Rattle.cluster_defs.specs.Engines.{conn_in}
 
@@ -55,12 +58,6 @@ lost _ t = t
 
 -- REPLIES
 
--- how a valid reply ends an attempt
-pub data Ending : Type 0 where
-  Well : Ending
-  Badly : Ending
-  Declines : Ending
-
 -- a decline of a direct request counts as an error reply
 abbrev pub ending : Bool → Bool → Bool → Ending
 ending direct ok true = if direct then Badly else Declines
@@ -102,12 +99,6 @@ after_end (Some n) t = if runs_at n t.last then lost t.last t else t
 
 -- SETTLED
 
--- how a task was settled: on the engine of its last attempt or on none, and at which moment
-pub record Settled : Type 0 where
-  pub verdict : Verdict
-  pub cause : Cause
-  pub engine : Option ℕ
-  pub moment : ℕ
-
+-- on the engine of its last attempt or on none, and at which moment
 abbrev pub settled_as : Verdict → Cause → ℕ → Task → Settled
 settled_as verdict cause moment t = record { verdict = verdict; cause = cause; engine = engine_of t.last; moment = moment }

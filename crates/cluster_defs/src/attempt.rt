@@ -15,3 +15,11 @@ pub enum Attempt {
     /// The engine declined it.
     Declined { engine: u32 },
 }
+
+/// How a valid reply ends an attempt.
+#[derive(Clone, Copy, Debug, PartialEq, Eq)]
+pub enum Ending {
+    Well,
+    Badly,
+    Declines,
+}

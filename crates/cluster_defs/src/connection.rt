@@ -10,3 +10,10 @@ pub struct Connection {
     pub channel: Channel,
     pub identity: Octets,
 }
+
+/// Who submitted a request: the channel and identity of its connection.
+#[derive(Clone, Debug, Drop)]
+pub struct Owner {
+    pub channel: Channel,
+    pub identity: Octets,
+}

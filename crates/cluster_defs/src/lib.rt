@@ -6,3 +6,4 @@ pub mod answer;
 pub mod attempt;
 pub mod connection;
 pub mod engine;
+pub mod settled;

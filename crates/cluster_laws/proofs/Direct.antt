@@ -15,7 +15,9 @@ use Rattle.cluster_defs.specs.declared.attempt.Attempt.TheVariants.{Never, Runni
 use Rattle.cluster_defs.specs.declared.engine.Engine.{Engine}
 use Rattle.cluster_defs.specs.Words.{Id, or_else, is_listed}
 use Rattle.cluster_defs.specs.Engines.{Engines, engine_on, engine_named, lists_number, left_engine, missed}
-use Rattle.cluster_defs.specs.Tasks.{Task, Ending, Well, Badly, Declines, ending, lost, took, replied, after_reply, after_end, counts, handed, runs_at, is_never}
+use Rattle.cluster_defs.specs.declared.attempt.Ending.{Ending}
+use Rattle.cluster_defs.specs.declared.attempt.Ending.TheVariants.{Well, Badly, Declines}
+use Rattle.cluster_defs.specs.Tasks.{Task, ending, lost, took, replied, after_reply, after_end, counts, handed, runs_at, is_never}
 use Rattle.cluster_defs.specs.Requests.{Request}
 use Rattle.cluster_defs.specs.Facts.{Facts, event_on, is_settled, is_direct_id}
 use Rattle.cluster_defs.specs.Acceptance.{Demand, accepted, accepted_id, request_from, request_made, request_direct, request_submit}

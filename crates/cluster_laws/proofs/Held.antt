@@ -19,7 +19,8 @@ use Rattle.cluster_defs.specs.declared.attempt.Attempt.TheVariants.{Never, Runni
 use Rattle.cluster_defs.specs.declared.engine.Engine.{Engine}
 use Rattle.cluster_defs.specs.Words.{Id, or_else, is_listed}
 use Rattle.cluster_defs.specs.Engines.{engine_on, left_engine, conn_in, lists_number}
-use Rattle.cluster_defs.specs.Tasks.{Task, Settled, ending, settled_as, lost, took, replied, after_reply, after_end, counts, handed, runs_at}
+use Rattle.cluster_defs.specs.declared.settled.Settled.{Settled}
+use Rattle.cluster_defs.specs.Tasks.{Task, ending, settled_as, lost, took, replied, after_reply, after_end, counts, handed, runs_at}
 use Rattle.cluster_defs.specs.Requests.{Request, Body, body_of, parts_of, is_direct}
 use Rattle.cluster_defs.specs.Facts.{Facts, event_on, is_settled, is_direct_id}
 use Rattle.cluster_defs.specs.Acceptance.{Demand, accepted, accepted_id, body_from}

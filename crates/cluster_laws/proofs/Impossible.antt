@@ -13,7 +13,7 @@ use Rattle.cluster_types.specs.declared.entry.Entry.TheVariants.{Settle}
 use Rattle.cluster_defs.specs.declared.attempt.Attempt.{Attempt}
 use Rattle.cluster_defs.specs.declared.attempt.Attempt.TheVariants.{Never, Running, EndedOk, EndedBadly, Lost, Declined}
 use Rattle.cluster_defs.specs.Words.{Id, is_empty, is_number}
-use Rattle.cluster_defs.specs.Tasks.{Settled}
+use Rattle.cluster_defs.specs.declared.settled.Settled.{Settled}
 use Rattle.cluster_defs.specs.Dependencies.{quantified, met, unreachable, asked, other_kind, on_engine, apart, same_engine, scattered}
 use Rattle.cluster_defs.specs.Requests.{Request, is_direct, is_bound, is_target}
 use Rattle.cluster_defs.specs.Facts.{Facts}

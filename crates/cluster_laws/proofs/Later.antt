@@ -14,7 +14,10 @@ use Rattle.cluster_defs.specs.declared.attempt.Attempt.TheVariants.{Running}
 use Rattle.cluster_defs.specs.declared.engine.Engine.{Engine}
 use Rattle.cluster_defs.specs.Words.{Id, or_else}
 use Rattle.cluster_defs.specs.Engines.{Engines, engine_on, lists_number, joined, left_engine, echoed, with_engine, without_left, with_mark, marked, raises}
-use Rattle.cluster_defs.specs.Tasks.{Task, Settled, Ending, Well, Badly, Declines, ending, lost, took, replied, after_reply, after_end, counts, handed, runs_at}
+use Rattle.cluster_defs.specs.declared.attempt.Ending.{Ending}
+use Rattle.cluster_defs.specs.declared.attempt.Ending.TheVariants.{Well, Badly, Declines}
+use Rattle.cluster_defs.specs.declared.settled.Settled.{Settled}
+use Rattle.cluster_defs.specs.Tasks.{Task, ending, lost, took, replied, after_reply, after_end, counts, handed, runs_at}
 use Rattle.cluster_defs.specs.Requests.{Request}
 use Rattle.cluster_defs.specs.Facts.{Facts, event_on, is_direct_id}
 use Rattle.cluster_defs.specs.Steps.{next}

@@ -3,7 +3,7 @@ use Rattle.std.proofs.Common.{◌≡◌, suc, ◌+◌, List, [], ◌∷◌, leng
 use Rattle.std.specs.Prelude.{nat_lt, is_some, is_none}
 use Rattle.std.proofs.lemmas.Bool.{false_from_ne_true, both_ways}
 use Rattle.cluster_defs.specs.Words.{Id, is_empty, is_listed, once}
-use Rattle.cluster_defs.specs.Tasks.{Settled}
+use Rattle.cluster_defs.specs.declared.settled.Settled.{Settled}
 use Rattle.cluster_defs.specs.Facts.{Facts, is_settled}
 use Rattle.cluster_types.specs.Limits.{most_ids}
 use Rattle.cluster_defs.specs.Purges.{Unknown, Inflight, Drops, inflight, gone_or_unknown, purge_list, purging, copies_from, never_known, gone, NeverKnown, Gone, Running, NoRoom, Makes, resubmitting}

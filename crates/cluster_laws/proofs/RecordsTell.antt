@@ -18,13 +18,14 @@ use Rattle.cluster_defs.specs.declared.attempt.Attempt.TheVariants.{Never, Runni
 use Rattle.cluster_defs.specs.declared.engine.Engine.{Engine}
 use Rattle.cluster_defs.specs.Words.{Id, is_empty, is_listed, is_number, once}
 use Rattle.cluster_defs.specs.Engines.{lists_number}
-use Rattle.cluster_defs.specs.Tasks.{Settled, engine_of, runs, runs_at}
+use Rattle.cluster_defs.specs.declared.settled.Settled.{Settled}
+use Rattle.cluster_defs.specs.Tasks.{engine_of, runs, runs_at}
 use Rattle.cluster_defs.specs.Facts.{Facts, is_settled, is_direct_id}
 use Rattle.cluster_defs.specs.Purges.{gone_or_unknown}
 use Rattle.cluster_defs.specs.Scheduling.{is_live, rests}
 use Rattle.cluster_defs.specs.Histories.{History, facts, Legal}
 use Rattle.cluster_defs.specs.Outcomes.{outcome}
-use Rattle.cluster_defs.specs.Queries.{plain, refusal, finished_on, engine_queue, unassigned, shown, queue_of, queue_answer, left_as, left_by, results_of, result_with, result_answer, answer_query, answer, limited}
+use Rattle.cluster_defs.specs.Queries.{plain, refusal, finished_on, engine_queue, unassigned, view_of, queues_by, shown, left_as, left_by, results_of, result_with, result_answer, answer_query, answer, limited}
 use Rattle.cluster_defs.specs.TaskRecords.{record_of, records_of}
 use Rattle.cluster_defs.specs.RecordAnswers.{ids_where, record_in, waits_in, runs_in, finished_in, queue_in, asked_engines, lives_in, queues_in, gone_as, is_settled_record, left_in, all_left, results_in, result_in, query_in, answer_in}
 use Rattle.cluster_defs.proofs.Options.{same_id}
@@ -102,19 +103,19 @@ lives_same : (live : List Engine) (n : ℕ) → lives_in (map pair live) n ≡ l
 lives_same [] n = refl
 lives_same (e ∷ live) n = ap (λ b. (e.number == n) || b) (lives_same live n)
 
-shown_same : (f : Facts) (targets : List ℕ) → asked_engines (map pair f.engines.live) targets ≡ shown f targets
-shown_same f targets = ap (filter (λ n. is_empty targets || list_any (λ m. is_number m (Some n)) targets)) (numbers_same f.engines.live)
+shown_same : (f : Facts) (targets : List ℕ) → asked_engines (map pair f.engines.live) targets ≡ shown (map (λ e. e.number) f.engines.live) targets
+shown_same f targets = ap (λ ns. shown ns targets) (numbers_same f.engines.live)
 
-queues_same : (h : History) → Legal h → (targets : List ℕ) (verbose : Bool) (o : Option ℕ) → queues_in (records_of (facts h)) (map pair (facts h).engines.live) targets verbose o ≡ queue_of (facts h) targets verbose o
+queues_same : (h : History) → Legal h → (targets : List ℕ) (verbose : Bool) (o : Option ℕ) → queues_in (records_of (facts h)) (map pair (facts h).engines.live) targets verbose o ≡ queues_by (view_of (facts h)) targets verbose o
 queues_same h legal targets verbose (Some n) = refl
 queues_same h legal targets verbose None =
     let f = facts h in
     let waiting = unassigned_same f in
-    let engines = ap (map (queue_in (records_of f))) (shown_same f targets) ∙ same_map (queue_in (records_of f)) (engine_queue f) (queue_same h legal) (shown f targets) in
+    let engines = ap (map (queue_in (records_of f))) (shown_same f targets) ∙ same_map (queue_in (records_of f)) (engine_queue f) (queue_same h legal) (shown (map (λ e. e.number) f.engines.live) targets) in
     λ i. plain (queue_content verbose (waiting i) (engines i))
 
 queue_told : (h : History) → Legal h → (targets : List ℕ) (verbose : Bool) →
-    queues_in (records_of (facts h)) (map pair (facts h).engines.live) targets verbose (find (λ n. not (lives_in (map pair (facts h).engines.live) n)) targets) ≡ queue_answer (facts h) targets verbose
+    queues_in (records_of (facts h)) (map pair (facts h).engines.live) targets verbose (find (λ n. not (lives_in (map pair (facts h).engines.live) n)) targets) ≡ queues_by (view_of (facts h)) targets verbose (find (λ n. not (is_live (facts h) n)) targets)
 queue_told h legal targets verbose =
     let f = facts h in
     ap (queues_in (records_of f) (map pair f.engines.live) targets verbose) (same_find (λ n. not (lives_in (map pair f.engines.live) n)) (λ n. not (is_live f n)) (λ n. ap not (lives_same f.engines.live n)) targets)

@@ -25,7 +25,7 @@ use Rattle.cluster_defs.specs.declared.connection.Connection.{Connection}
 use Rattle.cluster_defs.specs.Words.{Id, is_empty, is_listed, begins_with, once}
 use Rattle.cluster_defs.specs.Connections.{connection_on}
 use Rattle.cluster_defs.specs.Engines.{conn_in}
-use Rattle.cluster_defs.specs.Tasks.{Settled}
+use Rattle.cluster_defs.specs.declared.settled.Settled.{Settled}
 use Rattle.cluster_defs.specs.Facts.{Facts, event_on, event_in, is_settled}
 use Rattle.cluster_defs.specs.Acceptance.{Demand, reserved_front, is_same, is_repeat, acceptance_new, acceptance}
 use Rattle.cluster_defs.specs.Purges.{gone_or_unknown}

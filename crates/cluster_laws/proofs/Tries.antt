@@ -16,7 +16,9 @@ use Rattle.cluster_defs.specs.declared.attempt.Attempt.TheVariants.{Never, Runni
 use Rattle.cluster_defs.specs.declared.engine.Engine.{Engine}
 use Rattle.cluster_defs.specs.Words.{Id, or_else, is_number}
 use Rattle.cluster_defs.specs.Engines.{engine_on, left_engine}
-use Rattle.cluster_defs.specs.Tasks.{Task, Ending, Well, Badly, Declines, ending, lost, handed, runs, runs_at, is_never, home, counts, took, replied, after_reply, after_end}
+use Rattle.cluster_defs.specs.declared.attempt.Ending.{Ending}
+use Rattle.cluster_defs.specs.declared.attempt.Ending.TheVariants.{Well, Badly, Declines}
+use Rattle.cluster_defs.specs.Tasks.{Task, ending, lost, handed, runs, runs_at, is_never, home, counts, took, replied, after_reply, after_end}
 use Rattle.cluster_defs.specs.Requests.{Request}
 use Rattle.cluster_defs.specs.Facts.{Facts, event_on, is_direct_id}
 use Rattle.cluster_defs.specs.Acceptance.{accepted, request_from}

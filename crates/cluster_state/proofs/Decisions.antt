@@ -9,7 +9,8 @@ use Rattle.cluster_types.specs.declared.entry.Entry.TheVariants.{Hand, Settle, L
 use Rattle.cluster_defs.specs.declared.attempt.Attempt.{Attempt}
 use Rattle.cluster_defs.specs.declared.attempt.Attempt.TheVariants.{Never, Running, EndedOk, EndedBadly, Lost, Declined}
 use Rattle.cluster_defs.specs.Words.{Id, or_else}
-use Rattle.cluster_defs.specs.Tasks.{Task, runs, runs_at, lost, after_end, Settled, settled_as}
+use Rattle.cluster_defs.specs.declared.settled.Settled.{Settled}
+use Rattle.cluster_defs.specs.Tasks.{Task, runs, runs_at, lost, after_end, settled_as}
 use Rattle.cluster_defs.specs.Facts.{Facts, is_settled, is_direct_id}
 use Rattle.cluster_defs.specs.Steps.{step}
 use Rattle.cluster_defs.specs.Histories.{History, facts, Legal}

@@ -3,9 +3,9 @@ use Rattle.std.proofs.Common.{◌≡◌, ℕ, List, [], ◌∷◌, true, false, 
 use Rattle.cluster_types.specs.declared.verdict.Verdict.{Verdict}
 use Rattle.cluster_types.specs.declared.verdict.Cause.{Cause}
 use Rattle.cluster_defs.specs.Words.{Id}
-use Rattle.cluster_defs.specs.Tasks.{settled_as as settled_from}
-use Rattle.cluster_state.specs.declared.entries.Settling.{Settling}
-use Rattle.cluster_state.specs.Seen.{Seen, settled_as, settled_with, seen_in, changed}
+use Rattle.cluster_defs.specs.Tasks.{settled_as}
+use Rattle.cluster_state.specs.declared.settling.Settling.{Settling}
+use Rattle.cluster_state.specs.Seen.{Seen, settled_with, seen_in, changed}
 use Rattle.cluster_state.specs.Plain.{settled_at}
 use Rattle.cluster_state.specs.Settling.{IsSettling}
 
@@ -28,12 +28,12 @@ changed_none id g (u ∷ us) is =
     ]) is
 
 pub settle_some : (v : Verdict) (c : Cause) (moment : ℕ) (id : Id) (ts : List Seen) (s : Settling) → IsSettling v c moment (seen_in ts id) (Some s) →
-    changed id (settled_with (settled_as s.settled) s.outcome) ts ≡ changed id (settled_at v c moment) ts
+    changed id (settled_with s.settled s.outcome) ts ≡ changed id (settled_at v c moment) ts
 settle_some v c moment id ts s h = by (seen_in ts id) refl h
   where
-    by : (o : Option Seen) → seen_in ts id ≡ o → IsSettling v c moment o (Some s) → changed id (settled_with (settled_as s.settled) s.outcome) ts ≡ changed id (settled_at v c moment) ts
+    by : (o : Option Seen) → seen_in ts id ≡ o → IsSettling v c moment o (Some s) → changed id (settled_with s.settled s.outcome) ts ≡ changed id (settled_at v c moment) ts
     by None is k = cc
-    by (Some t) is k = changed_alike id (settled_with (settled_as s.settled) s.outcome) (settled_at v c moment) t ts is (ap (λ x. settled_with x s.outcome t) k.0 ∙ ap (λ o. settled_with (settled_from v c moment t.attempts) o t) k.1)
+    by (Some t) is k = changed_alike id (settled_with s.settled s.outcome) (settled_at v c moment) t ts is (ap (λ x. settled_with x s.outcome t) k.0 ∙ ap (λ o. settled_with (settled_as v c moment t.attempts) o t) k.1)
 
 pub settle_none : (v : Verdict) (c : Cause) (moment : ℕ) (id : Id) (ts : List Seen) → IsSettling v c moment (seen_in ts id) None → ts ≡ changed id (settled_at v c moment) ts
 settle_none v c moment id ts h = by (seen_in ts id) refl h

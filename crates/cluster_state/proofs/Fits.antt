@@ -10,7 +10,8 @@ use Rattle.cluster_types.specs.declared.event.Dep.{Dep}
 use Rattle.cluster_defs.specs.declared.engine.Engine.{Engine}
 use Rattle.cluster_defs.specs.Words.{Id, is_empty, is_listed, is_number}
 use Rattle.cluster_defs.specs.Engines.{lists_number}
-use Rattle.cluster_defs.specs.Tasks.{Task, Settled}
+use Rattle.cluster_defs.specs.declared.settled.Settled.{Settled}
+use Rattle.cluster_defs.specs.Tasks.{Task}
 use Rattle.cluster_defs.specs.Dependencies.{asked, met, quantified, unreachable, on_engine, apart, scattered}
 use Rattle.cluster_defs.specs.Requests.{Request, is_direct, is_bound, is_target}
 use Rattle.cluster_defs.specs.Scheduling.{rests, excludes, usable_on, spoils, follow_spoilt, follow_dead, no_target, is_dead, may_run_as}

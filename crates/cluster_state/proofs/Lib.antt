@@ -15,7 +15,7 @@ pub mod Multiplying
 pub mod Pieces
 pub mod Marking
 pub mod Places
-pub mod Purging
+pub mod Rulings
 pub mod Scattered
 pub mod Steps
 pub mod Tallying

@@ -6,7 +6,8 @@ use Rattle.cluster_types.specs.declared.message.Message.{Message}
 use Rattle.cluster_types.specs.declared.verdict.Cause.{Cause}
 use Rattle.cluster_types.specs.declared.verdict.Cause.TheVariants.{Reply, EngineError, ImpossibleDependency, InvalidDependency, TaskTimeout}
 use Rattle.cluster_defs.specs.Words.{Id}
-use Rattle.cluster_defs.specs.Tasks.{Task, engine_of, runs, Settled}
+use Rattle.cluster_defs.specs.declared.settled.Settled.{Settled}
+use Rattle.cluster_defs.specs.Tasks.{Task, engine_of, runs}
 use Rattle.cluster_defs.specs.Requests.{Request, Body, is_direct}
 use Rattle.cluster_defs.specs.Facts.{Facts, is_direct_id}
 use Rattle.cluster_defs.specs.Outcomes.{number_of, made_outcome, outcome_by}

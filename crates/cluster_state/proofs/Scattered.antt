@@ -5,7 +5,7 @@ use Rattle.std.specs.List.{list_any}
 use Rattle.std.specs.Option.{is_some}
 use Rattle.std.proofs.lemmas.Bool.{eqb-true}
 use Rattle.cluster_defs.specs.Words.{Id}
-use Rattle.cluster_defs.specs.Tasks.{Settled}
+use Rattle.cluster_defs.specs.declared.settled.Settled.{Settled}
 use Rattle.cluster_defs.specs.Dependencies.{same_engine, apart, scattered}
 
 pub same_truth : (a b : Bool) → (a ≡ true → b ≡ true) → (b ≡ true → a ≡ true) → a ≡ b

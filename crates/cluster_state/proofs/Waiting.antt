@@ -10,7 +10,7 @@ use Rattle.place_sets.specs.Sets.{has, holds, holds_at, Apart}
 use Rattle.place_sets.proofs.Covering.{off_from, first_or_later}
 use Rattle.cluster_types.specs.declared.event.Dep.{Dep}
 use Rattle.cluster_defs.specs.Words.{Id, is_empty, is_listed}
-use Rattle.cluster_defs.specs.Tasks.{Settled}
+use Rattle.cluster_defs.specs.declared.settled.Settled.{Settled}
 use Rattle.cluster_defs.specs.Dependencies.{asked, other_kind, quantified, met, unreachable}
 use Rattle.cluster_defs.specs.Requests.{Request}
 use Rattle.cluster_defs.proofs.Options.{same_id, id_self}

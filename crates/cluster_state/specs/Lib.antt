@@ -4,6 +4,7 @@ pub mod Loading
 pub mod Marking
 pub mod Places
 pub mod Plain
+pub mod Ruled
 pub mod Seen
 pub mod Settling
 pub mod Standing

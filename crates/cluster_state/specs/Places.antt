@@ -2,7 +2,7 @@
 use Rattle.std.specs.Prelude.{◌≡◌, ℕ, List, map, Option}
 use Rattle.cluster_defs.specs.Words.{Id}
 use Rattle.cluster_defs.specs.Requests.{Request}
-use Rattle.cluster_defs.specs.Tasks.{Settled}
+use Rattle.cluster_defs.specs.declared.settled.Settled.{Settled}
 use Rattle.cluster_state.specs.declared.marks.Marks.{Marks}
 use Rattle.cluster_state.specs.Seen.{Seen, place_in}
 use Rattle.cluster_state.specs.Marking.{Marked}

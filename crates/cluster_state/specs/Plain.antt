@@ -1,6 +1,5 @@
 -- The data of a cluster, as lists, and how the entries change it.
 use Rattle.std.specs.Prelude.{ℕ, ⊤, ◌≤◌, max, nat_lt, ◌+◌, ◌&&◌, ◌||◌, List, [], ◌∷◌, ◌++◌, length, map, Option, Some, None, Bool, true, false, not, if◌then◌else◌, option_map}
-use Rattle.std.specs.List.{list_any}
 use Rattle.std.specs.Option.{option_and_then}
 use Rattle.cluster_types.specs.declared.config.Channel.{Channel}
 use Rattle.cluster_types.specs.declared.config.Scheme.{Scheme}
@@ -18,10 +17,12 @@ use Rattle.cluster_defs.specs.declared.connection.Connection.{Connection}
 use Rattle.cluster_defs.specs.Words.{Id, is_listed}
 use Rattle.cluster_defs.specs.Connections.{with_connection, without_connection}
 use Rattle.cluster_defs.specs.Engines.{Engines, engine_on, joined, left_engine, echoed, without_left, with_engine, with_mark}
-use Rattle.cluster_defs.specs.Tasks.{Ending, ending, counts, Task, Settled, settled_as, new_task}
+use Rattle.cluster_defs.specs.declared.attempt.Ending.{Ending}
+use Rattle.cluster_defs.specs.declared.settled.Settled.{Settled}
+use Rattle.cluster_defs.specs.Tasks.{ending, counts, Task, settled_as, new_task}
 use Rattle.cluster_defs.specs.Requests.{Request, Body, body_of, parts_of}
 use Rattle.cluster_defs.specs.Facts.{Facts, is_settled, is_direct_id}
-use Rattle.cluster_types.specs.Limits.{most_ids, last_moment}
+use Rattle.cluster_types.specs.Limits.{last_moment}
 use Rattle.cluster_defs.specs.Acceptance.{Demand, accepted, request_made}
 use Rattle.cluster_defs.specs.Purges.{Copy, purged_by, copied_by, resubmitted}
 use Rattle.cluster_defs.specs.Steps.{changes, moved, next_word}
@@ -198,10 +199,6 @@ abbrev pub accepted_by : Option Demand → (Demand → Request) → Body → Pla
 accepted_by None request body p = p
 accepted_by (Some d) request body p = record p { tasks = p.tasks ++ begun_task d.submission.id (length p.tasks + 1) (request d) body ∷ [] }
 
--- whether all of some ids may be dropped: each is known, not purged and settled
-abbrev pub may_drop : Facts → List Id → Bool
-may_drop f ids = not (list_any (λ id. not (is_listed id f.known) || f.purged id) ids) && not (list_any (λ id. not (is_settled f id)) ids)
-
 -- the tasks, once some ids are dropped
 abbrev pub purged_tasks : List Id → List Seen → List Seen
 purged_tasks [] ts = ts
@@ -228,12 +225,6 @@ copies_in again number (c ∷ copies) ts = copy_of again number c.new (seen_in t
 abbrev pub copied_out : (Id → Request → Request) → Option (List Copy) → Plain → Plain
 copied_out again None p = p
 copied_out again (Some copies) p = record p { tasks = p.tasks ++ copies_in again (length p.tasks + 1) copies p.tasks }
-
--- whether all of some ids may be copied: each is known, not purged and settled, and there is room
-abbrev pub may_copy : Facts → List Id → Bool
-may_copy f ids =
-    not (list_any (λ id. not (is_listed id f.known)) ids) && not (list_any (λ id. f.purged id) ids)
-    && not (list_any (λ id. not (is_settled f id)) ids) && not (nat_lt most_ids (length f.known + length ids))
 
 -- a message with this meaning, where these facts stand
 abbrev pub told : Facts → ℕ → ℕ → Message → Event → Plain → Plain

@@ -5,24 +5,18 @@ use Rattle.std.specs.Option.{is_some, is_none}
 use Rattle.cluster_types.specs.declared.message.Message.{Message}
 use Rattle.cluster_types.specs.declared.record.Record.{Record}
 use Rattle.cluster_defs.specs.Words.{Id}
-use Rattle.cluster_defs.specs.Connections.{Peer}
-use Rattle.cluster_defs.specs.Tasks.{Task as TaskFacts, new_task, engine_of, runs, runs_at, handed, lost, after_end, took, Settled as SettledFacts, Ending as EndingFacts, Well as EndsWell, Badly as EndsBadly, Declines as Declined}
+use Rattle.cluster_defs.specs.declared.attempt.Ending.{Ending}
+use Rattle.cluster_defs.specs.declared.settled.Settled.{Settled}
+use Rattle.cluster_defs.specs.Tasks.{Task as TaskFacts, new_task, engine_of, runs, runs_at, handed, lost, after_end, took}
 use Rattle.cluster_defs.specs.Requests.{Request as RequestFacts, Body as BodyFacts, is_direct}
-use Rattle.cluster_state.specs.declared.request.Owner.{Owner}
 use Rattle.cluster_state.specs.declared.request.Request.{Request}
-use Rattle.cluster_state.specs.declared.task.Settled.{Settled}
 use Rattle.cluster_state.specs.declared.attempts.Attempts.{Attempts}
-use Rattle.cluster_state.specs.declared.attempts.Ending.{Ending}
-use Rattle.cluster_state.specs.declared.attempts.Ending.TheVariants.{Well, Badly, Declines}
 
 -- THE DATA, AS THE DEFINITIONS SPEAK OF IT
 
-abbrev pub owner_as : Owner → Peer
-owner_as o = record { channel = o.channel; identity = o.identity }
-
 abbrev pub request_as : Request → RequestFacts
 request_as r = record {
-  owner = option_map owner_as r.owner;
+  owner = r.owner;
   direct_to = r.direct_to;
   target = r.message.target;
   msg_type = r.msg_type;
@@ -44,14 +38,6 @@ request_as r = record {
 abbrev pub attempts_as : Attempts → TaskFacts
 attempts_as a = record { last = a.last; spent = a.spent; excluded = a.excluded.items; heard = a.heard.items }
 
-abbrev pub ending_as : Ending → EndingFacts
-ending_as Well = EndsWell
-ending_as Badly = EndsBadly
-ending_as Declines = Declined
-
-abbrev pub settled_as : Settled → SettledFacts
-settled_as s = record { verdict = s.verdict; cause = s.cause; engine = s.engine; moment = s.moment }
-
 -- WHAT IS SEEN OF A TASK
 
 pub record Seen : Type 0 where
@@ -60,7 +46,7 @@ pub record Seen : Type 0 where
   pub body : Option BodyFacts
   pub attempts : TaskFacts
   pub reply : Option Message  -- the last valid reply
-  pub settled : Option SettledFacts
+  pub settled : Option Settled
 
 -- an accepted request that was not handed out yet
 abbrev pub begun : Id → ℕ → RequestFacts → BodyFacts → Seen
@@ -90,11 +76,11 @@ abbrev pub lost_all : Seen → Seen
 lost_all t = if runs t.attempts.last then attempted (lost t.attempts.last t.attempts) t else t
 
 -- once a valid reply came, with this header id
-abbrev pub replied_with : List ℕ → EndingFacts → Message → Seen → Seen
+abbrev pub replied_with : List ℕ → Ending → Message → Seen → Seen
 replied_with header how message t = record (attempted (took header how t.attempts.last t.attempts) t) { reply = Some message }
 
 -- once it is settled, with this outcome
-abbrev pub settled_with : SettledFacts → Option Message → Seen → Seen
+abbrev pub settled_with : Settled → Option Message → Seen → Seen
 settled_with s outcome t = record t {
   settled = Some s;
   row = record t.row { settled = Some (s.verdict, s.cause); outcome = outcome };

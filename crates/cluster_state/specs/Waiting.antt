@@ -7,7 +7,8 @@ use Rattle.std.specs.Option.{option_and_then}
 use Rattle.place_sets.specs.Sets.{holds_at}
 use Rattle.task_graph.specs.Listing.{Lists, waiting_for}
 use Rattle.cluster_defs.specs.Words.{Id, is_listed}
-use Rattle.cluster_defs.specs.Tasks.{Task, Settled}
+use Rattle.cluster_defs.specs.declared.settled.Settled.{Settled}
+use Rattle.cluster_defs.specs.Tasks.{Task}
 use Rattle.cluster_defs.specs.Dependencies.{met}
 use Rattle.cluster_defs.specs.Requests.{Request, is_direct}
 use Rattle.cluster_defs.specs.Scheduling.{rests}

@@ -12,17 +12,17 @@ ghost use Rattle.cluster_defs.specs.Connections.{connection_on, peer_on};
 ghost use Rattle.cluster_defs.specs.Engines.{engine_named};
 ghost use Rattle.cluster_defs.specs.Requests.{targets_of, is_invalid, body_of};
 ghost use Rattle.cluster_defs.specs.Acceptance.{Demand, acceptance, acceptance_new, is_same, is_accepted, accepted_as, no_dependency, request_plain, request_submit, request_direct, request_made, reserved_front};
-ghost use Rattle.cluster_state.specs.Seen.{Seen, owner_as, request_as, begun};
+ghost use Rattle.cluster_state.specs.Seen.{Seen, request_as, begun};
 ghost use Rattle.cluster_state.specs.Plain.{facts_in, accepted_by};
 ghost use Rattle.cluster_state.specs.Stands.{plain};
 
 use crate::attempts::one_more;
-use crate::request::{Owner, Request};
+use crate::request::Request;
 use crate::state::State;
 use crate::task::Task;
 use crate::tasks::Tasks;
 use cluster_defs::acceptance::Acceptance;
-use cluster_defs::connection::Connection;
+use cluster_defs::connection::{Connection, Owner};
 use cluster_defs::engine::Engine;
 use cluster_types::event::{Dep, Submission};
 use cluster_types::limits::MOST_IDS;
@@ -42,7 +42,7 @@ pub fn connection_on(live: &[Connection], conn: u32) -> Option<&Connection>
 
 /// Who speaks on a connection.
 fn owner_on(live: &[Connection], conn: u32) -> Result<Option<Owner>, AllocError>
-    ensures { IfOk result (λ o. option_map owner_as o ≡ peer_on live.now conn) }
+    ensures { IfOk result (λ o. o ≡ peer_on live.now conn) }
 {
     match connection_on(live, conn) {
         Some(connection) => Ok(Some(Owner {
@@ -361,11 +361,12 @@ impl State {
         message: &SharedMessage,
         direct: bool,
         submission: &Submission,
+        accepted: bool,
     ) -> Result<bool, AllocError>
-        ensures told { IfOk result (λ b. b ≡ is_accepted (acceptance (facts_in (plain self.old)) (record { direct = direct; submission = submission.now }) message.now)) }
-        ensures after { OnOk result (plain self.new ≡ accepted_by (accepted_as (facts_in (plain self.old)) message.now (record { direct = direct; submission = submission.now })) (request_made (facts_in (plain self.old)) conn moment message.now) (body_of message.now) (plain self.old)) }
+        ensures told { IfOk result (λ b. b ≡ accepted) }
+        ensures after { OnOk result (plain self.new ≡ accepted_by (if accepted then Some (record { direct = direct; submission = submission.now }) else None) (request_made (facts_in (plain self.old)) conn moment message.now) (body_of message.now) (plain self.old)) }
     {
-        if self.acceptance(direct, submission, message) != Acceptance::Accepted {
+        if !accepted {
             return Ok(false);
         }
         let request = self.request_made(conn, moment, message, direct, submission)?;

@@ -4,9 +4,9 @@ ghost use Rattle.std.specs.Prelude.{◌≡◌, ◌∷◌, ◌+◌, ◌==◌, ◌
 ghost use Rattle.std.specs.List.{list_any};
 ghost use Rattle.cluster_defs.specs.Tasks.{new_task, runs, runs_at, is_never, engine_of, handed, lost, after_end, replied, took, has_heard};
 ghost use Rattle.cluster_defs.specs.declared.attempt.Attempt.{Attempt as AttemptType};
-ghost use Rattle.cluster_state.specs.Seen.{attempts_as, ending_as};
+ghost use Rattle.cluster_state.specs.Seen.{attempts_as};
 
-use cluster_defs::attempt::Attempt;
+use cluster_defs::attempt::{Attempt, Ending};
 use cluster_types::text::Text;
 use std::alloc::{AllocError, Global};
 
@@ -20,14 +20,6 @@ pub struct Attempts {
     pub excluded: Vec<u32>,
     /// The engine and the header id of each valid reply, the last one first.
     pub heard: Vec<(u32, Text)>,
-}
-
-/// How a valid reply ends an attempt.
-#[derive(Clone, Copy, Debug, PartialEq, Eq)]
-pub enum Ending {
-    Well,
-    Badly,
-    Declines,
 }
 
 /// One more of something that is counted. A count can't come to its end, since what is counted lies in memory; if it
@@ -138,7 +130,7 @@ impl Attempts {
 
     /// Takes a valid reply on the current attempt.
     pub fn take_reply(&mut self, header: &Text, how: Ending) -> Result<(), AllocError>
-        ensures { OnOk result (attempts_as self.new ≡ took header.now (ending_as how) (attempts_as self.old).last (attempts_as self.old)) }
+        ensures { OnOk result (attempts_as self.new ≡ took header.now how (attempts_as self.old).last (attempts_as self.old)) }
     {
         if let Attempt::Running { engine } = self.last {
             self.hear(header, engine)?;

@@ -4,11 +4,10 @@ ghost use Rattle.std.specs.Prelude.{◌≡◌, ◌&&◌, not, option_map};
 ghost use Rattle.std.specs.List.{list_any, list_all};
 ghost use Rattle.cluster_defs.specs.Words.{is_empty};
 ghost use Rattle.cluster_defs.specs.Dependencies.{asked, other_kind, met, unreachable};
-ghost use Rattle.cluster_state.specs.Seen.{settled_as};
 ghost use Rattle.cluster_state.specs.Waiting.{settled_in};
 
 use crate::table::Table;
-use crate::task::Settled;
+use cluster_defs::settled::Settled;
 use cluster_types::event::Dep;
 use cluster_types::message::Ids;
 use cluster_types::text::Text;
@@ -23,7 +22,7 @@ pub fn is_empty(ids: &Ids) -> bool
 
 /// How an id was settled, where it was.
 pub fn settled_in(table: &Table, id: &Text) -> Option<Settled>
-    ensures { option_map settled_as result ≡ settled_in table.now id.now }
+    ensures { result ≡ settled_in table.now id.now }
 {
     match table.find(id) {
         Some(task) => task.settled(),
@@ -33,7 +32,7 @@ pub fn settled_in(table: &Table, id: &Text) -> Option<Settled>
 
 /// Whether it finished in a kind that is asked for.
 pub fn is_asked(dep: &Dep, settled: Option<Settled>) -> bool
-    ensures { result ≡ asked dep.now (option_map settled_as settled) }
+    ensures { result ≡ asked dep.now settled }
 {
     match settled {
         Some(settled) => {
@@ -49,7 +48,7 @@ pub fn is_asked(dep: &Dep, settled: Option<Settled>) -> bool
 
 /// Whether it finished in a kind that isn't asked for.
 fn is_other_kind(dep: &Dep, settled: Option<Settled>) -> bool
-    ensures { result ≡ other_kind dep.now (option_map settled_as settled) }
+    ensures { result ≡ other_kind dep.now settled }
 {
     settled.is_some() && !is_asked(dep, settled)
 }

@@ -7,68 +7,18 @@ ghost use Rattle.cluster_types.specs.Limits.{last_moment};
 ghost use Rattle.cluster_defs.specs.Engines.{engine_on};
 ghost use Rattle.cluster_defs.specs.Steps.{changes};
 ghost use Rattle.cluster_defs.specs.Scheduling.{is_kept_as};
-ghost use Rattle.cluster_state.specs.Seen.{Seen, settled_as, settled_with, seen_in, changed};
-ghost use Rattle.cluster_state.specs.Plain.{facts_in, settled_at, settled_out, outcome_for, plain_after, InTime, beaten, passed, input_at, went_down, engine_ended};
+ghost use Rattle.cluster_state.specs.Ruled.{IsTold, IsRuled};
+ghost use Rattle.cluster_state.specs.Plain.{facts_in, plain_after, InTime, beaten, passed, input_at, went_down, engine_ended};
 ghost use Rattle.cluster_state.specs.Stands.{plain};
-ghost use Rattle.cluster_state.specs.Settling.{IsSettling};
 
-use crate::attempts::engine_of;
-use crate::outcomes::outcome_for;
+use crate::ruling::Ruling;
 use crate::state::State;
-use crate::task::Settled;
 use cluster_types::entry::{Entry, Input};
 use cluster_types::event::Event;
 use cluster_types::shared_message::SharedMessage;
-use cluster_types::text::Text;
-use cluster_types::verdict::{Cause, Verdict};
-use std::alloc::{AllocError, Global};
-
-/// How a task is settled, with its outcome.
-struct Settling {
-    settled: Settled,
-    outcome: Option<SharedMessage>,
-}
+use std::alloc::AllocError;
 
 impl State {
-    /// How a task that is there is settled.
-    fn settling(
-        &self,
-        id: &Text,
-        verdict: Verdict,
-        cause: Cause,
-    ) -> Result<Option<Settling>, AllocError>
-        requires { self.now.moment ≤ last_moment }
-        ensures { IfOk result (λ o. IsSettling verdict cause self.entry.now.moment (seen_in self.entry.now.tasks id.now) o) }
-    {
-        match self.tasks.find(id) {
-            Some(task) => {
-                let settled = Settled {
-                    verdict,
-                    cause,
-                    engine: engine_of(task.attempts().last),
-                    moment: self.moment,
-                };
-                let outcome = outcome_for(self.allocator(), settled, task)?;
-                Ok(Some(Settling { settled, outcome }))
-            }
-            None => Ok(None),
-        }
-    }
-
-    /// Takes a settle.
-    fn settle(&mut self, id: &Text, verdict: Verdict, cause: Cause) -> Result<(), AllocError>
-        requires { self.old.moment ≤ last_moment }
-        ensures { OnOk result (plain self.new ≡ settled_out id.now verdict cause (plain self.old)) }
-    {
-        match self.settling(id, verdict, cause)? {
-            Some(Settling { settled, outcome }) => {
-                self.tasks.settle(id, settled, outcome)?;
-                Ok(())
-            }
-            None => Ok(()),
-        }
-    }
-
     /// Takes a beat.
     fn take_beat(&mut self, moment: u64, word: u64) -> Result<(), AllocError>
         ensures { OnOk result (plain self.new ≡ beaten (passed moment (input_at moment word (plain self.old)))) }
@@ -88,8 +38,14 @@ impl State {
     }
 
     /// Takes an input with what its message means, and tells whether it is kept.
-    fn take_input(&mut self, input: &Input, event: &Option<Event>) -> Result<bool, AllocError>
-        requires { InTime (Entry.Input input.now) }
+    fn take_input(
+        &mut self,
+        input: &Input,
+        event: &Option<Event>,
+        ruling: Ruling,
+    ) -> Result<bool, AllocError>
+        requires time { InTime (Entry.Input input.now) }
+        requires ruled { IsRuled (plain self.old) (Entry.Input input.now) event.now ruling }
         ensures kept { IfOk result (λ b. b ≡ is_kept_as (facts_in (plain self.old)) (Entry.Input input.now) event.now) }
         ensures after { OnOk result (plain self.new ≡ plain_after (facts_in (plain self.old)) (Entry.Input input.now) event.now (plain self.old)) }
     {
@@ -117,7 +73,7 @@ impl State {
                 word,
                 message,
             } => {
-                let kept = self.take_in(*conn, *moment, *word, message, event)?;
+                let kept = self.take_in(*conn, *moment, *word, message, event, ruling)?;
                 return Ok(kept);
             }
             Input::Beat { moment, word } => self.take_beat(*moment, *word)?,
@@ -137,37 +93,46 @@ impl State {
         word: u64,
         message: &SharedMessage,
         event: &Option<Event>,
+        ruling: Ruling,
     ) -> Result<bool, AllocError>
-        requires { moment ≤ last_moment }
+        requires moment { moment ≤ last_moment }
+        requires ruled { IsRuled (plain self.old) (Entry.Input (InputType.In conn moment word message.now)) event.now ruling }
         ensures kept { IfOk result (λ b. b ≡ changes (facts_in (plain self.old)) conn message.now event.now) }
         ensures after { OnOk result (plain self.new ≡ plain_after (facts_in (plain self.old)) (Entry.Input (InputType.In conn moment word message.now)) event.now (plain self.old)) }
     {
         match event {
             Some(event) => {
-                let kept = self.take_message(conn, moment, word, message, event)?;
+                let kept = self.take_message(conn, moment, word, message, event, ruling)?;
                 Ok(kept)
             }
             None => Ok(false),
         }
     }
 
-    /// Takes an entry with what its message means, and tells whether it is kept.
-    pub fn take(&mut self, entry: &Entry, event: &Option<Event>) -> Result<bool, AllocError>
+    /// Takes an entry with what its message means and what it comes to, and tells whether it is kept.
+    pub fn take(
+        &mut self,
+        entry: &Entry,
+        event: &Option<Event>,
+        ruling: Ruling,
+    ) -> Result<bool, AllocError>
         requires time { InTime entry.now }
-        requires now { self.old.moment ≤ last_moment }
+        requires ruled { IsRuled (plain self.old) entry.now event.now ruling }
         ensures kept { IfOk result (λ b. b ≡ is_kept_as (facts_in (plain self.old)) entry.now event.now) }
         ensures after { OnOk result (plain self.new ≡ plain_after (facts_in (plain self.old)) entry.now event.now (plain self.old)) }
     {
         match entry {
             Entry::Input(input) => {
-                let kept = self.take_input(input, event)?;
+                let kept = self.take_input(input, event, ruling)?;
                 return Ok(kept);
             }
             Entry::Hand { id, engine } => {
                 let direct = self.is_direct(id);
                 self.hand(id, *engine, direct)?;
             }
-            Entry::Settle { id, verdict, cause } => self.settle(id, *verdict, *cause)?,
+            Entry::Settle { id, verdict, cause } => {
+                self.settle(id, *verdict, *cause, ruling.into_settle())?;
+            }
             Entry::Lose { engine } => self.end_engine(*engine)?,
         }
         Ok(true)

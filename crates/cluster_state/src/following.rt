@@ -4,19 +4,18 @@ ghost use Rattle.std.specs.Prelude.{◌≡◌, find, option_map};
 ghost use Rattle.std.specs.Option.{option_copied, is_some};
 ghost use Rattle.std.specs.List.{list_any, list_all};
 ghost use Rattle.cluster_defs.specs.Dependencies.{asked, met, on_engine, same_engine, apart, scattered};
-ghost use Rattle.cluster_state.specs.Seen.{settled_as};
 ghost use Rattle.cluster_state.specs.Waiting.{settled_in};
 
 use crate::dependencies::{is_asked, is_empty, settled_in};
 use crate::table::Table;
-use crate::task::Settled;
+use cluster_defs::settled::Settled;
 use cluster_types::event::Dep;
 use cluster_types::message::Ids;
 use cluster_types::text::Text;
 
 /// How an id was settled, where it was on an engine.
 fn settled_on(table: &Table, engine: u32, id: &Text) -> Option<Settled>
-    ensures { option_map settled_as result ≡ on_engine engine (settled_in table.now id.now) }
+    ensures { result ≡ on_engine engine (settled_in table.now id.now) }
 {
     match settled_in(table, id) {
         Some(settled) if settled.engine == Some(engine) => Some(settled),
@@ -76,7 +75,7 @@ fn is_same_engine(one: Option<u32>, other: Option<u32>) -> bool
 
 /// Whether two ids finished, and not on one engine.
 fn are_apart(one: Option<Settled>, other: Option<Settled>) -> bool
-    ensures { result ≡ apart (option_map settled_as one) (option_map settled_as other) }
+    ensures { result ≡ apart one other }
 {
     match (one, other) {
         (Some(one), Some(other)) => !is_same_engine(one.engine, other.engine),
@@ -86,7 +85,7 @@ fn are_apart(one: Option<Settled>, other: Option<Settled>) -> bool
 
 /// Whether an id finished, and not on the engine of one that did.
 fn is_apart_from(table: &Table, one: Option<Settled>, id: &Text) -> bool
-    ensures { result ≡ apart (option_map settled_as one) (settled_in table.now id.now) }
+    ensures { result ≡ apart one (settled_in table.now id.now) }
 {
     are_apart(one, settled_in(table, id))
 }
@@ -107,7 +106,7 @@ fn first_finished<'a>(table: &Table, ids: &'a Ids) -> Option<&'a Text>
 
 /// Whether one of some ids finished, and not on the engine of one that did.
 fn any_apart(table: &Table, one: Option<Settled>, ids: &Ids) -> bool
-    ensures { result ≡ list_any (λ i. apart (option_map settled_as one) (settled_in table.now i)) ids.now }
+    ensures { result ≡ list_any (λ i. apart one (settled_in table.now i)) ids.now }
 {
     ids.as_slice()
         .iter()

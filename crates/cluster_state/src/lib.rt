@@ -19,6 +19,8 @@ pub mod purges;
 pub mod readiness;
 pub mod replies;
 pub mod request;
+pub mod ruling;
+pub mod settling;
 pub mod standing;
 pub mod state;
 pub mod table;

@@ -1,14 +1,17 @@
 //! Messages, with what they mean.
 
-ghost use Rattle.std.specs.Prelude.{◌≡◌, ◌≤◌, is_some, IfOk, OnOk, Some, None};
-ghost use Rattle.cluster_defs.specs.Engines.{joined, left_engine, echoed};
+ghost use Rattle.std.specs.Prelude.{◌≡◌, ◌≤◌, is_some, IfOk, OnOk, Some, None, if◌then◌else◌};
+ghost use Rattle.cluster_defs.specs.Engines.{joining as joining_of, is_joined, echoed};
 ghost use Rattle.cluster_types.specs.declared.event.Event.{Event};
 ghost use Rattle.cluster_types.specs.Limits.{last_moment};
 ghost use Rattle.cluster_defs.specs.Steps.{changes};
 ghost use Rattle.cluster_state.specs.Plain.{facts_in, engine_ended, joined_by, echoed_by, told, noted};
+ghost use Rattle.cluster_state.specs.Ruled.{IsTold};
 ghost use Rattle.cluster_state.specs.Stands.{plain};
 
+use crate::ruling::Ruling;
 use crate::state::State;
+use cluster_defs::acceptance::Acceptance;
 use cluster_defs::engine::Joining;
 use cluster_types::event::Event;
 use cluster_types::shared_message::SharedMessage;
@@ -16,24 +19,31 @@ use cluster_types::text::Text;
 use std::alloc::{AllocError, Global};
 
 impl State {
-    /// Takes a registration, where it is accepted, and tells whether it is.
-    pub fn take_join(&mut self, conn: u32, uuid: &Text) -> Result<bool, AllocError>
-        ensures told { IfOk result (λ b. b ≡ is_some (joined (plain self.old).engines conn (Some (Event.Join uuid.now)))) }
-        ensures after { OnOk result (plain self.new ≡ joined_by conn (joined (plain self.old).engines conn (Some (Event.Join uuid.now))) (plain self.old)) }
+    /// Takes a registration that comes to this, and tells whether it is accepted.
+    #[tactic(auto, using(crate::proofs::Rulings::has_number))]
+    pub fn take_join(
+        &mut self,
+        conn: u32,
+        uuid: &Text,
+        joining: Joining,
+    ) -> Result<bool, AllocError>
+        requires { joining ≡ joining_of (plain self.old).engines conn uuid.now }
+        ensures told { IfOk result (λ b. b ≡ is_joined joining) }
+        ensures after { OnOk result (plain self.new ≡ joined_by conn (if is_joined joining then Some uuid.now else None) (plain self.old)) }
     {
-        if self.engines.joining(self.next_engine, conn, uuid) != Joining::Accepted {
+        if joining != Joining::Accepted {
             return Ok(false);
         }
         self.join(conn, uuid)?;
         Ok(true)
     }
 
-    /// Takes an engine's leave, where there is one on the connection, and tells whether there is.
-    pub fn take_leave(&mut self, conn: u32) -> Result<bool, AllocError>
-        ensures told { IfOk result (λ b. b ≡ is_some (left_engine self.old.engines conn (Some Event.Leave))) }
-        ensures after { OnOk result (plain self.new ≡ engine_ended (left_engine self.old.engines conn (Some Event.Leave)) (plain self.old)) }
+    /// Takes an engine's leave, where there is an engine, and tells whether there is.
+    pub fn take_leave(&mut self, engine: Option<u32>) -> Result<bool, AllocError>
+        ensures told { IfOk result (λ b. b ≡ is_some engine) }
+        ensures after { OnOk result (plain self.new ≡ engine_ended engine (plain self.old)) }
     {
-        match self.engines.number_on(conn) {
+        match engine {
             Some(engine) => {
                 self.end_engine(engine)?;
                 Ok(true)
@@ -55,34 +65,40 @@ impl State {
     }
 
     /// Takes what a message means, and tells whether it changes anything.
-    #[tactic(auto, using(crate::proofs::Changes::changes_submit, crate::proofs::Changes::changes_direct, crate::proofs::Changes::changes_join, crate::proofs::Changes::changes_leave, crate::proofs::Changes::changes_pong, crate::proofs::Changes::changes_purge, crate::proofs::Changes::changes_resubmit))]
+    #[tactic(auto, using(crate::proofs::Changes::changes_submit, crate::proofs::Changes::changes_direct, crate::proofs::Changes::changes_join, crate::proofs::Changes::changes_leave, crate::proofs::Changes::changes_pong, crate::proofs::Changes::changes_purge, crate::proofs::Changes::changes_resubmit, crate::proofs::Rulings::purge_there, crate::proofs::Rulings::resubmit_there, crate::proofs::Rulings::purge_is, crate::proofs::Rulings::resubmit_is, crate::proofs::Rulings::resubmit_told))]
     pub fn take_event(
         &mut self,
         conn: u32,
         moment: u64,
         message: &SharedMessage,
         event: &Event,
+        ruling: Ruling,
     ) -> Result<bool, AllocError>
-        requires { moment ≤ last_moment }
+        requires moment { moment ≤ last_moment }
+        requires ruled { IsTold (facts_in (plain self.old)) conn message.now event.now ruling }
         ensures told { IfOk result (λ b. b ≡ changes (facts_in (plain self.old)) conn message.now (Some event.now)) }
         ensures after { OnOk result (plain self.new ≡ told (facts_in (plain self.old)) conn moment message.now event.now (plain self.old)) }
     {
         match event {
             Event::Submit(submission) => {
-                self.take_demand(conn, moment, message, false, submission)
+                let accepted = ruling.demand() == Acceptance::Accepted;
+                self.take_demand(conn, moment, message, false, submission, accepted)
             }
-            Event::Direct(submission) => self.take_demand(conn, moment, message, true, submission),
+            Event::Direct(submission) => {
+                let accepted = ruling.demand() == Acceptance::Accepted;
+                self.take_demand(conn, moment, message, true, submission, accepted)
+            }
             Event::Reply {
                 task,
                 header_id,
                 ok,
                 declined,
             } => self.take_reply(conn, task, header_id, *ok, *declined, message),
-            Event::Join { uuid } => self.take_join(conn, uuid),
-            Event::Leave => self.take_leave(conn),
+            Event::Join { uuid } => self.take_join(conn, uuid, ruling.join()),
+            Event::Leave => self.take_leave(ruling.leave()),
             Event::Pong { beat } => Ok(self.take_pong(conn, *beat)),
-            Event::Purge { all, ids } => self.take_purge(*all, ids),
-            Event::Resubmit { ids } => self.take_resubmit(moment, ids),
+            Event::Purge { all: _, ids: _ } => self.take_purge(ruling.purge()),
+            Event::Resubmit { ids: _ } => self.take_resubmit(moment, ruling.resubmit()),
             Event::Ask(_) => Ok(false),
         }
     }
@@ -95,12 +111,14 @@ impl State {
         word: u64,
         message: &SharedMessage,
         event: &Event,
+        ruling: Ruling,
     ) -> Result<bool, AllocError>
-        requires { moment ≤ last_moment }
+        requires moment { moment ≤ last_moment }
+        requires ruled { IsTold (facts_in (plain self.old)) conn message.now event.now ruling }
         ensures told { IfOk result (λ b. b ≡ changes (facts_in (plain self.old)) conn message.now (Some event.now)) }
         ensures after { OnOk result (plain self.new ≡ noted (changes (facts_in (plain self.old)) conn message.now (Some event.now)) moment word (told (facts_in (plain self.old)) conn moment message.now event.now (plain self.old))) }
     {
-        let kept = self.take_event(conn, moment, message, event)?;
+        let kept = self.take_event(conn, moment, message, event, ruling)?;
         if kept {
             self.note_input(moment, word);
         }

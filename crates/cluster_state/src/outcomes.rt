@@ -7,11 +7,12 @@ ghost use Rattle.cluster_types.specs.Limits.{last_moment};
 ghost use Rattle.message_defs.specs.Texts.{outcome_id, made_header, reply_type};
 ghost use Rattle.edges.specs.Date.{date_of};
 ghost use Rattle.cluster_defs.specs.Outcomes.{made_outcome};
-ghost use Rattle.cluster_state.specs.Seen.{request_as, settled_as};
+ghost use Rattle.cluster_state.specs.Seen.{request_as};
 ghost use Rattle.cluster_state.specs.Plain.{outcome_for};
 
 use crate::request::Request;
-use crate::task::{Settled, Task};
+use crate::task::Task;
+use cluster_defs::settled::Settled;
 use cluster_types::message::Buffers;
 use cluster_types::octets::Octets;
 use cluster_types::shared_message::SharedMessage;
@@ -70,7 +71,7 @@ fn made_outcome(
     request: &Request,
 ) -> Result<SharedMessage, AllocError>
     requires { settled.moment ≤ last_moment }
-    ensures { IfOk result (λ m. m ≡ made_outcome number (settled_as settled) (request_as request.now)) }
+    ensures { IfOk result (λ m. m ≡ made_outcome number settled (request_as request.now)) }
 {
     let value = cause_text(alloc, settled.cause, settled.engine)?;
     let header = outcome_header(alloc, number, &request.msg_type, settled.moment)?;
@@ -94,7 +95,7 @@ pub fn outcome_for(
     task: &Task,
 ) -> Result<Option<SharedMessage>, AllocError>
     requires { settled.moment ≤ last_moment }
-    ensures { IfOk result (λ o. o ≡ outcome_for (settled_as settled) settled.cause task.now) }
+    ensures { IfOk result (λ o. o ≡ outcome_for settled settled.cause task.now) }
 {
     if settled.cause == Cause::Reply {
         let reply = copied(task.reply())?;

@@ -5,13 +5,13 @@ ghost use Rattle.cluster_defs.specs.Words.{is_number};
 ghost use Rattle.cluster_defs.specs.Tasks.{home, counts, ending};
 ghost use Rattle.cluster_defs.specs.Requests.{parts_of};
 ghost use Rattle.cluster_defs.specs.Facts.{is_direct_id};
-ghost use Rattle.cluster_state.specs.Seen.{attempts_as, ending_as};
+ghost use Rattle.cluster_state.specs.Seen.{attempts_as};
 ghost use Rattle.cluster_state.specs.Plain.{facts_in, replied_by};
 ghost use Rattle.cluster_state.specs.Stands.{plain};
 
-use crate::attempts::{Attempts, Ending};
+use crate::attempts::Attempts;
 use crate::state::State;
-use cluster_defs::attempt::Attempt;
+use cluster_defs::attempt::{Attempt, Ending};
 use cluster_types::shared_message::SharedMessage;
 use cluster_types::text::Text;
 use engine_registry::registry::Registry;
@@ -45,7 +45,7 @@ fn counts(live: &Registry, conn: u32, header: &Text, attempts: &Attempts) -> boo
 
 /// How a valid reply ends an attempt.
 fn ending(direct: bool, ok: bool, declined: bool) -> Ending
-    ensures { ending_as result ≡ ending direct ok declined }
+    ensures { result ≡ ending direct ok declined }
 {
     if declined {
         if direct {

@@ -1,18 +1,10 @@
 //! Requests that were accepted.
 
-use cluster_types::config::Channel;
+use cluster_defs::connection::Owner;
 use cluster_types::event::Dep;
 use cluster_types::message::{Engines, Ids};
-use cluster_types::octets::Octets;
 use cluster_types::shared_message::SharedMessage;
 use cluster_types::text::Text;
-
-/// Who submitted a request: the channel and identity of its connection.
-#[derive(Clone, Debug, Drop)]
-pub struct Owner {
-    pub channel: Channel,
-    pub identity: Octets,
-}
 
 /// What an accepted request says, and its message, which is passed on.
 #[derive(Clone, Debug, Drop)]

@@ -1,22 +1,21 @@
 //! What is known of a cluster.
 
-ghost use Rattle.std.specs.Prelude.{◌≡◌, ◌≤◌, ◌+◌, ◌%◌, true, Some, None, IfOk, OnOk, option_map};
+ghost use Rattle.std.specs.Prelude.{◌≡◌, ◌==◌, ◌≤◌, ◌+◌, ◌%◌, true, false, Some, None, IfOk, OnOk, option_map};
 ghost use Rattle.cluster_types.specs.Limits.{most_engines};
 ghost use Rattle.cluster_defs.specs.Facts.{nothing_yet};
 ghost use Rattle.cluster_defs.specs.Engines.{engine_on, with_mark, with_engine};
 ghost use Rattle.cluster_defs.specs.Steps.{next_word};
 ghost use Rattle.cluster_defs.specs.Connections.{without_connection};
-ghost use Rattle.cluster_state.specs.Seen.{settled_as};
 ghost use Rattle.cluster_state.specs.Plain.{plain_of, opened, input_at, came_up, went_down, engine_ended, beaten, passed, handed_out, settled_out, joined_by, echoed_by};
 ghost use Rattle.cluster_state.specs.Stands.{plain};
 
 use crate::attempts::{engine_of, one_more};
 use crate::engines::use_engine;
 use crate::outcomes::outcome_for;
-use crate::task::Settled;
 use crate::tasks::Tasks;
 use cluster_defs::connection::Connection;
 use cluster_defs::engine::Engine;
+use cluster_defs::settled::Settled;
 use cluster_types::config::{Channel, Scheme};
 use cluster_types::octets::Octets;
 use cluster_types::text::Text;
@@ -192,7 +191,7 @@ impl State {
 
     /// Makes an engine.
     pub fn join(&mut self, conn: u32, uuid: &Text) -> Result<(), AllocError>
-        requires { self.old.next_engine + 1 ≤ most_engines }
+        requires { (self.old.next_engine == most_engines) ≡ false }
         ensures { OnOk result (plain self.new ≡ joined_by conn (Some uuid.now) (plain self.old)) }
     {
         let number = self.next_engine;

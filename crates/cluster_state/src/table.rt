@@ -5,13 +5,14 @@ ghost use Rattle.std.specs.HashMap.{get_by_text};
 ghost use Rattle.std.specs.Option.{option_copied, option_and_then};
 ghost use Rattle.std.specs.Vec.{vec_len, vec_capacity};
 ghost use Rattle.place_sets.specs.Sets.{Apart, at_place, at_places};
-ghost use Rattle.cluster_state.specs.Seen.{ending_as, settled_as, handed_to, ended_on, lost_all, replied_with, settled_with, purged_out, seen_in, place_in, on_unsettled};
+ghost use Rattle.cluster_state.specs.Seen.{handed_to, ended_on, lost_all, replied_with, settled_with, purged_out, seen_in, place_in, on_unsettled};
 ghost use Rattle.cluster_defs.specs.Words.{or_else};
 ghost use Rattle.cluster_state.specs.Marking.{Aside};
 ghost use Rattle.cluster_state.specs.Places.{Alike, name, asking};
 
-use crate::attempts::Ending;
-use crate::task::{Settled, Task};
+use crate::task::Task;
+use cluster_defs::attempt::Ending;
+use cluster_defs::settled::Settled;
 use cluster_types::shared_message::SharedMessage;
 use cluster_types::text::Text;
 use std::alloc::{AllocError, Global};
@@ -58,7 +59,7 @@ fn hand_at(tasks: &mut [Task], place: usize, engine: u32)
 }
 
 fn settle_at(tasks: &mut [Task], place: usize, settled: Settled, outcome: Option<SharedMessage>)
-    ensures ok { tasks.new ≡ at_place (settled_with (settled_as settled) outcome) place tasks.old }
+    ensures ok { tasks.new ≡ at_place (settled_with settled outcome) place tasks.old }
     ensures names { map name tasks.new ≡ map name tasks.old }
     ensures requests { map asking tasks.new ≡ map asking tasks.old }
     ensures apart { Apart place tasks.old tasks.new }
@@ -87,7 +88,7 @@ fn take_reply_at(
     how: Ending,
     reply: SharedMessage,
 ) -> Result<(), AllocError>
-    ensures ok { OnOk result (tasks.new ≡ at_place (replied_with header.now (ending_as how) reply) place tasks.old) }
+    ensures ok { OnOk result (tasks.new ≡ at_place (replied_with header.now how reply) place tasks.old) }
     ensures same { Alike tasks.old tasks.new }
     ensures apart { Apart place tasks.old tasks.new }
 {
@@ -270,7 +271,7 @@ impl Table {
 
     /// Settles the task at a place.
     pub fn settle_at(&mut self, place: usize, settled: Settled, outcome: Option<SharedMessage>)
-        ensures ok { self.new ≡ at_place (settled_with (settled_as settled) outcome) place self.old }
+        ensures ok { self.new ≡ at_place (settled_with settled outcome) place self.old }
         ensures names { map name self.new ≡ map name self.old }
         ensures requests { map asking self.new ≡ map asking self.old }
         ensures apart { Apart place self.old self.new }
@@ -295,7 +296,7 @@ impl Table {
         how: Ending,
         reply: SharedMessage,
     ) -> Result<(), AllocError>
-        ensures ok { OnOk result (self.new ≡ at_place (replied_with header.now (ending_as how) reply) place self.old) }
+        ensures ok { OnOk result (self.new ≡ at_place (replied_with header.now how reply) place self.old) }
         ensures same { Alike self.old self.new }
         ensures apart { Apart place self.old self.new }
     {

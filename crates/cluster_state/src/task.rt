@@ -4,28 +4,19 @@ ghost use Rattle.std.specs.Prelude.{◌≡◌, Some, None, IfOk, OnOk};
 ghost use Rattle.std.specs.Option.{option_copied};
 ghost use Rattle.cluster_types.specs.declared.record.Record.{Record as RecordType};
 ghost use Rattle.cluster_defs.specs.Requests.{body_of};
-ghost use Rattle.cluster_state.specs.Seen.{request_as, attempts_as, ending_as, settled_as, begun, attempted, handed_to, ended_on, lost_all, replied_with, settled_with, purged_out, on_unsettled};
+ghost use Rattle.cluster_state.specs.Seen.{request_as, attempts_as, begun, attempted, handed_to, ended_on, lost_all, replied_with, settled_with, purged_out, on_unsettled};
 ghost use Rattle.cluster_state.specs.Places.{IsSame};
 
-use crate::attempts::{Attempts, Ending, engine_of, runs, runs_at};
+use crate::attempts::{Attempts, engine_of, runs, runs_at};
 use crate::request::Request;
+use cluster_defs::attempt::Ending;
+use cluster_defs::settled::Settled;
 use cluster_types::record::Record;
 use cluster_types::shared_message::SharedMessage;
 use cluster_types::text::Text;
 use cluster_types::verdict::{Cause, Verdict};
 use std::alloc::{AllocError, Global};
 use std::marker::Model;
-
-/// How a task was settled.
-#[derive(Clone, Copy, Debug, PartialEq, Eq)]
-pub struct Settled {
-    pub verdict: Verdict,
-    pub cause: Cause,
-    /// The engine of the last attempt, where there was one.
-    pub engine: Option<u32>,
-    /// The moment of the last input before, in milliseconds.
-    pub moment: u64,
-}
 
 /// A task, which contracts see as all that a history says of its id.
 #[derive(Debug, Drop)]
@@ -40,11 +31,11 @@ pub struct Task {
 impl Model for Task {
     ghost use Rattle.std.specs.Prelude.{Some, option_map};
     ghost use Rattle.cluster_defs.specs.Requests.{body_of};
-    ghost use Rattle.cluster_state.specs.Seen.{Seen, request_as, attempts_as, settled_as};
+    ghost use Rattle.cluster_state.specs.Seen.{Seen, request_as, attempts_as};
 
     ghost Value = { Seen };
 
-    ghost view = { λ t. record { row = t.row; request = Some (request_as t.request); body = Some (body_of t.request.message); attempts = attempts_as t.attempts; reply = t.reply; settled = option_map settled_as t.settled } };
+    ghost view = { λ t. record { row = t.row; request = Some (request_as t.request); body = Some (body_of t.request.message); attempts = attempts_as t.attempts; reply = t.reply; settled = t.settled } };
 }
 
 impl Task {
@@ -106,7 +97,7 @@ impl Task {
     }
 
     pub fn settled(&self) -> Option<Settled>
-        ensures { option_map settled_as result ≡ self.now.settled }
+        ensures { result ≡ self.now.settled }
     {
         self.settled
     }
@@ -158,7 +149,7 @@ impl Task {
         how: Ending,
         reply: SharedMessage,
     ) -> Result<(), AllocError>
-        ensures ok { OnOk result (self.new ≡ replied_with header.now (ending_as how) reply self.old) }
+        ensures ok { OnOk result (self.new ≡ replied_with header.now how reply self.old) }
         ensures same { IsSame self.old self.new }
     {
         self.attempts.take_reply(header, how)?;
@@ -169,7 +160,7 @@ impl Task {
 
     /// Settles it.
     pub fn settle(&mut self, settled: Settled, outcome: Option<SharedMessage>)
-        ensures { self.new ≡ settled_with (settled_as settled) outcome self.old }
+        ensures { self.new ≡ settled_with settled outcome self.old }
     {
         self.settled = Some(settled);
         self.row.settled = Some((settled.verdict, settled.cause));

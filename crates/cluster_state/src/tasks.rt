@@ -5,20 +5,21 @@ ghost use Rattle.std.specs.List.Sorted.{IsStrictlySortedBy};
 ghost use Rattle.std.specs.Option.{option_copied, option_and_then};
 ghost use Rattle.std.specs.Ordering.{nat_cmp};
 ghost use Rattle.place_sets.specs.Sets.{at_place};
-ghost use Rattle.cluster_state.specs.Seen.{ending_as, settled_as, handed_to, ended_on, lost_all, replied_with, settled_with, purged_out, seen_in, place_in, changed, on_unsettled};
+ghost use Rattle.cluster_state.specs.Seen.{handed_to, ended_on, lost_all, replied_with, settled_with, purged_out, seen_in, place_in, changed, on_unsettled};
 ghost use Rattle.cluster_state.specs.Marking.{Marked};
 ghost use Rattle.cluster_state.specs.Loading.{Counts, Counted};
 ghost use Rattle.cluster_state.specs.Tallying.{AllTold};
 ghost use Rattle.cluster_state.specs.Places.{Alike, asking};
 ghost use Rattle.cluster_state.specs.Waiting.{Awaited, IsNoted, WaitsGrow};
 
-use crate::attempts::Ending;
 use crate::loads::tallied;
 use crate::marks::{Marks, mark, mark_all, no_marks, wake_all};
 use crate::table::Table;
 use crate::tallies::{Tallies, classes_at, classes_of, follow, no_classes, set_aside, take_back};
-use crate::task::{Settled, Task};
+use crate::task::Task;
 use crate::tidying::{tidy, tidy_all, tidy_waiting_all};
+use cluster_defs::attempt::Ending;
+use cluster_defs::settled::Settled;
 use cluster_types::message::Ids;
 use cluster_types::shared_message::SharedMessage;
 use cluster_types::text::Text;
@@ -86,7 +87,7 @@ fn settle_in(
     requires marked { Marked table.old marks.old }
     requires place { place_in id.now table.old ≡ Some place }
     requires waiting { Awaited id.now table.old waiting.now }
-    ensures ok { OnOk result (table.new ≡ at_place (settled_with (settled_as settled) outcome) place table.old) }
+    ensures ok { OnOk result (table.new ≡ at_place (settled_with settled outcome) place table.old) }
     ensures requests { map asking table.new ≡ map asking table.old }
     ensures marked { Marked table.new marks.new }
 {
@@ -119,7 +120,7 @@ fn take_reply_in(
     reply: SharedMessage,
 ) -> Result<(), AllocError>
     requires { Marked table.old marks.old }
-    ensures ok { OnOk result (table.new ≡ at_place (replied_with header.now (ending_as how) reply) place table.old) }
+    ensures ok { OnOk result (table.new ≡ at_place (replied_with header.now how reply) place table.old) }
     ensures same { Alike table.old table.new }
     ensures marked { Marked table.new marks.new }
 {
@@ -308,7 +309,7 @@ impl Tasks {
         how: Ending,
         reply: SharedMessage,
     ) -> Result<(), AllocError>
-        ensures { OnOk result (self.new ≡ changed id.now (replied_with header.now (ending_as how) reply) self.old) }
+        ensures { OnOk result (self.new ≡ changed id.now (replied_with header.now how reply) self.old) }
     {
         if let Some(place) = self.table.place_of(id) {
             let before = classes_at(&self.table, place);
@@ -331,7 +332,7 @@ impl Tasks {
         settled: Settled,
         outcome: Option<SharedMessage>,
     ) -> Result<(), AllocError>
-        ensures { OnOk result (self.new ≡ changed id.now (settled_with (settled_as settled) outcome) self.old) }
+        ensures { OnOk result (self.new ≡ changed id.now (settled_with settled outcome) self.old) }
     {
         if let Some(place) = self.table.place_of(id) {
             let before = classes_at(&self.table, place);

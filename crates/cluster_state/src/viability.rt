@@ -5,7 +5,7 @@ ghost use Rattle.std.specs.List.{list_any, list_all};
 ghost use Rattle.cluster_defs.specs.Engines.{lists_number};
 ghost use Rattle.cluster_defs.specs.Requests.{is_bound, is_target, deadline};
 ghost use Rattle.cluster_defs.specs.Scheduling.{excludes, usable, usable_on, no_target, spoils, follow_spoilt, follow_dead, is_dead, is_past};
-ghost use Rattle.cluster_state.specs.Seen.{request_as, attempts_as, settled_as};
+ghost use Rattle.cluster_state.specs.Seen.{request_as, attempts_as};
 ghost use Rattle.cluster_state.specs.Live.{live_of};
 ghost use Rattle.cluster_state.specs.Waiting.{settled_in};
 ghost use Rattle.cluster_state.specs.Fitting.{among, hopeless_as, hopeless, late_as, late};
@@ -17,7 +17,8 @@ use crate::live::{Live, is_live};
 use crate::request::Request;
 use crate::standing::rests;
 use crate::table::Table;
-use crate::task::{Settled, Task};
+use crate::task::Task;
+use cluster_defs::settled::Settled;
 use cluster_types::text::Text;
 
 /// Whether an engine declined the task of these attempts.
@@ -88,7 +89,7 @@ fn has_no_target(live: Live, attempts: &Attempts, request: &Request) -> bool
 
 /// Whether an id that is followed finished so that the task can't run for it.
 fn spoils(live: Live, attempts: &Attempts, request: &Request, settled: Option<Settled>) -> bool
-    ensures { result ≡ spoils (among [] (live_of live.entry) 0 (attempts_as attempts.now)) [] (request_as request.now) (option_map settled_as settled) }
+    ensures { result ≡ spoils (among [] (live_of live.entry) 0 (attempts_as attempts.now)) [] (request_as request.now) settled }
 {
     match settled {
         Some(finished) => {

@@ -9,7 +9,8 @@ use Rattle.dense_numbers.specs.Flags.{is_set}
 use Rattle.cluster_state.specs.Seen.{Seen}
 use Rattle.cluster_state.specs.Loading.{load_in, Counts}
 use Rattle.due_decisions.specs.declared.rooms.Room.{Room}
-use Rattle.due_decisions.specs.Table.{leaves_room, rooms_in}
+use Rattle.cluster_defs.specs.Scheduling.{leaves_room}
+use Rattle.due_decisions.specs.Table.{rooms_in}
 use Rattle.due_decisions.proofs.Lists.{map_alike}
 
 or_turn : (a b c : Bool) → (a || (b || c)) ≡ (b || (a || c))

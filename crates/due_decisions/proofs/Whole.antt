@@ -10,17 +10,18 @@ use Rattle.cluster_defs.specs.declared.attempt.Attempt.{Attempt}
 use Rattle.cluster_defs.specs.declared.attempt.Attempt.TheVariants.{Never, Running, EndedOk, EndedBadly, Lost, Declined}
 use Rattle.cluster_defs.specs.Words.{Id, is_empty}
 use Rattle.cluster_defs.specs.Engines.{lists_number}
-use Rattle.cluster_defs.specs.Tasks.{Settled, runs, runs_at}
+use Rattle.cluster_defs.specs.declared.settled.Settled.{Settled}
+use Rattle.cluster_defs.specs.Tasks.{runs, runs_at}
 use Rattle.cluster_defs.specs.Facts.{Facts, nothing_yet, is_settled, is_direct_id}
 use Rattle.cluster_defs.specs.Histories.{History, facts, Legal}
-use Rattle.cluster_defs.specs.Scheduling.{due, settle_due, fail_due, direct_due, hand_due, settle_as, verdict, is_final, rests, failing_as, failing_id, ready_for, hand_to, load, may_run_as, may_run, excludes, is_live, candidates, engine_for, pick, has_room as room_left}
+use Rattle.cluster_defs.specs.Scheduling.{due, settle_due, fail_due, direct_due, hand_due, settle_as, verdict, is_final, rests, failing_as, failing_id, ready_for, hand_to, leaves_room, load, may_run_as, may_run, excludes, is_live, candidates, engine_for, pick, has_room as room_left}
 use Rattle.cluster_defs.proofs.Counts.{count_by-cons}
 use Rattle.cluster_laws.proofs.Closed.{closed}
 use Rattle.cluster_state.specs.Seen.{Seen}
 use Rattle.cluster_state.specs.Plain.{look, tasks_of, plain_of}
 use Rattle.cluster_state.proofs.Exact.{exact}
 use Rattle.due_decisions.specs.declared.rooms.Room.{Room}
-use Rattle.due_decisions.specs.Table.{settled_in, alone, final_at, settle_of, settle_in, failing_in, fail_of, fail_in, direct_of, direct_in, loads, load_in, leaves_room, rooms_in, fits, rooms_for, picked, hand_of, hand_in, due_in}
+use Rattle.due_decisions.specs.Table.{settled_in, alone, final_at, settle_of, settle_in, failing_in, fail_of, fail_in, direct_of, direct_in, loads, load_in, rooms_in, fits, rooms_for, picked, hand_of, hand_in, due_in}
 use Rattle.due_decisions.proofs.Lists.{filter_alike, map_alike, map_map, filter_map, filter_filter}
 
 -- LISTS OF WHAT IS SEEN

@@ -1,5 +1,5 @@
 -- What is due, read off the table of all tasks.
-use Rattle.std.specs.Prelude.{ℕ, nat_lt, ◌==◌, List, map, slice_get, Option, None, Bool, ◌||◌, if◌then◌else◌, filter, find, option_map}
+use Rattle.std.specs.Prelude.{ℕ, List, map, slice_get, Option, None, Bool, ◌||◌, if◌then◌else◌, filter, find, option_map}
 use Rattle.std.specs.List.{list_any}
 use Rattle.std.specs.Option.{is_some, option_and_then}
 use Rattle.cluster_types.specs.declared.config.Scheme.{Scheme}
@@ -11,7 +11,7 @@ use Rattle.cluster_defs.specs.declared.engine.Engine.{Engine}
 use Rattle.cluster_defs.specs.Words.{or_else}
 use Rattle.cluster_defs.specs.Engines.{lists_number}
 use Rattle.cluster_defs.specs.Facts.{Facts, nothing_yet}
-use Rattle.cluster_defs.specs.Scheduling.{lose_due, verdict, settle_as, rests, failing_as, ready_for, hand_to, pick}
+use Rattle.cluster_defs.specs.Scheduling.{lose_due, verdict, settle_as, rests, failing_as, ready_for, hand_to, leaves_room, pick}
 use Rattle.cluster_state.specs.Seen.{Seen}
 pub use Rattle.cluster_state.specs.Standing.{alone, final_at, direct_at}
 pub use Rattle.cluster_state.specs.Waiting.{settled_in, ready_as, ready}
@@ -53,10 +53,6 @@ abbrev pub direct_in : List Seen → Option Entry
 direct_in ts = option_and_then direct_of (find direct_at ts)
 
 -- (e) HAND A SUBMIT
-
--- whether a load is below the bound `hwm`; 0 is no bound
-abbrev pub leaves_room : ℕ → ℕ → Bool
-leaves_room hwm load = hwm == 0 || nat_lt load hwm
 
 -- the live engines with room, in ascending order of last use
 abbrev pub rooms_in : List Seen → List Engine → ℕ → List ℕ → List Room

@@ -5,7 +5,8 @@ ghost use Rattle.std.specs.List.{list_any};
 ghost use Rattle.dense_numbers.specs.Counts.{count_of};
 ghost use Rattle.dense_numbers.specs.Flags.{is_set};
 ghost use Rattle.cluster_defs.specs.Engines.{lists_number};
-ghost use Rattle.due_decisions.specs.Table.{leaves_room, rooms_in};
+ghost use Rattle.cluster_defs.specs.Scheduling.{leaves_room};
+ghost use Rattle.due_decisions.specs.Table.{rooms_in};
 
 use cluster_state::tasks::Tasks;
 use dense_numbers::counts::count;

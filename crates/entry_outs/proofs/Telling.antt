@@ -1,6 +1,6 @@
 -- What the data of a legal history tell.
 use Rattle.std.proofs.Common.{◌≡◌, ℕ, List, [], ◌∷◌, ◌++◌, map, Bool, true, false, cond, ◌&&◌, refl, sym, ap, ◌∙◌, subst, bytes_eq, Option, Some, None}
-use Rattle.std.specs.Prelude.{find, nat_lt, not, ◌==◌, option_map}
+use Rattle.std.specs.Prelude.{find, nat_lt, not, ◌==◌, option_map, Result, Err}
 use Rattle.std.specs.List.{list_all}
 use Rattle.std.specs.Option.{option_and_then}
 use Rattle.std.proofs.lemmas.Bool.{and_parts, ltb-true}
@@ -25,7 +25,7 @@ use Rattle.cluster_defs.specs.Requests.{Request}
 use Rattle.cluster_defs.specs.Facts.{Facts, nothing_yet, is_settled}
 use Rattle.cluster_types.specs.Limits.{most_ids}
 use Rattle.cluster_defs.specs.Acceptance.{Demand, acceptance, reserved_front}
-use Rattle.cluster_defs.specs.Purges.{purge_list, purging, resubmitting}
+use Rattle.cluster_defs.specs.Purges.{purge_list, purging, Resubmitting, NeverKnown, Gone, Running, NoRoom, Makes, resubmitting}
 use Rattle.cluster_defs.specs.Steps.{step}
 use Rattle.cluster_defs.specs.Histories.{History, facts, Legal}
 use Rattle.cluster_defs.specs.Laws.{EnginesAscend}
@@ -42,13 +42,20 @@ use Rattle.cluster_laws.proofs.RecordsHold.{records_hold}
 use Rattle.cluster_laws.proofs.RecordsPlan.{records_plan}
 use Rattle.cluster_laws.proofs.RecordsTell.{records_answer}
 use Rattle.cluster_state.specs.Seen.{Seen, seen_in}
+use Rattle.cluster_state.specs.declared.settling.Settling.{Settling}
+use Rattle.cluster_state.specs.declared.ruling.Ruling.{Ruling}
+use Rattle.cluster_state.specs.declared.ruling.Ruling.TheVariants.{Resubmit}
 use Rattle.cluster_state.specs.Plain.{Plain, look, tasks_of, plain_of, facts_in, outcome_for}
+use Rattle.cluster_state.specs.Ruled.{IsResubmit}
+use Rattle.cluster_state.specs.Settling.{IsSettling}
 use Rattle.cluster_state.proofs.Exact.{exact, seen_is}
 use Rattle.hub_queries.specs.Ascending.{Below, Ascends}
 use Rattle.entry_outs.specs.Asked.{asked_live}
 use Rattle.entry_outs.specs.Reached.{Reached, IsNext}
 use Rattle.entry_outs.specs.Repeats.{is_again}
 use Rattle.entry_outs.specs.Memory.{is_memory}
+use Rattle.resubmission.specs.Plans.{refusal_of}
+use Rattle.resubmission.specs.declared.plan.Renaming.{Renaming}
 use Rattle.resubmission.specs.declared.plan.ResubmitRefusal.{ResubmitRefusal}
 use Rattle.resubmission.specs.declared.plan.ResubmitRefusal.TheVariants.{OutOfMemory}
 use Rattle.std.proofs.lemmas.Bool.{both_ways}
@@ -216,6 +223,10 @@ settle_sends p id v c t q conn m r is off has at what =
     ap (λ o. pass_to o m) (at ∙ owner_told p id t q is has)
     ∙ ap (pass_to (owner_conn (facts_in p) ((facts_in p).request_of id))) (what ∙ settle_told p id v c t r is off)
 
+pub settling_outcome : (v : Verdict) (c : Cause) (moment : ℕ) (o : Option Seen) (t : Seen) (s : Settling) → o ≡ Some t → IsSettling v c moment o (Some s) →
+    s.outcome ≡ outcome_for (settled_as v c moment t.attempts) c t
+settling_outcome v c moment o t s is h = (subst (λ (x : Option Seen). IsSettling v c moment x (Some s)) is h).1
+
 -- REQUESTS
 
 unpurged_open : (f : Facts) (d : Demand) (m : Message) (b : Bool) → f.purged d.submission.id ≡ b → is_again (acceptance f d m) ≡ true → f.purged d.submission.id ≡ false
@@ -253,3 +264,17 @@ refused_sends f opens at conn moment kind parent target id Accepted h = refl
 
 pub has_memory : (e : ResubmitRefusal) → is_memory e ≡ false → e ≡ OutOfMemory → ⊥
 has_memory e off is = both_ways (is_memory e) off (ap is_memory is)
+
+no_refusal : (what : Resubmitting) → refusal_of what ≡ Some OutOfMemory → ⊥
+no_refusal (NeverKnown ids) is = cc
+no_refusal (Gone ids) is = cc
+no_refusal (Running ids) is = cc
+no_refusal NoRoom is = cc
+no_refusal (Makes copies) is = cc
+
+-- of a resubmission that a ruling has
+pub resubmit_kept : (what : Resubmitting) (r : Ruling) (planned : Result (List Renaming) ResubmitRefusal) → IsResubmit what r → r ≡ Resubmit planned → IsResubmit what (Resubmit planned)
+resubmit_kept what r planned h is = subst (IsResubmit what) is h
+
+pub resubmit_had : (what : Resubmitting) (r : Ruling) (planned : Result (List Renaming) ResubmitRefusal) → IsResubmit what r → r ≡ Resubmit planned → planned ≡ Err OutOfMemory → ⊥
+resubmit_had what r planned h is none = no_refusal what (subst (λ (x : Result (List Renaming) ResubmitRefusal). IsResubmit what (Resubmit x)) none (resubmit_kept what r planned h is))

@@ -3,7 +3,7 @@
 ghost use Rattle.std.specs.Prelude.{◌≡◌, ◌++◌, [], false, IfOk, Some, codes};
 ghost use Rattle.hex.specs.Hex.{encode_lower};
 ghost use Rattle.message_defs.specs.Texts.{submit_refused};
-ghost use Rattle.cluster_defs.specs.Acceptance.{acceptance};
+ghost use Rattle.cluster_defs.specs.Acceptance.{acceptance as acceptance_of};
 ghost use Rattle.cluster_defs.specs.Queries.{refusal, demand_answer};
 ghost use Rattle.cluster_defs.specs.Outcomes.{outcome};
 ghost use Rattle.cluster_defs.specs.Outs.{pass_to, answer_out, repeat_out};
@@ -13,7 +13,7 @@ ghost use Rattle.entry_outs.specs.Reached.{Reached};
 ghost use Rattle.entry_outs.specs.Repeats.{is_again};
 
 use crate::answers::{Slip, answered};
-use crate::passes::pass_to;
+use crate::passes::{copied, pass_to};
 use cluster_defs::acceptance::Acceptance;
 use cluster_defs::answer::Answer;
 use cluster_state::state::State;
@@ -67,15 +67,6 @@ fn demand_answer(
         Acceptance::NoSuchEngine => no_engine(alloc, target),
         Acceptance::Full => refused(alloc, "TableFull", "2000000"),
         Acceptance::Accepted => Ok(None),
-    }
-}
-
-fn copied(message: &Option<SharedMessage>) -> Result<Option<SharedMessage>, AllocError>
-    ensures { IfOk result (λ m. m ≡ message.now) }
-{
-    match message {
-        Some(message) => Ok(Some(message.clone()?)),
-        None => Ok(None),
     }
 }
 
@@ -135,11 +126,12 @@ pub fn demand_outs(
     direct: bool,
     submission: &Submission,
     message: &SharedMessage,
+    acceptance: Acceptance,
 ) -> Result<Outs, AllocError>
-    requires { Reached (plain state.now) }
-    ensures { IfOk result (λ outs. outs ≡ answer_out slip.opens slip.place slip.conn slip.moment submit_refused message.now.header (demand_answer submission.now.id message.now.target (acceptance (facts_in (plain state.now)) (record { direct = direct; submission = submission.now }) message.now)) ++ repeat_out (facts_in (plain state.now)) slip.conn submission.now.id (acceptance (facts_in (plain state.now)) (record { direct = direct; submission = submission.now }) message.now)) }
+    requires reached { Reached (plain state.now) }
+    requires accepted { acceptance ≡ acceptance_of (facts_in (plain state.now)) (record { direct = direct; submission = submission.now }) message.now }
+    ensures { IfOk result (λ outs. outs ≡ answer_out slip.opens slip.place slip.conn slip.moment submit_refused message.now.header (demand_answer submission.now.id message.now.target (acceptance_of (facts_in (plain state.now)) (record { direct = direct; submission = submission.now }) message.now)) ++ repeat_out (facts_in (plain state.now)) slip.conn submission.now.id (acceptance_of (facts_in (plain state.now)) (record { direct = direct; submission = submission.now }) message.now)) }
 {
-    let acceptance = state.acceptance(direct, submission, message);
     if is_again(acceptance) {
         let outcome = outcome_of(state, &submission.id)?;
         let outs = pass_to(alloc, Some(slip.conn), outcome)?;

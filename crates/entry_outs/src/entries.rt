@@ -1,13 +1,15 @@
 //! What each entry sends.
 
-ghost use Rattle.std.specs.Prelude.{◌≡◌, ◌≤◌, ◌+◌, IfOk, map};
+ghost use Rattle.std.specs.Prelude.{◌≡◌, ◌≤◌, ◌+◌, IfOk, Some, map};
 ghost use Rattle.std.specs.Option.{option_copied};
 ghost use Rattle.cluster_types.specs.Limits.{last_moment};
+ghost use Rattle.cluster_types.specs.declared.event.Event.{Event as EventType};
 ghost use Rattle.message_defs.specs.Header.{message_type};
 ghost use Rattle.cluster_defs.specs.Connections.{connection_on};
 ghost use Rattle.cluster_defs.specs.Histories.{History, Legal, facts};
 ghost use Rattle.cluster_defs.specs.Outs.{beat_out, message_outs, outs_as};
 ghost use Rattle.cluster_state.specs.Plain.{facts_in, plain_of};
+ghost use Rattle.cluster_state.specs.Ruled.{IsTold, IsRuled};
 ghost use Rattle.cluster_state.specs.Stands.{plain};
 ghost use Rattle.entry_outs.specs.Asked.{type_on, told_type};
 ghost use Rattle.entry_outs.specs.Reached.{Reached, IsNext};
@@ -18,6 +20,7 @@ use crate::messages::event_outs;
 use crate::passes::{hand_outs, settle_outs};
 use cluster_state::acceptance::connection_on;
 use cluster_state::attempts::one_more;
+use cluster_state::ruling::Ruling;
 use cluster_state::state::State;
 use cluster_types::entry::{Entry, Input};
 use cluster_types::event::Event;
@@ -34,10 +37,12 @@ fn message_outs(
     message: &SharedMessage,
     event: &Option<Event>,
     msg_type: &Text,
+    ruling: &Ruling,
 ) -> Result<Outs, AllocError>
     requires reached { Reached (plain state.now) }
     requires opens { slip.opens ≡ state.now.opens }
     requires kind { msg_type.now ≡ told_type event.now (message_type message.now) }
+    requires ruled { (e : EventType) → event.now ≡ Some e → IsTold (facts_in (plain state.now)) slip.conn message.now e ruling.now }
     ensures { IfOk result (λ outs. outs ≡ message_outs slip.place (facts_in (plain state.now)) slip.conn slip.moment message.now (connection_on state.now.connections.items slip.conn) event.now) }
 {
     let Some(connection) = connection_on(&state.connections, slip.conn) else {
@@ -47,7 +52,9 @@ fn message_outs(
         return Ok(Outs::new(alloc));
     };
     let channel = connection.channel;
-    let outs = event_outs(alloc, slip, state, channel, message, event, msg_type)?;
+    let outs = event_outs(
+        alloc, slip, state, channel, message, event, msg_type, ruling,
+    )?;
     Ok(outs)
 }
 
@@ -75,9 +82,11 @@ fn input_outs(
     input: &Input,
     event: &Option<Event>,
     msg_type: &Text,
+    ruling: &Ruling,
 ) -> Result<Outs, AllocError>
     requires reached { Reached (plain state.now) }
     requires kind { msg_type.now ≡ told_type event.now (type_on (Entry.Input input.now)) }
+    requires ruled { IsRuled (plain state.now) (Entry.Input input.now) event.now ruling.now }
     ensures { IfOk result (λ outs. outs ≡ outs_as place (facts_in (plain state.now)) (Entry.Input input.now) event.now) }
 {
     match input {
@@ -94,7 +103,7 @@ fn input_outs(
                 conn: *conn,
                 moment: *moment,
             };
-            let outs = message_outs(alloc, slip, state, message, event, msg_type)?;
+            let outs = message_outs(alloc, slip, state, message, event, msg_type, ruling)?;
             Ok(outs)
         }
         _ => Ok(Outs::new(alloc)),
@@ -110,16 +119,22 @@ fn entry_outs(
     entry: &Entry,
     event: &Option<Event>,
     msg_type: &Text,
+    ruling: &Ruling,
 ) -> Result<Outs, AllocError>
     requires next { IsNext (plain state.now) entry.now }
     requires moment { state.now.moment ≤ last_moment }
     requires kind { msg_type.now ≡ told_type event.now (type_on entry.now) }
+    requires ruled { IsRuled (plain state.now) entry.now event.now ruling.now }
     ensures { IfOk result (λ outs. outs ≡ outs_as place (facts_in (plain state.now)) entry.now event.now) }
 {
     match entry {
-        Entry::Input(input) => input_outs(alloc, place, state, input, event, msg_type),
+        Entry::Input(input) => input_outs(alloc, place, state, input, event, msg_type, ruling),
         Entry::Hand { id, engine } => hand_outs(alloc, state, id, *engine),
-        Entry::Settle { id, verdict, cause } => settle_outs(alloc, state, id, *verdict, *cause),
+        Entry::Settle {
+            id,
+            verdict: _,
+            cause: _,
+        } => settle_outs(alloc, state, id, ruling.settle()),
         Entry::Lose { engine: _ } => Ok(Outs::new(alloc)),
     }
 }
@@ -134,13 +149,15 @@ pub fn outs(
     entry: &Entry,
     event: &Option<Event>,
     msg_type: &Text,
+    ruling: &Ruling,
 ) -> Result<Outs, AllocError>
     requires next { IsNext (plain state.now) entry.now }
     requires moment { state.now.moment ≤ last_moment }
     requires kind { msg_type.now ≡ told_type event.now (type_on entry.now) }
+    requires ruled { IsRuled (plain state.now) entry.now event.now ruling.now }
     ensures state { IfOk result (λ outs. outs ≡ outs_as place (facts_in (plain state.now)) entry.now event.now) }
     ensures history { IfOk result (λ outs. (history : History) → Legal history → plain state.now ≡ plain_of (facts history) → outs ≡ outs_as place (facts history) entry.now event.now) }
 {
-    let sent = entry_outs(alloc, place, state, entry, event, msg_type)?;
+    let sent = entry_outs(alloc, place, state, entry, event, msg_type, ruling)?;
     Ok(sent)
 }

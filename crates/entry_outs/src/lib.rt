@@ -9,3 +9,4 @@ mod messages;
 mod passes;
 mod questions;
 mod rows;
+pub mod rulings;

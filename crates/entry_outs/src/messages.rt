@@ -1,30 +1,27 @@
 //! What messages send.
 
-ghost use Rattle.std.specs.Prelude.{◌≡◌, ◌⊎◌, ◌++◌, [], IfOk, Some, codes, decimal};
+ghost use Rattle.std.specs.Prelude.{◌≡◌, ◌≢◌, ◌++◌, [], IfOk, Some, Err, codes, decimal};
 ghost use Rattle.message_defs.specs.Header.{message_type};
 ghost use Rattle.message_defs.specs.Texts.{ok_content, join_content};
-ghost use Rattle.cluster_types.specs.declared.event.Event.{Event};
-ghost use Rattle.cluster_defs.specs.Words.{once};
-ghost use Rattle.cluster_defs.specs.Engines.{joining, left_engine};
-ghost use Rattle.cluster_defs.specs.Purges.{purge_list, purging, Resubmitting, resubmitting};
+ghost use Rattle.cluster_defs.specs.Purges.{Resubmitting};
 ghost use Rattle.cluster_defs.specs.Queries.{plain as plain_answer, refusal, limited, join_answer, leave_answer, purge_answer, resubmit_answer, answer_type, answer_event};
 ghost use Rattle.cluster_defs.specs.Outs.{answer_out, repeated};
 ghost use Rattle.cluster_state.specs.Plain.{facts_in};
 ghost use Rattle.cluster_state.specs.Stands.{plain};
-ghost use Rattle.resubmission.specs.Plans.{refusal_of};
-ghost use Rattle.entry_outs.specs.Memory.{is_memory};
+ghost use Rattle.cluster_state.specs.declared.ruling.Ruling.{Ruling as RulingType};
+ghost use Rattle.cluster_state.specs.Ruled.{IsResubmit, IsTold};
+ghost use Rattle.resubmission.specs.Purging.{purging_of};
 ghost use Rattle.entry_outs.specs.Reached.{Reached};
 
 use crate::answers::{Slip, answered};
 use crate::demands::demand_outs;
 use crate::questions::query_outs;
-use crate::rows::Rows;
 use cluster_defs::answer::Answer;
 use cluster_defs::engine::Joining;
+use cluster_state::ruling::Ruling;
 use cluster_state::state::State;
 use cluster_types::config::Channel;
 use cluster_types::event::Event;
-use cluster_types::limits::MOST_IDS;
 use cluster_types::message::Ids;
 use cluster_types::octets::Octets;
 use cluster_types::out::Outs;
@@ -33,8 +30,8 @@ use cluster_types::text::Text;
 use hub_queries::answer::ok_answer;
 use hub_queries::limits::{plain, refusal};
 use resubmission::answers::{purge_answer, refused_answer, renamed_answer};
-use resubmission::plan::{ResubmitRefusal, plan};
-use resubmission::purge::plan_purge;
+use resubmission::plan::{Renamed, ResubmitRefusal};
+use resubmission::purge::PurgePlan;
 use std::alloc::{AllocError, Global};
 
 /// The content of the answer to a registration.
@@ -79,81 +76,28 @@ fn join_answer(alloc: Global, next: u32, joining: Joining) -> Result<Answer, All
     }
 }
 
-/// What a registration on a connection is answered.
-fn join_on(alloc: Global, state: &State, conn: u32, uuid: &Text) -> Result<Answer, AllocError>
-    ensures { IfOk result (λ a. a ≡ join_answer (plain state.now).engines.next (joining (plain state.now).engines conn uuid.now)) }
+/// What a leave is answered, by the engine that leaves.
+fn leave_answer(alloc: Global, engine: Option<u32>) -> Result<Answer, AllocError>
+    ensures { IfOk result (λ a. a ≡ leave_answer engine) }
 {
-    let joining = state.engines.joining(state.next_engine, conn, uuid);
-    let answer = join_answer(alloc, state.next_engine, joining)?;
-    Ok(answer)
-}
-
-/// What an engine's leave on a connection is answered.
-fn leave_on(alloc: Global, state: &State, conn: u32) -> Result<Answer, AllocError>
-    ensures { IfOk result (λ a. a ≡ leave_answer (left_engine state.now.engines conn (Some Event.Leave))) }
-{
-    match state.engines.number_on(conn) {
+    match engine {
         Some(_) => ok_answer(alloc),
         None => refusal(alloc, "NotJoined", "", &Ids::new(alloc)),
     }
 }
 
-/// What a purge is answered.
-fn purge_told(
-    alloc: Global,
-    state: &State,
-    channel: Channel,
-    all: bool,
-    ids: &Ids,
-) -> Result<Answer, AllocError>
-    requires { Reached (plain state.now) }
-    ensures { IfOk result (λ a. a ≡ limited channel (purge_answer (purging (facts_in (plain state.now)) (purge_list (facts_in (plain state.now)) all ids.now)))) }
-{
-    let rows = Rows::new(state);
-    let plan = plan_purge(alloc, &rows, all, ids)?;
-    let answer = purge_answer(alloc, channel, &plan)?;
-    Ok(answer)
-}
-
-/// Whether there was no memory.
-fn is_memory(refused: &ResubmitRefusal) -> bool
-    ensures { result ≡ is_memory refused.now }
-{
-    match refused {
-        ResubmitRefusal::OutOfMemory => true,
-        _ => false,
-    }
-}
-
-/// The refusal of a resubmission, or that there was no memory.
-fn refused_or_memory(
+/// What a resubmission is answered that comes to this.
+fn resubmit_answer(
     alloc: Global,
     channel: Channel,
-    refused: &ResubmitRefusal,
+    planned: &Result<Renamed, ResubmitRefusal>,
 ) -> Result<Answer, AllocError>
-    ensures { (what : Resubmitting) → (refused.now ≡ ResubmitRefusal.OutOfMemory) ⊎ (refusal_of what ≡ Some refused.now) → IfOk result (λ a. a ≡ limited channel (resubmit_answer what)) }
+    requires { planned.now ≢ Err ResubmitRefusal.OutOfMemory }
+    ensures { (what : Resubmitting) → IsResubmit what (RulingType.Resubmit planned.now) → IfOk result (λ a. a ≡ limited channel (resubmit_answer what)) }
 {
-    if is_memory(refused) {
-        return Err(AllocError);
-    }
-    let answer = refused_answer(alloc, channel, refused)?;
-    Ok(answer)
-}
-
-/// What a resubmission is answered.
-fn resubmit_told(
-    alloc: Global,
-    state: &State,
-    channel: Channel,
-    ids: &Ids,
-) -> Result<Answer, AllocError>
-    requires { Reached (plain state.now) }
-    ensures { IfOk result (λ a. a ≡ limited channel (resubmit_answer (resubmitting (facts_in (plain state.now)) (once ids.now)))) }
-{
-    let rows = Rows::new(state);
-    match plan(alloc, &rows, ids, MOST_IDS as u64) {
-        Ok(renamed) => renamed_answer(alloc, channel, &renamed),
-        Err(refused) => refused_or_memory(alloc, channel, &refused),
+    match planned {
+        Ok(renamed) => renamed_answer(alloc, channel, renamed),
+        Err(refused) => refused_answer(alloc, channel, refused),
     }
 }
 
@@ -175,64 +119,57 @@ fn answered_as(
 fn join_outs(
     alloc: Global,
     slip: Slip,
-    state: &State,
-    uuid: &Text,
+    next: u32,
+    joining: Joining,
     message: &SharedMessage,
 ) -> Result<Outs, AllocError>
-    ensures { IfOk result (λ outs. outs ≡ answer_out slip.opens slip.place slip.conn slip.moment (codes "registration_reply") message.now.header (Some (join_answer (plain state.now).engines.next (joining (plain state.now).engines slip.conn uuid.now)))) }
+    ensures { IfOk result (λ outs. outs ≡ answer_out slip.opens slip.place slip.conn slip.moment (codes "registration_reply") message.now.header (Some (join_answer next joining))) }
 {
-    let answer = join_on(alloc, state, slip.conn, uuid)?;
-    let outs = answered_as(alloc, slip, "registration_reply", message, answer)?;
-    Ok(outs)
+    let answer = join_answer(alloc, next, joining)?;
+    answered_as(alloc, slip, "registration_reply", message, answer)
 }
 
 fn leave_outs(
     alloc: Global,
     slip: Slip,
-    state: &State,
+    engine: Option<u32>,
     message: &SharedMessage,
 ) -> Result<Outs, AllocError>
-    ensures { IfOk result (λ outs. outs ≡ answer_out slip.opens slip.place slip.conn slip.moment (codes "unregistration_reply") message.now.header (Some (leave_answer (left_engine state.now.engines slip.conn (Some Event.Leave))))) }
+    ensures { IfOk result (λ outs. outs ≡ answer_out slip.opens slip.place slip.conn slip.moment (codes "unregistration_reply") message.now.header (Some (leave_answer engine))) }
 {
-    let answer = leave_on(alloc, state, slip.conn)?;
-    let outs = answered_as(alloc, slip, "unregistration_reply", message, answer)?;
-    Ok(outs)
+    let answer = leave_answer(alloc, engine)?;
+    answered_as(alloc, slip, "unregistration_reply", message, answer)
 }
 
 fn purge_outs(
     alloc: Global,
     slip: Slip,
-    state: &State,
     channel: Channel,
-    all: bool,
-    ids: &Ids,
+    plan: &PurgePlan,
     message: &SharedMessage,
 ) -> Result<Outs, AllocError>
-    requires { Reached (plain state.now) }
-    ensures { IfOk result (λ outs. outs ≡ answer_out slip.opens slip.place slip.conn slip.moment (codes "purge_reply") message.now.header (Some (limited channel (purge_answer (purging (facts_in (plain state.now)) (purge_list (facts_in (plain state.now)) all ids.now)))))) }
+    ensures { IfOk result (λ outs. outs ≡ answer_out slip.opens slip.place slip.conn slip.moment (codes "purge_reply") message.now.header (Some (limited channel (purge_answer (purging_of plan.now))))) }
 {
-    let answer = purge_told(alloc, state, channel, all, ids)?;
-    let outs = answered_as(alloc, slip, "purge_reply", message, answer)?;
-    Ok(outs)
+    let answer = purge_answer(alloc, channel, plan)?;
+    answered_as(alloc, slip, "purge_reply", message, answer)
 }
 
 fn resubmit_outs(
     alloc: Global,
     slip: Slip,
-    state: &State,
     channel: Channel,
-    ids: &Ids,
+    planned: &Result<Renamed, ResubmitRefusal>,
     message: &SharedMessage,
 ) -> Result<Outs, AllocError>
-    requires { Reached (plain state.now) }
-    ensures { IfOk result (λ outs. outs ≡ answer_out slip.opens slip.place slip.conn slip.moment (codes "resubmit_reply") message.now.header (Some (limited channel (resubmit_answer (resubmitting (facts_in (plain state.now)) (once ids.now)))))) }
+    requires { planned.now ≢ Err ResubmitRefusal.OutOfMemory }
+    ensures { (what : Resubmitting) → IsResubmit what (RulingType.Resubmit planned.now) → IfOk result (λ outs. outs ≡ answer_out slip.opens slip.place slip.conn slip.moment (codes "resubmit_reply") message.now.header (Some (limited channel (resubmit_answer what)))) }
 {
-    let answer = resubmit_told(alloc, state, channel, ids)?;
-    let outs = answered_as(alloc, slip, "resubmit_reply", message, answer)?;
-    Ok(outs)
+    let answer = resubmit_answer(alloc, channel, planned)?;
+    answered_as(alloc, slip, "resubmit_reply", message, answer)
 }
 
-/// What a message of a type with a meaning sends: its answer, or the outcome that it asks for again.
+/// What a message of a type with a meaning sends, which comes to this: its answer, or the outcome that it asks for again.
+#[tactic(auto, using(cluster_state::proofs::Rulings::purge_there, cluster_state::proofs::Rulings::resubmit_there, cluster_state::proofs::Rulings::purge_is, crate::proofs::Telling::resubmit_had, crate::proofs::Telling::resubmit_kept))]
 pub fn event_outs(
     alloc: Global,
     slip: Slip,
@@ -241,18 +178,46 @@ pub fn event_outs(
     message: &SharedMessage,
     event: &Event,
     msg_type: &Text,
+    ruling: &Ruling,
 ) -> Result<Outs, AllocError>
     requires reached { Reached (plain state.now) }
     requires kind { msg_type.now ≡ message_type message.now }
+    requires ruled { IsTold (facts_in (plain state.now)) slip.conn message.now event.now ruling.now }
     ensures { IfOk result (λ outs. outs ≡ answer_out slip.opens slip.place slip.conn slip.moment (answer_type channel message.now event.now) message.now.header (answer_event (facts_in (plain state.now)) slip.conn channel message.now event.now) ++ repeated (facts_in (plain state.now)) slip.conn message.now event.now) }
 {
     match event {
-        Event::Submit(submission) => demand_outs(alloc, slip, state, false, submission, message),
-        Event::Direct(submission) => demand_outs(alloc, slip, state, true, submission, message),
-        Event::Join { uuid } => join_outs(alloc, slip, state, uuid, message),
-        Event::Leave => leave_outs(alloc, slip, state, message),
-        Event::Purge { all, ids } => purge_outs(alloc, slip, state, channel, *all, ids, message),
-        Event::Resubmit { ids } => resubmit_outs(alloc, slip, state, channel, ids, message),
+        Event::Submit(submission) => {
+            demand_outs(
+                alloc,
+                slip,
+                state,
+                false,
+                submission,
+                message,
+                ruling.demand(),
+            )
+        }
+        Event::Direct(submission) => {
+            demand_outs(
+                alloc,
+                slip,
+                state,
+                true,
+                submission,
+                message,
+                ruling.demand(),
+            )
+        }
+        Event::Join { uuid: _ } => {
+            join_outs(alloc, slip, state.next_engine, ruling.join(), message)
+        }
+        Event::Leave => leave_outs(alloc, slip, ruling.leave(), message),
+        Event::Purge { all: _, ids: _ } => {
+            purge_outs(alloc, slip, channel, ruling.purge(), message)
+        }
+        Event::Resubmit { ids: _ } => {
+            resubmit_outs(alloc, slip, channel, ruling.resubmit(), message)
+        }
         Event::Ask(query) => query_outs(alloc, slip, state, channel, query, message, msg_type),
         Event::Pong { beat: _ } => Ok(Outs::new(alloc)),
         Event::Reply {

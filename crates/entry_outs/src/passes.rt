@@ -1,34 +1,31 @@
 //! Messages that are passed on: requests to engines, and outcomes to owners.
 
-ghost use Rattle.std.specs.Prelude.{◌≡◌, ◌≤◌, ◌++◌, ◌∷◌, [], List, false, IfOk, Some, None, option_map};
+ghost use Rattle.std.specs.Prelude.{◌≡◌, ◌++◌, ◌∷◌, [], List, false, IfOk, Some, None, option_map};
 ghost use Rattle.std.specs.Option.{option_copied, option_and_then};
 ghost use Rattle.cluster_defs.specs.Connections.{same_channel, is_of_peer, reached};
-ghost use Rattle.cluster_defs.specs.Tasks.{settled_as};
 ghost use Rattle.cluster_defs.specs.Facts.{is_settled};
 ghost use Rattle.cluster_defs.specs.Steps.{step};
 ghost use Rattle.cluster_defs.specs.Outcomes.{handed_message, hand_out, outcome};
 ghost use Rattle.cluster_defs.specs.Outs.{pass_to, owner_conn};
 ghost use Rattle.cluster_defs.specs.Engines.{conn_in};
 ghost use Rattle.cluster_types.specs.declared.entry.Entry.{Entry};
-ghost use Rattle.cluster_types.specs.Limits.{last_moment};
-ghost use Rattle.cluster_state.specs.Seen.{owner_as, request_as, settled_as as settled_seen};
+ghost use Rattle.cluster_types.specs.declared.verdict.Verdict.{Verdict as VerdictType};
+ghost use Rattle.cluster_types.specs.declared.verdict.Cause.{Cause as CauseType};
+ghost use Rattle.cluster_state.specs.Seen.{seen_in};
+ghost use Rattle.cluster_state.specs.Settling.{IsSettling};
 ghost use Rattle.cluster_state.specs.Plain.{facts_in};
 ghost use Rattle.cluster_state.specs.Stands.{plain};
 ghost use Rattle.entry_outs.specs.Reached.{Reached};
 ghost use Rattle.entry_outs.specs.Greater.{greater};
 ghost use Rattle.cluster_defs.specs.declared.connection.Connection.{Connection as ConnectionType};
 
-use cluster_defs::connection::Connection;
-use cluster_state::attempts::engine_of;
-use cluster_state::outcomes::outcome_for;
-use cluster_state::request::Owner;
+use cluster_defs::connection::{Connection, Owner};
+use cluster_state::settling::Settling;
 use cluster_state::state::State;
-use cluster_state::task::{Settled, Task};
 use cluster_types::config::Channel;
 use cluster_types::out::{Out, Outs};
 use cluster_types::shared_message::SharedMessage;
 use cluster_types::text::Text;
-use cluster_types::verdict::{Cause, Verdict};
 use std::alloc::{AllocError, Global};
 
 /// A message that is passed on, where there is one and where it can go.
@@ -61,7 +58,7 @@ fn is_same_channel(a: Channel, b: Channel) -> bool
 }
 
 fn is_of(owner: &Owner, connection: &Connection) -> bool
-    ensures { result ≡ is_of_peer (owner_as owner.now) connection.now }
+    ensures { result ≡ is_of_peer owner.now connection.now }
 {
     is_same_channel(connection.channel, owner.channel) && connection.identity.is(&owner.identity)
 }
@@ -77,7 +74,7 @@ fn greater(best: Option<u32>, number: u32) -> Option<u32>
 
 /// The highest number of an owner's connections, where one more connection comes.
 fn reached_with(best: Option<u32>, owner: &Owner, connection: &Connection) -> Option<u32>
-    ensures { (live : List ConnectionType) → best ≡ reached live (owner_as owner.now) → result ≡ reached (live ++ connection.now ∷ []) (owner_as owner.now) }
+    ensures { (live : List ConnectionType) → best ≡ reached live owner.now → result ≡ reached (live ++ connection.now ∷ []) owner.now }
 {
     if is_of(owner, connection) {
         greater(best, connection.number)
@@ -88,7 +85,7 @@ fn reached_with(best: Option<u32>, owner: &Owner, connection: &Connection) -> Op
 
 /// The live connection of an owner, of several the one with the highest number.
 fn reached(live: &[Connection], owner: &Owner) -> Option<u32>
-    ensures { result ≡ reached live.now (owner_as owner.now) }
+    ensures { result ≡ reached live.now owner.now }
 {
     let mut best = None;
     for connection in live {
@@ -99,11 +96,21 @@ fn reached(live: &[Connection], owner: &Owner) -> Option<u32>
 
 /// The connection of the owner of a task.
 fn owner_conn(live: &[Connection], owner: &Option<Owner>) -> Option<u32>
-    ensures { result ≡ option_and_then (reached live.now) (option_map owner_as owner.now) }
+    ensures { result ≡ option_and_then (reached live.now) (owner.now) }
 {
     match owner {
         Some(owner) => reached(live, owner),
         None => None,
+    }
+}
+
+/// A message, where there is one. Its octets are shared.
+pub fn copied(message: &Option<SharedMessage>) -> Result<Option<SharedMessage>, AllocError>
+    ensures { IfOk result (λ m. m ≡ message.now) }
+{
+    match message {
+        Some(message) => Ok(Some(message.clone()?)),
+        None => Ok(None),
     }
 }
 
@@ -126,41 +133,25 @@ pub fn hand_outs(alloc: Global, state: &State, id: &Text, engine: u32) -> Result
     Ok(outs)
 }
 
-/// How a task is settled at a moment.
-fn settled_at(task: &Task, verdict: Verdict, cause: Cause, moment: u64) -> Settled
-    ensures is { settled_seen result ≡ settled_as verdict cause moment task.now.attempts }
-    ensures moment { result.moment ≡ moment }
-    ensures cause { result.cause ≡ cause }
-{
-    Settled {
-        verdict,
-        cause,
-        engine: engine_of(task.attempts().last),
-        moment,
-    }
-}
-
-/// What a Settle sends: the outcome, to the owner.
+/// What a Settle sends, by how the task is settled: the outcome, to the owner.
 pub fn settle_outs(
     alloc: Global,
     state: &State,
     id: &Text,
-    verdict: Verdict,
-    cause: Cause,
+    settling: &Option<Settling>,
 ) -> Result<Outs, AllocError>
     requires reached { Reached (plain state.now) }
-    requires moment { state.now.moment ≤ last_moment }
     requires unsettled { is_settled (facts_in (plain state.now)) id.now ≡ false }
-    ensures { IfOk result (λ outs. outs ≡ pass_to (owner_conn (facts_in (plain state.now)) ((facts_in (plain state.now)).request_of id.now)) (outcome (step (facts_in (plain state.now)) (Entry.Settle id.now verdict cause) None) id.now)) }
+    ensures { (v : VerdictType) (c : CauseType) → IsSettling v c state.now.moment (seen_in state.now.tasks id.now) settling.now → IfOk result (λ outs. outs ≡ pass_to (owner_conn (facts_in (plain state.now)) ((facts_in (plain state.now)).request_of id.now)) (outcome (step (facts_in (plain state.now)) (Entry.Settle id.now v c) None) id.now)) }
 {
-    match state.tasks.find(id) {
-        Some(task) => {
-            let settled = settled_at(task, verdict, cause, state.moment);
-            let outcome = outcome_for(alloc, settled, task)?;
-            let conn = owner_conn(&state.connections, &task.request().owner);
-            let outs = pass_to(alloc, conn, outcome)?;
-            Ok(outs)
-        }
-        None => Ok(Outs::new(alloc)),
-    }
+    let Some(settling) = settling else {
+        return Ok(Outs::new(alloc));
+    };
+    let Some(task) = state.tasks.find(id) else {
+        return Ok(Outs::new(alloc));
+    };
+    let conn = owner_conn(&state.connections, &task.request().owner);
+    let outcome = copied(&settling.outcome)?;
+    let outs = pass_to(alloc, conn, outcome)?;
+    Ok(outs)
 }

@@ -14,7 +14,9 @@ use Rattle.cluster_defs.specs.declared.attempt.Attempt.TheVariants.{Never, Runni
 use Rattle.cluster_defs.specs.declared.engine.Engine.{Engine}
 use Rattle.cluster_defs.specs.Words.{Id, is_number}
 use Rattle.cluster_defs.specs.Engines.{left_engine}
-use Rattle.cluster_defs.specs.Tasks.{Task, Ending, Well, Badly, Declines, ending, runs, runs_at, home, counts, lost, took, after_end}
+use Rattle.cluster_defs.specs.declared.attempt.Ending.{Ending}
+use Rattle.cluster_defs.specs.declared.attempt.Ending.TheVariants.{Well, Badly, Declines}
+use Rattle.cluster_defs.specs.Tasks.{Task, ending, runs, runs_at, home, counts, lost, took, after_end}
 use Rattle.cluster_defs.specs.Facts.{Facts, event_in, is_direct_id}
 use Rattle.cluster_defs.specs.Steps.{engine_end, task_after}
 use Rattle.cluster_defs.specs.Histories.{History, facts}

@@ -8,7 +8,9 @@ use Rattle.cluster_types.specs.declared.entry.Entry.{Entry}
 use Rattle.cluster_types.specs.declared.entry.Entry.TheVariants.{Input}
 use Rattle.cluster_defs.specs.Words.{Id}
 use Rattle.cluster_defs.specs.Engines.{joined}
-use Rattle.cluster_defs.specs.Tasks.{Ending, Badly, Declines, ending, runs, runs_at, counts}
+use Rattle.cluster_defs.specs.declared.attempt.Ending.{Ending}
+use Rattle.cluster_defs.specs.declared.attempt.Ending.TheVariants.{Badly, Declines}
+use Rattle.cluster_defs.specs.Tasks.{ending, runs, runs_at, counts}
 use Rattle.cluster_defs.specs.Facts.{Facts, event_in, is_direct_id}
 use Rattle.cluster_defs.specs.Steps.{engine_end}
 use Rattle.cluster_defs.specs.Histories.{History, facts}

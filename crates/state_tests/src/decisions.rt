@@ -4,9 +4,10 @@ ghost use Rattle.std.specs.Prelude.{◌≡◌, ◌<◌, length, None};
 ghost use Rattle.cluster_defs.specs.Scheduling.{pick};
 
 use cluster_defs::engine::Engine;
+use cluster_defs::settled::Settled;
 use cluster_state::request::Request;
 use cluster_state::state::State;
-use cluster_state::task::{Settled, Task};
+use cluster_state::task::Task;
 use cluster_state::tasks::Tasks;
 use cluster_types::config::Scheme;
 use cluster_types::entry::Entry;

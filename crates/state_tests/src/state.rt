@@ -1,12 +1,18 @@
 //! A small cluster, entry by entry.
 
+ghost use Rattle.std.specs.Prelude.{◌≤◌, None};
+ghost use Rattle.cluster_types.specs.Limits.{last_moment};
 ghost use Rattle.cluster_state.specs.Plain.{InTime};
+ghost use Rattle.cluster_state.specs.Ruled.{IsRuled};
+ghost use Rattle.cluster_state.specs.Stands.{plain};
 
 use cluster_defs::acceptance::Acceptance;
+use cluster_defs::attempt::Ending;
 use cluster_defs::engine::{Engine, Joining};
 use cluster_state::acceptance::{connection_on, is_invalid, is_known, targets_of};
-use cluster_state::attempts::{Attempts, Ending, engine_of, is_never, one_more, runs, runs_at};
+use cluster_state::attempts::{Attempts, engine_of, is_never, one_more, runs, runs_at};
 use cluster_state::engines::use_engine;
+use cluster_state::ruling::Ruling;
 use cluster_state::state::State;
 use cluster_types::config::{Channel, Scheme};
 use cluster_types::entry::{Entry, Input};
@@ -19,6 +25,8 @@ use cluster_types::shared_message::SharedMessage;
 use cluster_types::text::Text;
 use cluster_types::verdict::{Cause, Verdict};
 use dense_numbers::counts::count;
+use resubmission::plan::{Renamed, Renaming};
+use resubmission::purge::PurgePlan;
 use std::alloc::Global;
 use std::process::Abort;
 
@@ -68,6 +76,21 @@ fn submission<R: Abort>(rt: &R, alloc: Global, id: &str) -> Submission {
     }
 }
 
+/// What an entry without a message comes to.
+fn ruling<R: Abort>(rt: &R, state: &State, entry: &Entry) -> Ruling
+    requires { state.now.moment ≤ last_moment }
+    ensures { IsRuled (plain state.now) entry.now None result }
+{
+    match entry {
+        Entry::Settle { id, verdict, cause } => Ruling::Settle(
+            state
+                .settling(id, *verdict, *cause)
+                .expect(rt, "memory is ample"),
+        ),
+        _ => Ruling::Other,
+    }
+}
+
 /// Takes an entry without a message.
 fn take<R: Abort>(rt: &R, state: &mut State, entry: &Entry) -> bool
     requires { InTime entry.now }
@@ -75,7 +98,10 @@ fn take<R: Abort>(rt: &R, state: &mut State, entry: &Entry) -> bool
     if state.moment > LAST_MOMENT {
         return false;
     }
-    state.take(entry, &None).expect(rt, "memory is ample")
+    let ruling = ruling(rt, state, entry);
+    state
+        .take(entry, &None, ruling)
+        .expect(rt, "memory is ample")
 }
 
 fn opens<R: Abort>(rt: &R, state: &mut State) {
@@ -101,7 +127,10 @@ fn connects<R: Abort>(
 /// Whether an engine joins on connection 1.
 fn joins<R: Abort>(rt: &R, alloc: Global, state: &mut State, uuid: &str) -> bool {
     let uuid = text(rt, alloc, uuid);
-    state.take_join(1, &uuid).expect(rt, "memory is ample")
+    let joining = state.engines.joining(state.next_engine, 1, &uuid);
+    state
+        .take_join(1, &uuid, joining)
+        .expect(rt, "memory is ample")
 }
 
 /// An opened cluster with connection 1 of an engine and connection 2 of a client, once engine 0 has joined.
@@ -118,8 +147,9 @@ fn joined<R: Abort>(rt: &R, alloc: Global) -> State {
 fn submits<R: Abort>(rt: &R, alloc: Global, state: &mut State, id: &str) -> bool {
     let request = message(rt, alloc, b"h");
     let submission = submission(rt, alloc, id);
+    let accepted = state.acceptance(false, &submission, &request) == Acceptance::Accepted;
     state
-        .take_demand(2, 5, &request, false, &submission)
+        .take_demand(2, 5, &request, false, &submission, accepted)
         .expect(rt, "memory is ample")
 }
 
@@ -185,7 +215,8 @@ fn marks(state: &mut State, beat: u64) {
 
 /// Whether the engine on connection 1 leaves.
 fn leaves_now<R: Abort>(rt: &R, state: &mut State) -> bool {
-    state.take_leave(1).expect(rt, "memory is ample")
+    let engine = state.engines.number_on(1);
+    state.take_leave(engine).expect(rt, "memory is ample")
 }
 
 fn is_connected(state: &State, conn: u32) -> bool {
@@ -339,11 +370,9 @@ fn attempts(rt: HostRuntime) {
     assert!(rt; attempts.spent == 3);
 }
 
-/// Whether a purge of some tasks drops them.
-fn purges<R: Abort>(rt: &R, state: &mut State, listed: &Ids) -> bool {
-    state
-        .take_purge(false, listed)
-        .expect(rt, "memory is ample")
+/// Whether a purge that comes to this drops anything.
+fn purges<R: Abort>(rt: &R, state: &mut State, plan: &PurgePlan) -> bool {
+    state.take_purge(plan).expect(rt, "memory is ample")
 }
 
 /// The engine on connection 1 ends.
@@ -361,8 +390,8 @@ fn has_spent_one(state: &State, id: &Text) -> bool {
 fn a_lost_engine_ends_its_attempt(rt: HostRuntime) {
     let alloc = rt.alloc();
     let mut state = handed(&rt, alloc);
-    let listed = ids(&rt, alloc, &["a"]);
-    assert!(rt; !purges(&rt, &mut state, &listed));
+    let inflight = PurgePlan::Inflight(ids(&rt, alloc, &["a"]));
+    assert!(rt; !purges(&rt, &mut state, &inflight));
     ends_engine(&rt, &mut state);
     assert!(rt; has_spent_one(&state, &text(&rt, alloc, "a")));
 }
@@ -383,9 +412,23 @@ fn is_settled(state: &State, id: &Text) -> bool {
     found.is_some_and(|task| task.settled().is_some() && task.reply().is_some())
 }
 
-/// Whether some tasks are made again at moment 9.
-fn resubmits<R: Abort>(rt: &R, state: &mut State, listed: &Ids) -> bool {
-    state.take_resubmit(9, listed).expect(rt, "memory is ample")
+/// Whether a task is made again at moment 9, under another id.
+fn resubmits<R: Abort>(rt: &R, alloc: Global, state: &mut State, old: &str, new: &str) -> bool {
+    let mut renamed = Renamed::new(alloc);
+    let renaming = Renaming {
+        old: text(rt, alloc, old),
+        new: text(rt, alloc, new),
+    };
+    renamed.push(renaming).expect(rt, "memory is ample");
+    state
+        .take_resubmit(9, &Ok(renamed))
+        .expect(rt, "memory is ample")
+}
+
+/// Whether the task of an id is purged.
+fn is_purged(state: &State, id: &Text) -> bool {
+    let found = state.tasks.find(id);
+    found.is_some_and(|task| task.row().purged)
 }
 
 /// Whether a task was accepted at moment 9.
@@ -436,8 +479,9 @@ fn directs<R: Abort>(rt: &R, alloc: Global, state: &mut State, id: &str) -> bool
         "memory is ample",
     );
     let submission = submission(rt, alloc, id);
+    let accepted = state.acceptance(true, &submission, &request) == Acceptance::Accepted;
     state
-        .take_demand(2, 5, &request, true, &submission)
+        .take_demand(2, 5, &request, true, &submission, accepted)
         .expect(rt, "memory is ample")
 }
 
@@ -464,8 +508,8 @@ fn numbers_follow_what_finished(rt: HostRuntime) {
     assert!(rt; reply(&rt, alloc, &mut state, "r"));
     let _ = settle(&rt, &mut state, text(&rt, alloc, "a"));
     assert!(rt; numbers_are(&state, 0, 0, 0, 1));
-    let listed = ids(&rt, alloc, &["a"]);
-    assert!(rt; purges(&rt, &mut state, &listed));
+    let drops = PurgePlan::Drops(ids(&rt, alloc, &["a"]));
+    assert!(rt; purges(&rt, &mut state, &drops));
     assert!(rt; numbers_are(&state, 0, 0, 0, 0));
 }
 
@@ -479,12 +523,11 @@ fn a_task_is_settled_once(rt: HostRuntime) {
     let _ = settle(&rt, &mut state, text(&rt, alloc, "a"));
     assert!(rt; state.tasks.len() == 1 && state.tasks.marks().free.is_empty());
     assert!(rt; is_settled(&state, &text(&rt, alloc, "a")));
-    let listed = ids(&rt, alloc, &["a"]);
-    assert!(rt; resubmits(&rt, &mut state, &listed));
+    assert!(rt; resubmits(&rt, alloc, &mut state, "a", "resubmit:2"));
     assert!(rt; is_of_nine(&state, &text(&rt, alloc, "resubmit:2")));
-    for drops in [true, false] {
-        assert!(rt; purges(&rt, &mut state, &listed) == drops);
-    }
+    let drops = PurgePlan::Drops(ids(&rt, alloc, &["a"]));
+    assert!(rt; purges(&rt, &mut state, &drops));
+    assert!(rt; is_purged(&state, &text(&rt, alloc, "a")));
 }
 
 #[test]

@@ -9,7 +9,8 @@ use Rattle.cluster_types.specs.declared.message.Message.{Message}
 use Rattle.cluster_types.specs.declared.out.Out.{Out}
 use Rattle.cluster_defs.specs.declared.connection.Connection.{Connection}
 use Rattle.cluster_defs.specs.declared.engine.Engine.{Engine}
-use Rattle.cluster_defs.specs.Connections.{Peer, reached}
+use Rattle.cluster_defs.specs.declared.connection.Owner.{Owner}
+use Rattle.cluster_defs.specs.Connections.{reached}
 use Rattle.cluster_defs.specs.Engines.{conn_in, without_number}
 use Rattle.cluster_defs.specs.Facts.{Facts}
 use Rattle.cluster_defs.specs.Requests.{Request}
@@ -32,7 +33,7 @@ nobody_owns : (f : Facts) (r : Option Request) → f.connections ≡ [] → owne
 nobody_owns f None is = refl
 nobody_owns f (Some r) is = by r.owner
   where
-    by : (o : Option Peer) → option_and_then (reached f.connections) o ≡ None
+    by : (o : Option Owner) → option_and_then (reached f.connections) o ≡ None
     by None = refl
     by (Some p) = ap (λ (live : List Connection). reached live p) is
 

@@ -13,6 +13,7 @@ use Rattle.cluster_laws.proofs.Gone.{legal_below}
 use Rattle.cluster_state.specs.Plain.{Plain, plain_of, facts_in, plain_after, InTime}
 use Rattle.cluster_state.proofs.Exact.{exact}
 use Rattle.cluster_state.proofs.Steps.{taken_is}
+use Rattle.entry_outs.specs.Reached.{IsNext}
 use Rattle.thin_history.specs.declared.notes.Note.{Note}
 use Rattle.thin_history.specs.Notes.{note_of, notes_of}
 use Rattle.thin_history.proofs.Histories.{turned}
@@ -58,8 +59,14 @@ turned_at xs i e lt is =
     ap reverse (sym (take-append-drop (i + 1) xs)) ∙ reverse-append (take (i + 1) xs) (drop (i + 1) xs)
     ∙ ap (λ ys. reverse (drop (i + 1) xs) ++ ys) (turned xs i e lt is)
 
+legal_at : (xs : List Entry) (i : ℕ) (e : Entry) → i < length xs → e ≡ get_or xs i e → Legal (reverse xs) → Legal (e ∷ reverse (take i xs))
+legal_at xs i e lt is legal = legal_below (reverse (drop (i + 1) xs)) (e ∷ reverse (take i xs)) (subst Legal (turned_at xs i e lt is) legal)
+
+-- the entry at a place may stand next after those before it
+pub next_at : (xs : List Entry) (i : ℕ) (e : Entry) (p : Plain) (notes : List Note) → i < length xs → e ≡ get_or xs i e → Legal (reverse xs) → IsPassed (reverse (take i xs)) p notes → IsNext p e
+next_at xs i e p notes lt is legal passed = record { history = reverse (take i xs); legal = legal_at xs i e lt is legal; is = passed.stands }
+
 pub passed_at : (xs : List Entry) (i : ℕ) (e : Entry) (p q : Plain) (notes : List Note) (note : Note) → i < length xs → e ≡ get_or xs i e → Legal (reverse xs) → InTime e → IsPassed (reverse (take i xs)) p notes →
     note ≡ note_of (facts_in p) e → q ≡ plain_after (facts_in p) e (event_in (facts_in p) e) p → IsPassed (reverse (take (i + 1) xs)) q (notes ++ note ∷ [])
 passed_at xs i e p q notes note lt is legal time passed noted after =
-    let here : Legal (e ∷ reverse (take i xs)) = legal_below (reverse (drop (i + 1) xs)) (e ∷ reverse (take i xs)) (subst Legal (turned_at xs i e lt is) legal) in
-    subst (λ (h : History). IsPassed h q (notes ++ note ∷ [])) (sym (turned xs i e lt is)) (passed_more (reverse (take i xs)) e p q notes note here time passed noted after)
+    subst (λ (h : History). IsPassed h q (notes ++ note ∷ [])) (sym (turned xs i e lt is)) (passed_more (reverse (take i xs)) e p q notes note (legal_at xs i e lt is legal) time passed noted after)

@@ -6,12 +6,14 @@ ghost use Rattle.cluster_defs.specs.Facts.{event_in};
 ghost use Rattle.cluster_defs.specs.Histories.{facts, Legal};
 ghost use Rattle.cluster_state.specs.Plain.{facts_in, plain_of, plain_after, InTime};
 ghost use Rattle.cluster_state.specs.Stands.{plain};
+ghost use Rattle.entry_outs.specs.Reached.{IsNext};
 ghost use Rattle.thin_history.specs.Notes.{note_of, notes_of};
 
 use crate::meanings::event_in;
 use crate::notes::{Note, note_of};
 use cluster_state::state::State;
 use cluster_types::entry::Entry;
+use entry_outs::rulings::ruling;
 use json::Scratch;
 use std::alloc::{AllocError, Global};
 
@@ -26,6 +28,7 @@ pub struct Pass {
 
 /// Takes an entry, and says what it does.
 fn take_entry(state: &mut State, entry: &Entry, scratch: &mut Scratch) -> Result<Note, AllocError>
+    requires next { IsNext (plain state.old) entry.now }
     requires time { InTime entry.now }
     requires now { state.old.moment ≤ last_moment }
     ensures note { IfOk result (λ note. note ≡ note_of (facts_in (plain state.old)) entry.now) }
@@ -34,7 +37,8 @@ fn take_entry(state: &mut State, entry: &Entry, scratch: &mut Scratch) -> Result
     let alloc = state.allocator();
     let event = event_in(alloc, state, entry, scratch)?;
     let known = state.tasks.len() as u64;
-    let kept = state.take(entry, &event)?;
+    let ruling = ruling(state, entry, &event)?;
+    let kept = state.take(entry, &event, ruling)?;
     let note = note_of(alloc, known, kept, &event)?;
     Ok(note)
 }

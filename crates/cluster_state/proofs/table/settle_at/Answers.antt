@@ -1,11 +1,11 @@
 use Rattle.std.proofs.Common.{sym, ap}
-use Rattle.cluster_state.specs.Seen.{settled_with, settled_as}
+use Rattle.cluster_state.specs.Seen.{settled_with}
 use Rattle.cluster_state.specs.Places.{name, asking}
 use Rattle.cluster_state.proofs.Places.{set_at, past_at, map_set, apart_set}
 use Rattle.cluster_state.proofs.table.settle_at.Goals as goal
 
 pub returns-then-place-tasks-clause-ok : goal.returns-then-place-tasks-clause-ok
-returns-then-place-tasks-clause-ok c = set_at (settled_with (settled_as c.args.settled) c.args.outcome) c.args.tasks.now c.args.place c.index-tasks-place.result c.settle.new.self c.if-place-tasks.true c.settle.ensures
+returns-then-place-tasks-clause-ok c = set_at (settled_with c.args.settled c.args.outcome) c.args.tasks.now c.args.place c.index-tasks-place.result c.settle.new.self c.if-place-tasks.true c.settle.ensures
 
 pub returns-then-place-tasks-clause-names : goal.returns-then-place-tasks-clause-names
 returns-then-place-tasks-clause-names c = map_set name c.args.tasks.now c.args.place c.index-tasks-place.result c.settle.new.self c.if-place-tasks.true (ap name c.settle.ensures)
@@ -17,4 +17,4 @@ pub returns-then-place-tasks-clause-apart : goal.returns-then-place-tasks-clause
 returns-then-place-tasks-clause-apart c = apart_set c.args.tasks.now c.args.place c.settle.new.self
 
 pub returns-else-place-tasks-clause-ok : goal.returns-else-place-tasks-clause-ok
-returns-else-place-tasks-clause-ok c = sym (past_at (settled_with (settled_as c.args.settled) c.args.outcome) c.args.tasks.now c.args.place c.if-place-tasks.false)
+returns-else-place-tasks-clause-ok c = sym (past_at (settled_with c.args.settled c.args.outcome) c.args.tasks.now c.args.place c.if-place-tasks.false)

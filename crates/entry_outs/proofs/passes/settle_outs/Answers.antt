@@ -1,19 +1,23 @@
-use Rattle.std.proofs.Common.{List, sym, ap, ◌∙◌}
+use Rattle.std.proofs.Common.{List, sym, ap, subst, ◌∙◌, Option}
 use Rattle.std.specs.Option.{option_copied, option_and_then}
 use Rattle.cluster_defs.specs.declared.connection.Connection.{Connection}
 use Rattle.cluster_defs.specs.Connections.{reached}
-use Rattle.cluster_state.specs.Seen.{request_as, settled_as}
-use Rattle.cluster_state.specs.Plain.{outcome_for}
+use Rattle.cluster_state.specs.declared.settling.Settling.{Settling}
+use Rattle.cluster_state.specs.Seen.{request_as, seen_in}
+use Rattle.cluster_state.specs.Settling.{IsSettling}
 use Rattle.cluster_state.specs.Stands.{plain}
-use Rattle.entry_outs.proofs.Telling.{settle_sends}
+use Rattle.entry_outs.proofs.Telling.{settle_sends, settling_outcome}
 use Rattle.entry_outs.proofs.passes.settle_outs.Goals as goal
 
-pub returns-in_ok-outs-in-Some : goal.returns-in_ok-outs-in-Some
-returns-in_ok-outs-in-Some c =
-    c.in_ok-outs-in-Some.ensures
-    ∙ settle_sends (plain c.args.state.now) c.args.id.now c.args.verdict c.args.cause c.in-Some.task.now (request_as c.request.result.now) c.owner_conn-conn.result c.in_ok-outcome-in-Some.outcome
-    c.requires.reached (sym c.find.ensures ∙ ap option_copied c.in-Some.is) c.requires.unsettled c.request.ensures.value
-    (c.owner_conn-conn.ensures ∙ ap (λ (cs : List Connection). option_and_then (reached cs) (request_as c.request.result.now).owner) c.deref.ensures.value)
-    (c.in_ok-outcome-in-Some.ensures
-    ∙ ap (λ k. outcome_for (settled_as c.settled_at-settled.result) k c.in-Some.task.now) c.settled_at-settled.ensures.cause
-    ∙ ap (λ s. outcome_for s c.args.cause c.in-Some.task.now) c.settled_at-settled.ensures.is)
+pub returns : goal.returns
+returns c = λ v k is.
+    let p = plain c.args.state.now in
+    let id = c.args.id.now in
+    let t = c.in-Some-find.task.now in
+    let request = request_as c.request.result.now in
+    let here = sym c.find.ensures ∙ ap option_copied c.in-Some-find.is in
+    let settling = subst (λ (o : Option Settling). IsSettling v k p.moment (seen_in p.tasks id) o) c.in-Some.is is in
+    c.in_ok-outs.ensures
+    ∙ settle_sends p id v k t request c.owner_conn-conn.result c.in_ok-outcome.outcome c.requires.reached here c.requires.unsettled c.request.ensures.value
+    (c.owner_conn-conn.ensures ∙ ap (λ (cs : List Connection). option_and_then (reached cs) request.owner) c.deref.ensures.value)
+    (c.in_ok-outcome.ensures ∙ settling_outcome v k p.moment (seen_in p.tasks id) t c.in-Some.settling here settling)

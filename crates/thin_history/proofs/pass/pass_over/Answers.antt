@@ -5,8 +5,13 @@ use Rattle.cluster_defs.specs.Histories.{facts}
 use Rattle.cluster_state.specs.Plain.{Plain, plain_of, InTime}
 use Rattle.cluster_state.specs.Stands.{plain}
 use Rattle.thin_history.specs.Notes.{notes_of}
-use Rattle.thin_history.proofs.Passing.{passed_at}
+use Rattle.thin_history.proofs.Passing.{next_at, passed_at}
 use Rattle.thin_history.proofs.pass.pass_over.Goals as goal
+
+pub take_entry-requires-clause-next : goal.take_entry-requires-clause-next
+take_entry-requires-clause-next c =
+    next_at c.args.entries.now c.loop-entry.entry-index c.entry-item.result (plain c.loop-entry.state) c.loop-entry.notes.items
+    c.loop-entry-test.true c.entry-item.is c.requires.legal c.loop-entry.invariant
 
 pub take_entry-requires-clause-time : goal.take_entry-requires-clause-time
 take_entry-requires-clause-time c = subst InTime (sym c.entry-item.is) (c.requires.time c.loop-entry.entry-index c.entry-item.result c.loop-entry-test.true)

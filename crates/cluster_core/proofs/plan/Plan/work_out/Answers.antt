@@ -1,7 +1,7 @@
 use Rattle.std.proofs.Common.{◌∙◌, ap, reverse}
 use Rattle.cluster_state.specs.Stands.{plain}
 use Rattle.cluster_core.specs.Steps.{stops_after}
-use Rattle.cluster_core.proofs.Goes.{grown_begun}
+use Rattle.cluster_core.proofs.Goes.{begun_rests}
 use Rattle.cluster_core.proofs.Growing.{plain_time}
 use Rattle.cluster_core.proofs.plan.Plan.work_out.Goals as goal
 
@@ -15,10 +15,10 @@ begin-requires-clause-next g c = record {
 pub begin-requires-clause-now : goal.begin-requires-clause-now
 begin-requires-clause-now g c = plain_time (reverse c.args.history.now) (plain c.args.known.state) c.args.known.place c.requires.stands
 
-pub decide_rest-requires : goal.decide_rest-requires
-decide_rest-requires g c =
+pub decide-requires : goal.decide-requires
+decide-requires g c =
     let e = c.in_ok-plan.ensures in
-    grown_begun (reverse c.args.history.now) (plain c.args.known.state) c.args.known.place c.in_ok-plan.plan c.args.input c.args.meaning.now.event c.requires.stands e.input (record {
+    begun_rests (reverse c.args.history.now) (plain c.args.known.state) c.args.known.place c.in_ok-plan.plan c.args.input c.args.meaning.now.event c.requires.stands e.input (record {
       allowed = c.requires.allowed;
       time = c.requires.time;
       event_is = c.requires.event;

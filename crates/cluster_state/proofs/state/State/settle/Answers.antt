@@ -1,5 +1,5 @@
 use Rattle.std.proofs.Common.{ap, ◌∙◌, subst, Option}
-use Rattle.cluster_state.specs.declared.entries.Settling.{Settling}
+use Rattle.cluster_state.specs.declared.settling.Settling.{Settling}
 use Rattle.cluster_state.specs.Seen.{seen_in}
 use Rattle.cluster_state.specs.Stands.{plain}
 use Rattle.cluster_state.specs.Settling.{IsSettling}
@@ -11,10 +11,10 @@ returns-in_ok-settle-in-Some c =
     let s = c.in-Some.field-0 in
     let p = plain c.args.self.now in
     ap (λ ts. record p { tasks = ts }) (c.in_ok-settle-in-Some.ensures ∙ settle_some c.args.verdict c.args.cause c.args.self.now.moment c.args.id.now c.args.self.now.tasks c.in-Some.field-0
-    (subst (λ (o : Option Settling). IsSettling c.args.verdict c.args.cause c.args.self.now.moment (seen_in c.args.self.now.tasks c.args.id.now) o) c.in-Some.is c.in_ok-settled.ensures))
+    (subst (λ (o : Option Settling). IsSettling c.args.verdict c.args.cause c.args.self.now.moment (seen_in c.args.self.now.tasks c.args.id.now) o) c.in-Some.is c.requires))
 
 pub returns-in-None : goal.returns-in-None
 returns-in-None c =
     let p = plain c.args.self.now in
     ap (λ ts. record p { tasks = ts }) (settle_none c.args.verdict c.args.cause c.args.self.now.moment c.args.id.now c.args.self.now.tasks
-    (subst (λ (o : Option Settling). IsSettling c.args.verdict c.args.cause c.args.self.now.moment (seen_in c.args.self.now.tasks c.args.id.now) o) c.in-None.is c.in_ok-settled.ensures))
+    (subst (λ (o : Option Settling). IsSettling c.args.verdict c.args.cause c.args.self.now.moment (seen_in c.args.self.now.tasks c.args.id.now) o) c.in-None.is c.requires))

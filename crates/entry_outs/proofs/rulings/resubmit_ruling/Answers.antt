@@ -1,21 +1,18 @@
 use Rattle.std.proofs.Common.{◌≡◌, ◌⊎◌, sym, ap, ◌∙◌, subst, Some}
-use Rattle.std.specs.Prelude.{IfOk}
 use Rattle.cluster_defs.specs.Words.{once}
 use Rattle.cluster_types.specs.Limits.{most_ids}
 use Rattle.cluster_defs.specs.Purges.{Resubmitting}
 use Rattle.cluster_defs.specs.RecordPlans.{resubmit_in}
-use Rattle.cluster_defs.specs.Queries.{limited, resubmit_answer}
 use Rattle.cluster_state.specs.Stands.{plain}
 use Rattle.resubmission.specs.Plans.{refusal_of}
 use Rattle.resubmission.specs.declared.plan.ResubmitRefusal.TheVariants.{OutOfMemory}
 use Rattle.entry_outs.proofs.Telling.{resubmit_told}
-use Rattle.entry_outs.proofs.messages.resubmit_told.Goals as goal
+use Rattle.entry_outs.proofs.rulings.resubmit_ruling.Goals as goal
 
 pub returns-in-Ok : goal.returns-in-Ok
 returns-in-Ok c =
-    subst (λ (w : Resubmitting). IfOk c.renamed_answer.result (λ a. a ≡ limited c.args.channel (resubmit_answer w)))
-    (sym c.in-Ok.ensures.ok ∙ ap (λ rs. resubmit_in rs most_ids (once c.args.ids.now)) c.new-rows.ensures ∙ resubmit_told (plain c.args.state.now) c.args.ids.now c.requires)
-    c.renamed_answer.ensures
+    sym (ap (λ rs. resubmit_in rs most_ids (once c.args.ids.now)) c.new-rows.ensures ∙ resubmit_told (plain c.args.state.now) c.args.ids.now c.requires)
+    ∙ c.in-Ok.ensures.ok
 
 pub returns-in-Err : goal.returns-in-Err
 returns-in-Err c =
