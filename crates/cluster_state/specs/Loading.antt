@@ -1,9 +1,9 @@
 -- How many Submits run on each engine.
-use Rattle.std.specs.Prelude.{◌≡◌, ⊤, ℕ, List, slice_get, Option, Some, None, Bool, not, ◌&&◌, if◌then◌else◌, count_by}
+use Rattle.std.specs.Prelude.{◌≡◌, ◌<◌, ⊤, ℕ, List, slice_get, Option, Some, None, Bool, not, ◌&&◌, if◌then◌else◌, count_by}
 use Rattle.std.specs.Option.{is_some, option_and_then}
 use Rattle.std.specs.Global.{Vec}
 use Rattle.place_sets.specs.Sets.{holds_at}
-use Rattle.dense_numbers.specs.Counts.{count_of}
+use Rattle.dense_numbers.specs.Counts.{count_of, greatest}
 use Rattle.cluster_defs.specs.declared.attempt.Attempt.{Attempt}
 use Rattle.cluster_defs.specs.declared.attempt.Attempt.TheVariants.{Running}
 use Rattle.cluster_defs.specs.Tasks.{runs_at}
@@ -40,7 +40,16 @@ abbrev pub Counted : List Seen → Option (Vec ℕ) → Type 0
 Counted ts None = ⊤
 Counted ts (Some counts) = Counts ts counts.items
 
--- the counts tell how many of some places load each engine, where there are any
+-- how many of some places load an engine
+abbrev pub load_among : List Seen → List ℕ → ℕ → ℕ
+load_among ts places n = count_by (holds_at (loads n) ts) places
+
+-- the counts tell how many of some places load each engine; there are none only where 32 bits don't tell that of one
 abbrev pub Tallied : List Seen → List ℕ → Option (Vec ℕ) → Type 0
-Tallied ts places None = ⊤
-Tallied ts places (Some counts) = (n : ℕ) → count_of counts.items n ≡ count_by (holds_at (loads n) ts) places
+Tallied ts places None = (n : ℕ) × (greatest < load_among ts places n)
+Tallied ts places (Some counts) = (n : ℕ) → count_of counts.items n ≡ load_among ts places n
+
+-- the counts tell the load of each engine; there are none only where 32 bits don't tell that of one
+abbrev pub CountedAnew : List Seen → Option (Vec ℕ) → Type 0
+CountedAnew ts None = (n : ℕ) × (greatest < load_in ts n)
+CountedAnew ts (Some counts) = Counts ts counts.items

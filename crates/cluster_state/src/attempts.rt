@@ -1,6 +1,6 @@
 //! What became of a task's attempts.
 
-ghost use Rattle.std.specs.Prelude.{◌≡◌, ◌∷◌, ◌+◌, ◌==◌, ◌&&◌, not, Some, None, IfOk, OnOk, bytes_eq};
+ghost use Rattle.std.specs.Prelude.{◌≡◌, ◌∷◌, ◌+◌, ◌^◌, ◌==◌, ◌&&◌, not, Some, None, IfOk, OnOk, OnErr, bytes_eq};
 ghost use Rattle.std.specs.List.{list_any};
 ghost use Rattle.cluster_defs.specs.Tasks.{new_task, runs, runs_at, is_never, engine_of, handed, lost, after_end, replied, took, has_heard};
 ghost use Rattle.cluster_defs.specs.declared.attempt.Attempt.{Attempt as AttemptType};
@@ -22,10 +22,11 @@ pub struct Attempts {
     pub heard: Vec<(u32, Text)>,
 }
 
-/// One more of something that is counted. A count can't come to its end, since what is counted lies in memory; if it
-/// did, that would be want of memory.
+/// One more of something that is counted. At the last number of 64 bits there is none; what is counted lies in memory, and
+/// no memory holds as much, so that counts as want of memory.
 pub fn one_more(count: u64) -> Result<u64, AllocError>
-    ensures { IfOk result (λ n. n ≡ count + 1) }
+    ensures ok { IfOk result (λ n. n ≡ count + 1) }
+    ensures last { OnErr result (count + 1 ≡ 2 ^ 64) }
 {
     match count.checked_add(1) {
         Some(more) => Ok(more),

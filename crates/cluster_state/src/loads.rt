@@ -40,7 +40,7 @@ pub fn loaded_at(table: &Table, place: usize) -> Option<u32>
     }
 }
 
-/// Counts the tasks at some places on the engines where they run. There is no answer where a load would pass the end of
+/// Counts the tasks at some places on the engines where they run. There is no answer only where a load is past the end of
 /// its 32 bits.
 pub fn tallied(
     alloc: Global,

@@ -23,7 +23,8 @@ use cluster_types::verdict::{Cause, Verdict};
 use engine_registry::registry::Registry;
 use std::alloc::{AllocError, Global};
 
-/// What is known of a cluster after a history.
+/// What is known of a cluster after a history. A call that answers want of memory may have made a part of its change, so who
+/// calls lets the state go then, and reads it off the entries anew.
 #[derive(Drop)]
 pub struct State {
     /// Whether the database was opened.

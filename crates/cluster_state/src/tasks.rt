@@ -7,7 +7,7 @@ ghost use Rattle.std.specs.Ordering.{nat_cmp};
 ghost use Rattle.place_sets.specs.Sets.{at_place};
 ghost use Rattle.cluster_state.specs.Seen.{handed_to, ended_on, lost_all, replied_with, settled_with, purged_out, seen_in, place_in, changed, on_unsettled};
 ghost use Rattle.cluster_state.specs.Marking.{Marked};
-ghost use Rattle.cluster_state.specs.Loading.{Counts, Counted};
+ghost use Rattle.cluster_state.specs.Loading.{Counts, CountedAnew};
 ghost use Rattle.cluster_state.specs.Tallying.{AllTold};
 ghost use Rattle.cluster_state.specs.Places.{Alike, asking};
 ghost use Rattle.cluster_state.specs.Waiting.{Awaited, IsNoted, WaitsGrow};
@@ -30,7 +30,8 @@ use std::marker::Model;
 use task_graph::waiters::Waiters;
 
 /// All tasks in order of number, which contracts see as a list. A task is found by its id without a search, and those of
-/// which something may be due without a look at the others.
+/// which something may be due without a look at the others. After a change that answers want of memory they are let go with
+/// the state, since a change of many may have been made of some.
 #[derive(Drop)]
 pub struct Tasks {
     table: Table,
@@ -182,7 +183,7 @@ fn lose_in(table: &mut Table, marks: &mut Marks) -> Result<(), AllocError>
 /// Counts the Submits that run on each engine.
 fn counted_in(table: &Table, marks: &Marks) -> Result<Option<Vec<u32>>, AllocError>
     requires { Marked table.now marks.now }
-    ensures { IfOk result (λ counts. Counted table.now counts) }
+    ensures { IfOk result (λ counts. CountedAnew table.now counts) }
 {
     let alloc = table.allocator();
     let places = places_in(alloc, &marks.running)?;
@@ -409,10 +410,10 @@ impl Tasks {
         &self.tallies
     }
 
-    /// How many Submits run on each engine, counted anew. There is no answer where a load would pass the end of its
+    /// How many Submits run on each engine, counted anew. There is no answer only where a load is past the end of its
     /// 32 bits.
     pub fn counted(&self) -> Result<Option<Vec<u32>>, AllocError>
-        ensures { IfOk result (λ counts. Counted self.now counts) }
+        ensures { IfOk result (λ counts. CountedAnew self.now counts) }
     {
         counted_in(&self.table, &self.marks)
     }
