@@ -1,4 +1,5 @@
 pub mod Again
 pub mod Extends
 pub mod Joins
+pub mod Keeping
 pub mod Takes

@@ -1,3 +1,4 @@
 pub mod Difference
+pub mod Keeping
 pub mod Reading
 pub mod Spelling

@@ -1,6 +1,7 @@
 //! Reading and writing a message inside a record.
 
-ghost use Rattle.std.specs.Prelude.{◌≡◌, ◌<◌, ◌^◌, ◌++◌, All, length, OnOk};
+ghost use Rattle.std.specs.Prelude.{◌≡◌, ◌<◌, ◌^◌, ◌++◌, All, length, OnOk, OnErr};
+ghost use Rattle.octet_fields.specs.Keeping.{Keeps};
 ghost use Rattle.octet_fields.specs.Reading.{Gives, blob_at};
 ghost use Rattle.record_codec.specs.Reading.{blobs_at, buffers_at, message_at};
 ghost use Rattle.record_codec.specs.Spelling.{blobs, message_spelling, IsShort};
@@ -65,7 +66,8 @@ pub fn message(alloc: Global, octets: &[u8]) -> Result<(SharedMessage, &[u8]), R
 /// Appends buffers, each behind its length.
 fn put_buffers(into: &mut Vec<u8>, buffers: &[Octets]) -> Result<(), AllocError>
     requires { All (λ buffer. length buffer < 2 ^ 32) buffers.now }
-    ensures { OnOk result (into.new.items ≡ into.old.items ++ blobs buffers.now) }
+    ensures ok { OnOk result (into.new.items ≡ into.old.items ++ blobs buffers.now) }
+    ensures kept { OnErr result (Keeps into.old.items into.new.items) }
 {
     for buffer in buffers {
         put_blob(into, buffer.as_slice())?;
@@ -77,7 +79,8 @@ fn put_buffers(into: &mut Vec<u8>, buffers: &[Octets]) -> Result<(), AllocError>
 #[tactic(auto, using(octet_fields::proofs::Joins::joins), unfolding(crate::specs::Spelling::message_spelling))]
 pub fn put_message(into: &mut Vec<u8>, message: &SharedMessage) -> Result<(), AllocError>
     requires { IsShort message.now }
-    ensures { OnOk result (into.new.items ≡ into.old.items ++ message_spelling message.now) }
+    ensures ok { OnOk result (into.new.items ≡ into.old.items ++ message_spelling message.now) }
+    ensures kept { OnErr result (Keeps into.old.items into.new.items) }
 {
     put_str8(into, message.target())?;
     put_blob(into, message.header())?;

@@ -1,7 +1,8 @@
 //! Writing entries.
 
-ghost use Rattle.std.specs.Prelude.{◌≡◌, ◌++◌, length, true, OnOk};
+ghost use Rattle.std.specs.Prelude.{◌≡◌, ◌++◌, length, true, OnOk, OnErr};
 ghost use Rattle.std.specs.Str.{is_utf8};
+ghost use Rattle.octet_fields.specs.Keeping.{Keeps};
 ghost use Rattle.record_codec.specs.Spelling.{spelling, scheme_code, verdict_code, cause_code, IsMoment, IsName, IsShort, IsWithinLimits, HasRecord};
 
 use crate::message::put_message;
@@ -68,6 +69,7 @@ fn write_open(
 ) -> Result<(), AllocError>
     requires { IsMoment moment }
     ensures record { OnOk result (into.new.items ≡ into.old.items ++ spelling (Entry.Input (Input.Open moment scheme hwm misses))) }
+    ensures kept { OnErr result (Keeps into.old.items into.new.items) }
     ensures has { HasRecord (Entry.Input (Input.Open moment scheme hwm misses)) }
 {
     into.push(1)?;
@@ -90,6 +92,7 @@ fn write_up(
     requires moment { IsMoment moment }
     requires identity { IsName identity.now }
     ensures record { OnOk result (into.new.items ≡ into.old.items ++ spelling (Entry.Input (Input.Up conn channel moment word identity.now))) }
+    ensures kept { OnErr result (Keeps into.old.items into.new.items) }
     ensures has { HasRecord (Entry.Input (Input.Up conn channel moment word identity.now)) }
 {
     into.push(2)?;
@@ -105,6 +108,7 @@ fn write_up(
 fn write_down(into: &mut Vec<u8>, conn: u32, moment: u64, word: u64) -> Result<(), AllocError>
     requires { IsMoment moment }
     ensures record { OnOk result (into.new.items ≡ into.old.items ++ spelling (Entry.Input (Input.Down conn moment word))) }
+    ensures kept { OnErr result (Keeps into.old.items into.new.items) }
     ensures has { HasRecord (Entry.Input (Input.Down conn moment word)) }
 {
     into.push(3)?;
@@ -125,6 +129,7 @@ fn write_in(
     requires moment { IsMoment moment }
     requires message { IsShort message.now }
     ensures record { OnOk result (into.new.items ≡ into.old.items ++ spelling (Entry.Input (Input.In conn moment word message.now))) }
+    ensures kept { OnErr result (Keeps into.old.items into.new.items) }
     ensures has { HasRecord (Entry.Input (Input.In conn moment word message.now)) }
 {
     into.push(4)?;
@@ -139,6 +144,7 @@ fn write_in(
 fn write_beat(into: &mut Vec<u8>, moment: u64, word: u64) -> Result<(), AllocError>
     requires { IsMoment moment }
     ensures record { OnOk result (into.new.items ≡ into.old.items ++ spelling (Entry.Input (Input.Beat moment word))) }
+    ensures kept { OnErr result (Keeps into.old.items into.new.items) }
     ensures has { HasRecord (Entry.Input (Input.Beat moment word)) }
 {
     into.push(5)?;
@@ -151,6 +157,7 @@ fn write_beat(into: &mut Vec<u8>, moment: u64, word: u64) -> Result<(), AllocErr
 fn write_time(into: &mut Vec<u8>, moment: u64, word: u64) -> Result<(), AllocError>
     requires { IsMoment moment }
     ensures record { OnOk result (into.new.items ≡ into.old.items ++ spelling (Entry.Input (Input.Time moment word))) }
+    ensures kept { OnErr result (Keeps into.old.items into.new.items) }
     ensures has { HasRecord (Entry.Input (Input.Time moment word)) }
 {
     into.push(6)?;
@@ -163,6 +170,7 @@ fn write_time(into: &mut Vec<u8>, moment: u64, word: u64) -> Result<(), AllocErr
 fn write_hand(into: &mut Vec<u8>, id: &Text, engine: u32) -> Result<(), AllocError>
     requires { IsName id.now }
     ensures record { OnOk result (into.new.items ≡ into.old.items ++ spelling (Entry.Hand id.now engine)) }
+    ensures kept { OnErr result (Keeps into.old.items into.new.items) }
     ensures has { HasRecord (Entry.Hand id.now engine) }
 {
     let text = text_of(id);
@@ -181,6 +189,7 @@ fn write_settle(
 ) -> Result<(), AllocError>
     requires { IsName id.now }
     ensures record { OnOk result (into.new.items ≡ into.old.items ++ spelling (Entry.Settle id.now verdict cause)) }
+    ensures kept { OnErr result (Keeps into.old.items into.new.items) }
     ensures has { HasRecord (Entry.Settle id.now verdict cause) }
 {
     let text = text_of(id);
@@ -195,6 +204,7 @@ fn write_settle(
 #[tactic(auto, using(octet_fields::proofs::Joins::joins))]
 fn write_lose(into: &mut Vec<u8>, engine: u32) -> Result<(), AllocError>
     ensures record { OnOk result (into.new.items ≡ into.old.items ++ spelling (Entry.Lose engine)) }
+    ensures kept { OnErr result (Keeps into.old.items into.new.items) }
     ensures has { HasRecord (Entry.Lose engine) }
 {
     into.push(9)?;
@@ -205,6 +215,7 @@ fn write_lose(into: &mut Vec<u8>, engine: u32) -> Result<(), AllocError>
 fn write_input(into: &mut Vec<u8>, input: &Input) -> Result<(), AllocError>
     requires { IsWithinLimits (Entry.Input input.now) }
     ensures record { OnOk result (into.new.items ≡ into.old.items ++ spelling (Entry.Input input.now)) }
+    ensures kept { OnErr result (Keeps into.old.items into.new.items) }
     ensures has { HasRecord (Entry.Input input.now) }
 {
     match input {
@@ -233,10 +244,11 @@ fn write_input(into: &mut Vec<u8>, input: &Input) -> Result<(), AllocError>
     }
 }
 
-/// Appends the record of an entry. The octets behind an `OutOfMemory` may be a part of it.
-pub fn write_entry(into: &mut Vec<u8>, entry: &Entry) -> Result<(), AllocError>
+/// Appends the record of an entry, or a part of it where memory is wanting.
+fn write_kind(into: &mut Vec<u8>, entry: &Entry) -> Result<(), AllocError>
     requires { IsWithinLimits entry.now }
     ensures record { OnOk result (into.new.items ≡ into.old.items ++ spelling entry.now) }
+    ensures kept { OnErr result (Keeps into.old.items into.new.items) }
     ensures has { HasRecord entry.now }
 {
     match entry {
@@ -245,4 +257,19 @@ pub fn write_entry(into: &mut Vec<u8>, entry: &Entry) -> Result<(), AllocError>
         Entry::Settle { id, verdict, cause } => write_settle(into, id, *verdict, *cause),
         Entry::Lose { engine } => write_lose(into, *engine),
     }
+}
+
+/// Appends the record of an entry. Where memory is wanting, `into` is as it was.
+pub fn write_entry(into: &mut Vec<u8>, entry: &Entry) -> Result<(), AllocError>
+    requires { IsWithinLimits entry.now }
+    ensures record { OnOk result (into.new.items ≡ into.old.items ++ spelling entry.now) }
+    ensures err { OnErr result (into.new.items ≡ into.old.items) }
+    ensures has { HasRecord entry.now }
+{
+    let before = into.len();
+    let written = write_kind(into, entry);
+    if written.is_err() {
+        into.truncate(before);
+    }
+    written
 }
