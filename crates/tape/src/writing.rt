@@ -1,8 +1,9 @@
 //! Writing a record.
 
-ghost use Rattle.std.specs.Prelude.{◌≡◌, ◌<◌, ◌≤◌, ◌^◌, ◌++◌, length, All, OnOk};
+ghost use Rattle.std.specs.Prelude.{◌≡◌, ◌<◌, ◌≤◌, ◌^◌, ◌++◌, length, All, OnOk, OnErr};
 ghost use Rattle.std.specs.List.{flat_map};
 ghost use Rattle.cluster_types.specs.Limits.{most_frames};
+ghost use Rattle.octet_fields.specs.Keeping.{Keeps};
 ghost use Rattle.octet_fields.specs.Spelling.{blob};
 ghost use Rattle.tape.specs.Spelling.{spelled, all_spelled, kind_text, kind_code, form_code, Fits, KindFits, FitsBlob};
 
@@ -40,7 +41,8 @@ fn put_up(
     identity: &[u8],
 ) -> Result<(), AllocError>
     requires { length identity.now < 256 }
-    ensures { OnOk result (into.new.items ≡ into.old.items ++ kind_text (TapeKind.Up conn channel bare identity.now)) }
+    ensures ok { OnOk result (into.new.items ≡ into.old.items ++ kind_text (TapeKind.Up conn channel bare identity.now)) }
+    ensures kept { OnErr result (Keeps into.old.items into.new.items) }
 {
     put_number32(into, conn)?;
     put_channel(into, channel)?;
@@ -52,7 +54,8 @@ fn put_up(
 #[tactic(auto, using(octet_fields::proofs::Joins::joins))]
 fn put_piece(into: &mut Vec<u8>, conn: u32, octets: &[u8]) -> Result<(), AllocError>
     requires { length octets.now < 2 ^ 32 }
-    ensures { OnOk result (into.new.items ≡ into.old.items ++ kind_text (TapeKind.Piece conn octets.now)) }
+    ensures ok { OnOk result (into.new.items ≡ into.old.items ++ kind_text (TapeKind.Piece conn octets.now)) }
+    ensures kept { OnErr result (Keeps into.old.items into.new.items) }
 {
     put_number32(into, conn)?;
     put_blob(into, octets)?;
@@ -62,7 +65,8 @@ fn put_piece(into: &mut Vec<u8>, conn: u32, octets: &[u8]) -> Result<(), AllocEr
 /// Appends frames one after another.
 fn put_frames(into: &mut Vec<u8>, frames: &Frames) -> Result<(), AllocError>
     requires { All FitsBlob frames.now }
-    ensures { OnOk result (into.new.items ≡ into.old.items ++ flat_map blob frames.now) }
+    ensures ok { OnOk result (into.new.items ≡ into.old.items ++ flat_map blob frames.now) }
+    ensures kept { OnErr result (Keeps into.old.items into.new.items) }
 {
     for place in 0..frames.len() {
         put_blob(into, frames.at(place))?;
@@ -74,7 +78,8 @@ fn put_frames(into: &mut Vec<u8>, frames: &Frames) -> Result<(), AllocError>
 fn put_message(into: &mut Vec<u8>, conn: u32, frames: &Frames) -> Result<(), AllocError>
     requires few { length frames.now ≤ most_frames }
     requires fit { All FitsBlob frames.now }
-    ensures { OnOk result (into.new.items ≡ into.old.items ++ kind_text (TapeKind.Message conn frames.now)) }
+    ensures ok { OnOk result (into.new.items ≡ into.old.items ++ kind_text (TapeKind.Message conn frames.now)) }
+    ensures kept { OnErr result (Keeps into.old.items into.new.items) }
 {
     put_number32(into, conn)?;
     into.push(frames.len() as u8)?;
@@ -85,7 +90,8 @@ fn put_message(into: &mut Vec<u8>, conn: u32, frames: &Frames) -> Result<(), All
 /// Appends what stands behind the heading.
 fn put_kind(into: &mut Vec<u8>, kind: &TapeKind) -> Result<(), AllocError>
     requires { KindFits kind.now }
-    ensures { OnOk result (into.new.items ≡ into.old.items ++ kind_text kind.now) }
+    ensures ok { OnOk result (into.new.items ≡ into.old.items ++ kind_text kind.now) }
+    ensures kept { OnErr result (Keeps into.old.items into.new.items) }
 {
     match kind {
         TapeKind::Up {
@@ -103,26 +109,45 @@ fn put_kind(into: &mut Vec<u8>, kind: &TapeKind) -> Result<(), AllocError>
     Ok(())
 }
 
-/// Appends the one spelling of a record.
+/// Appends the one spelling of a record, or a part of it where memory is wanting.
 #[tactic(auto, using(octet_fields::proofs::Joins::joins))]
-pub fn write_tape(into: &mut Vec<u8>, item: &TapeRecord) -> Result<(), AllocError>
+fn put_record(into: &mut Vec<u8>, item: &TapeRecord) -> Result<(), AllocError>
     requires { Fits item.now }
-    ensures { OnOk result (into.new.items ≡ into.old.items ++ spelled item.now) }
+    ensures ok { OnOk result (into.new.items ≡ into.old.items ++ spelled item.now) }
+    ensures kept { OnErr result (Keeps into.old.items into.new.items) }
 {
     into.push(code_of_kind(&item.kind))?;
     put_number64(into, item.moment)?;
     put_number64(into, item.word)?;
-    put_kind(into, &item.kind)?;
-    Ok(())
+    put_kind(into, &item.kind)
 }
 
-/// Appends records one after another.
+/// Appends the one spelling of a record. Where memory is wanting, `into` is as it was.
+pub fn write_tape(into: &mut Vec<u8>, item: &TapeRecord) -> Result<(), AllocError>
+    requires { Fits item.now }
+    ensures ok { OnOk result (into.new.items ≡ into.old.items ++ spelled item.now) }
+    ensures err { OnErr result (into.new.items ≡ into.old.items) }
+{
+    let before = into.len();
+    let written = put_record(into, item);
+    if written.is_err() {
+        into.truncate(before);
+    }
+    written
+}
+
+/// Appends records one after another. Where memory is wanting, `into` is as it was.
 pub fn write_records(into: &mut Vec<u8>, items: &[TapeRecord]) -> Result<(), AllocError>
     requires { All Fits items.now }
-    ensures { OnOk result (into.new.items ≡ into.old.items ++ all_spelled items.now) }
+    ensures ok { OnOk result (into.new.items ≡ into.old.items ++ all_spelled items.now) }
+    ensures err { OnErr result (into.new.items ≡ into.old.items) }
 {
+    let before = into.len();
     for item in items {
-        write_tape(into, item)?;
+        if let Err(error) = write_tape(into, item) {
+            into.truncate(before);
+            return Err(error);
+        }
     }
     Ok(())
 }

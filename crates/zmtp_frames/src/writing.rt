@@ -3,7 +3,7 @@
 ghost use Rattle.std.specs.Prelude.{◌≡◌, ◌≤◌, ◌++◌, OnOk, OnErr, IfOk};
 ghost use Rattle.zmtp_frames.specs.Written.{sized_head, sized_body, written, written_command, more_flag, own_ready};
 
-use octet_fields::writing::put_number64;
+use octet_fields::writing::{put_both, put_number64};
 use std::alloc::{AllocError, Global};
 
 /// The longest body whose size is written in one octet.
@@ -23,22 +23,6 @@ fn head_octets(alloc: Global, flags: u8, size: usize) -> Result<Vec<u8>, AllocEr
         put_number64(&mut head, size as u64)?;
     }
     Ok(head)
-}
-
-/// Appends these octets and those, or nothing.
-fn put_both(into: &mut Vec<u8>, first: &[u8], second: &[u8]) -> Result<(), AllocError>
-    ensures ok { OnOk result (into.new.items ≡ into.old.items ++ (first.now ++ second.now)) }
-    ensures err { OnErr result (into.new.items ≡ into.old.items) }
-{
-    let before = into.len();
-    into.extend_from_slice(first)?;
-    match into.extend_from_slice(second) {
-        Ok(()) => Ok(()),
-        Err(error) => {
-            into.truncate(before);
-            Err(error)
-        }
-    }
 }
 
 /// Appends a body behind its flags and its size, or nothing.
