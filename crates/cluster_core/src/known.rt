@@ -1,6 +1,6 @@
 //! What is known after a history, read off its entries.
 
-ghost use Rattle.std.specs.Prelude.{◌≡◌, ◌≤◌, ◌∷◌, [], reverse, length, IfOk, OnOk, Ok, Err};
+ghost use Rattle.std.specs.Prelude.{◌≡◌, ◌≤◌, ◌∷◌, [], reverse, length, None, IfOk, OnOk, Ok, Err};
 ghost use Rattle.std.specs.Option.{is_some};
 ghost use Rattle.message_defs.specs.Event.{event_of};
 ghost use Rattle.message_defs.specs.Header.{message_type};
@@ -8,7 +8,8 @@ ghost use Rattle.cluster_types.specs.declared.entry.Entry.{Entry};
 ghost use Rattle.cluster_types.specs.Limits.{last_moment};
 ghost use Rattle.cluster_defs.specs.Connections.{channel_on, connection_on};
 ghost use Rattle.cluster_defs.specs.Facts.{event_in};
-ghost use Rattle.cluster_defs.specs.Scheduling.{may_take};
+ghost use Rattle.cluster_defs.specs.Outs.{outs_as};
+ghost use Rattle.cluster_defs.specs.Scheduling.{may_take, is_kept_as};
 ghost use Rattle.cluster_defs.specs.Histories.{facts, Legal, place};
 ghost use Rattle.cluster_state.specs.Plain.{facts_in, plain_of, plain_after, InTime};
 ghost use Rattle.cluster_state.specs.Stands.{plain};
@@ -17,6 +18,7 @@ ghost use Rattle.entry_outs.specs.Reached.{IsNext};
 ghost use Rattle.cluster_core.specs.Steps.{AllInTime, IsReadOff, understood, entry_place};
 
 use crate::meaning::Meaning;
+use crate::taken::{Taken, take_entry};
 use cluster_intake::fault::IntakeError;
 use cluster_intake::understand;
 use cluster_state::acceptance::connection_on;
@@ -165,6 +167,55 @@ impl Known {
         self.state.connections.len()
     }
 
+    /// Takes an entry that may stand next, and gives what it sends.
+    pub fn take_told(
+        &mut self,
+        alloc: Global,
+        entry: &Entry,
+        meaning: &Meaning,
+    ) -> Result<Taken, AllocError>
+        requires next { IsNext (plain self.old.state) entry.now }
+        requires kind { meaning.now.msg_type ≡ told_type meaning.now.event (type_on entry.now) }
+        requires time { InTime entry.now }
+        requires now { self.old.state.moment ≤ last_moment }
+        ensures outs { IfOk result (λ t. t.outs.items ≡ outs_as self.new.place (facts_in (plain self.old.state)) entry.now meaning.now.event) }
+        ensures kept { IfOk result (λ t. t.is_kept ≡ is_kept_as (facts_in (plain self.old.state)) entry.now meaning.now.event) }
+        ensures data { OnOk result (plain self.new.state ≡ plain_after (facts_in (plain self.old.state)) entry.now meaning.now.event (plain self.old.state)) }
+        ensures place { OnOk result (self.new.place ≡ entry_place entry.now self.old.place) }
+    {
+        let place = next_place(self.place, entry)?;
+        let taken = take_entry(alloc, place, &mut self.state, entry, meaning)?;
+        self.place = place;
+        Ok(taken)
+    }
+
+    /// Takes a decision, and gives what it sends.
+    pub fn decide(&mut self, alloc: Global, decision: &Entry) -> Result<Taken, AllocError>
+        requires next { IsNext (plain self.old.state) decision.now }
+        requires time { InTime decision.now }
+        requires now { self.old.state.moment ≤ last_moment }
+        ensures outs { IfOk result (λ t. t.outs.items ≡ outs_as self.new.place (facts_in (plain self.old.state)) decision.now None) }
+        ensures data { OnOk result (plain self.new.state ≡ plain_after (facts_in (plain self.old.state)) decision.now None (plain self.old.state)) }
+        ensures place { OnOk result (self.new.place ≡ entry_place decision.now self.old.place) }
+    {
+        let none = Meaning::none(alloc)?;
+        self.take_told(alloc, decision, &none)
+    }
+
+    /// Takes an entry with what it means.
+    fn take_as(&mut self, entry: &Entry, event: &Option<Event>) -> Result<(), AllocError>
+        requires next { IsNext (plain self.old.state) entry.now }
+        requires time { InTime entry.now }
+        requires now { self.old.state.moment ≤ last_moment }
+        ensures data { OnOk result (plain self.new.state ≡ plain_after (facts_in (plain self.old.state)) entry.now event.now (plain self.old.state)) }
+        ensures place { OnOk result (self.new.place ≡ entry_place entry.now self.old.place) }
+    {
+        let ruling = ruling(&self.state, entry, event)?;
+        self.state.take(entry, event, ruling)?;
+        self.place = next_place(self.place, entry)?;
+        Ok(())
+    }
+
     /// Takes an entry with what its message means.
     fn take(&mut self, entry: &Entry, scratch: &mut Scratch) -> Result<(), AllocError>
         requires next { IsNext (plain self.old.state) entry.now }
@@ -174,10 +225,7 @@ impl Known {
         ensures place { OnOk result (self.new.place ≡ entry_place entry.now self.old.place) }
     {
         let event = event_of_entry(self.state.allocator(), &self.state, entry, scratch)?;
-        let ruling = ruling(&self.state, entry, &event)?;
-        self.state.take(entry, &event, ruling)?;
-        self.place = next_place(self.place, entry)?;
-        Ok(())
+        self.take_as(entry, &event)
     }
 }
 

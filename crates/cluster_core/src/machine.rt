@@ -180,9 +180,9 @@ impl Core {
     {
         let known = self.take_known()?;
         let alloc = self.allocator();
-        let meaning = meaning_of_input(alloc, &known.state, input, &mut self.scratch)?;
+        let meaning = meaning_of_input(alloc, &known.state, input, &mut self.scratch);
         self.keep_known(known);
-        Ok(meaning)
+        meaning
     }
 
     /// Whether an input may come: an Up of a connection that isn't live, a Down of one that is, a message that means

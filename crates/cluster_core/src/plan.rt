@@ -15,10 +15,9 @@ ghost use Rattle.cluster_core.specs.Steps.{PlanView, IsReadOff, IsGrown, RestsUn
 ghost use Rattle.cluster_core.specs.More.{IsMore};
 ghost use Rattle.cluster_core.specs.Growth.{size_next, sizes_next};
 
-use crate::known::{Known, next_place};
+use crate::known::Known;
 use crate::meaning::Meaning;
 use crate::size::HistorySize;
-use crate::taken::{Taken, take_entry};
 use cluster_types::entry::{Entries, Entry, Input};
 use cluster_types::event::{Event, Query};
 use cluster_types::out::Out;
@@ -109,6 +108,38 @@ fn stops_after(was: bool, input: &Input, event: &Option<Event>) -> bool
     }
 }
 
+/// What an input sends, and what is kept of it.
+#[derive(Drop)]
+struct Sent {
+    outs: Vec<Out>,
+    kept: Vec<Entry>,
+}
+
+/// Takes an input with its meaning.
+fn take_input(
+    alloc: Global,
+    known: &mut Known,
+    input: &Input,
+    meaning: &Meaning,
+) -> Result<Sent, AllocError>
+    requires next { IsNext (plain known.old.state) (Entry.Input input.now) }
+    requires kind { meaning.now.msg_type ≡ told_type meaning.now.event (type_on (Entry.Input input.now)) }
+    requires time { InTime (Entry.Input input.now) }
+    requires now { known.old.state.moment ≤ last_moment }
+    ensures outs { IfOk result (λ s. s.outs.items ≡ outs_as known.new.place (facts_in (plain known.old.state)) (Entry.Input input.now) meaning.now.event) }
+    ensures kept { IfOk result (λ s. s.kept.items ≡ kept_one (is_kept_as (facts_in (plain known.old.state)) (Entry.Input input.now) meaning.now.event) (Entry.Input input.now)) }
+    ensures data { OnOk result (plain known.new.state ≡ plain_after (facts_in (plain known.old.state)) (Entry.Input input.now) meaning.now.event (plain known.old.state)) }
+    ensures place { OnOk result (known.new.place ≡ entry_place (Entry.Input input.now) known.old.place) }
+{
+    let entry = Entry::Input(input.clone()?);
+    let taken = known.take_told(alloc, &entry, meaning)?;
+    let kept = kept_one(alloc, taken.is_kept, entry)?;
+    Ok(Sent {
+        outs: taken.outs,
+        kept,
+    })
+}
+
 impl Plan {
     /// A plan that has an input alone so far, with its meaning. `was_stopping` is whether a shutdown was asked before.
     fn begin(
@@ -130,18 +161,15 @@ impl Plan {
         ensures kept { IfOk result (λ p. p.kept ≡ kept_one (is_kept_as (facts_in (plain known.state)) (Entry.Input input) meaning.now.event) (Entry.Input input)) }
         ensures stops { IfOk result (λ p. p.stops ≡ stops_after was_stopping input meaning.now.event) }
     {
-        let Known { mut state, place } = known;
-        let entry = Entry::Input(input.clone()?);
-        let place = next_place(place, &entry)?;
-        let Taken { outs, is_kept } = take_entry(alloc, place, &mut state, &entry, meaning)?;
+        let mut known = known;
         let stops = stops_after(was_stopping, &input, &meaning.event);
-        let kept = kept_one(alloc, is_kept, entry)?;
+        let Sent { outs, kept } = take_input(alloc, &mut known, &input, meaning)?;
         Ok(Plan {
             input,
             decisions: Vec::new(alloc),
             outs,
             kept,
-            known: Known { state, place },
+            known,
             stops,
         })
     }
@@ -178,10 +206,7 @@ impl Plan {
         requires no_open { entry_place decision self.old.place ≡ self.old.place + 1 }
         ensures { OnOk result (IsMore self.old self.new decision) }
     {
-        let place = next_place(self.known.place, &decision)?;
-        let none = Meaning::none(alloc)?;
-        let taken = take_entry(alloc, place, &mut self.known.state, &decision, &none)?;
-        self.known.place = place;
+        let taken = self.known.decide(alloc, &decision)?;
         self.note(taken.outs, decision)
     }
 
