@@ -1,3 +1,4 @@
+mod Made
 pub mod Naming
 pub mod Plays
 mod Rows

@@ -2,7 +2,7 @@
 use Rattle.std.specs.Prelude.{◌≡◌, pos, negsuc, [], ◌∷◌, codes, None, Ok, Err, refl}
 use Rattle.std.specs.Int.{int_wrap}
 use Rattle.arith_syntax.specs.declared.operators.UnaryOperator.TheVariants.{Minus}
-use Rattle.arith_syntax.specs.declared.operators.BinaryOperator.TheVariants.{LogicalAnd, ShiftLeft, ShiftRight, Subtract, Multiply, Divide, Remainder}
+use Rattle.arith_syntax.specs.declared.operators.BinaryOperator.TheVariants.{LogicalAnd, ShiftLeft, ShiftRight, Add, Subtract, Multiply, Divide, Remainder}
 use Rattle.arith_syntax.specs.Tree.{Tree, Constant, Variable, Parenthesized, Unary, Operation, Assignment}
 use Rattle.arith_eval.specs.declared.error.ArithError.TheVariants.{NameError, ZeroDivision, ShiftRange}
 use Rattle.arith_eval.specs.Value.{value_of_program}
@@ -44,3 +44,14 @@ not_needed = refl
 square : (value_of_program (Assignment (codes "x") None (Constant 3) ∷ Operation Multiply (Variable (codes "x")) (Variable (codes "x")) ∷ []) (λ x. None)).value ≡ Ok (pos 9)
 unfolding int_wrap
 square = refl
+
+-- the assignments in order of evaluation, up to a fault
+in_order : (value_of_program (Assignment (codes "x") None (Operation Add (Assignment (codes "y") None (Constant 3)) (Constant 1)) ∷ []) (λ x. None)).made ≡ (codes "y", pos 3) ∷ (codes "x", pos 4) ∷ []
+unfolding int_wrap
+in_order = refl
+
+up_to_fault : (value_of_program (Assignment (codes "x") None (Operation Divide (Assignment (codes "y") None (Constant 3)) (Constant 0)) ∷ []) (λ x. None)).made ≡ (codes "y", pos 3) ∷ []
+up_to_fault = refl
+
+none_not_needed : (value_of_program (Operation LogicalAnd (Constant 0) (Assignment (codes "y") None (Constant 3)) ∷ []) (λ x. None)).made ≡ []
+none_not_needed = refl

@@ -1,5 +1,5 @@
 -- Running instructions over a stack of values.
-use Rattle.std.specs.Prelude.{◌≡◌, ℕ, zero, suc, ℤ, pos, List, [], ◌∷◌, Some, None, Result, Ok, Err, not, ◌==◌, if◌then◌else◌}
+use Rattle.std.specs.Prelude.{◌≡◌, ◌⊎◌, ℕ, zero, suc, ℤ, pos, List, [], ◌∷◌, Some, None, Result, Ok, Err, not, ◌==◌, if◌then◌else◌}
 use Rattle.std.specs.Int.{w64, cast_signed}
 use Rattle.arith_syntax.specs.declared.operators.BinaryOperator.{BinaryOperator}
 use Rattle.arith_syntax.specs.declared.operators.BinaryOperator.TheVariants.{LogicalOr, LogicalAnd}
@@ -110,3 +110,7 @@ abbrev pub Moves : {X : Type 0} → Result X ArithError → Machine → Environm
 Moves (Ok _) new before names move = move ≡ Ok (new, names)
 Moves (Err OutOfMemory) new before names move = Unit {0}
 Moves (Err e) new before names move = (move ≡ Err e) × (names ≡ before)
+
+-- the names are as before a move, or as behind it
+abbrev pub IsBeforeOrBehind : Environment → Environment → Move → Type 0
+IsBeforeOrBehind before names move = (names ≡ before) ⊎ ((m : Machine) × (move ≡ Ok (m, names)))

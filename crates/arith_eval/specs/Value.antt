@@ -1,5 +1,5 @@
 -- The value of expressions, by POSIX XCU 2.6.4 and C: operands from left to right, and only those that are needed.
-use Rattle.std.specs.Prelude.{◌≡◌, ℕ, ℤ, pos, negsuc, ◌+ℤ◌, ◌-ℤ◌, ◌*ℤ◌, neg_ℤ, List, [], ◌∷◌, Option, Some, None, Result, Ok, Err, Bool, true, false, not, bit_and, bit_or, bit_xor, int_lt, int_le, int_rem, nat_lt, if◌then◌else◌}
+use Rattle.std.specs.Prelude.{◌≡◌, ℕ, ℤ, pos, negsuc, ◌+ℤ◌, ◌-ℤ◌, ◌*ℤ◌, neg_ℤ, List, [], ◌∷◌, ◌++◌, Option, Some, None, Result, Ok, Err, Bool, true, false, not, bit_and, bit_or, bit_xor, int_lt, int_le, int_rem, nat_lt, if◌then◌else◌}
 use Rattle.std.specs.Int.{w64, cast_signed, cast_unsigned, int_wrap, int_wrapping_div, int_shl, int_shr}
 use Rattle.std.specs.Ordering.{int_eq}
 use Rattle.arith_syntax.specs.declared.operators.UnaryOperator.{UnaryOperator}
@@ -9,7 +9,7 @@ use Rattle.arith_syntax.specs.declared.operators.BinaryOperator.TheVariants.{Log
 use Rattle.arith_syntax.specs.Tree.{Tree, Constant, Variable, Parenthesized, Unary, Operation, Conditional, Assignment}
 use Rattle.arith_eval.specs.declared.error.ArithError.{ArithError}
 use Rattle.arith_eval.specs.declared.error.ArithError.TheVariants.{NameError, ZeroDivision, ShiftRange, OutOfMemory}
-use Rattle.arith_eval.specs.Names.{Environment, assign}
+use Rattle.arith_eval.specs.Names.{Environment, Assigned, assign}
 
 abbrev pub Number : Type 0
 Number = Result ℤ ArithError
@@ -68,13 +68,22 @@ binary Multiply a b = Ok (int_wrap w64 (a *ℤ b))
 binary Divide a b = divided (int_wrapping_div w64 a b) b
 binary Remainder a b = divided (int_rem a b) b
 
--- a value or a fault, and the names as they stand then
+-- a value or a fault, the assignments that were made, in order, and the names as they stand then
 pub record Outcome : Type 0 where
   pub value : Number
+  pub made : Assigned
   pub names : Environment
 
 abbrev pub outcome : Number → Environment → Outcome
-outcome value names = record { value = value; names = names }
+outcome value names = record { value = value; made = []; names = names }
+
+-- a value that a name has from here on
+abbrev pub assignment : List ℕ → ℤ → Environment → Outcome
+assignment x v names = record { value = Ok v; made = (x, v) ∷ []; names = assign names x v }
+
+-- an outcome, with the assignments that were made before it
+abbrev pub made_before : Assigned → Outcome → Outcome
+made_before made o = record { value = o.value; made = made ++ o.made; names = o.names }
 
 -- goes on with a value; a fault ends it
 abbrev pub with_value : Number → Environment → (ℤ → Environment → Outcome) → Outcome
@@ -82,7 +91,7 @@ with_value (Ok v) names go = go v names
 with_value (Err f) names go = outcome (Err f) names
 
 abbrev pub and_then : Outcome → (ℤ → Environment → Outcome) → Outcome
-and_then o go = with_value o.value o.names go
+and_then o go = made_before o.made (with_value o.value o.names go)
 
 abbrev pub load : Environment → List ℕ → Option ℤ → Number
 load names x None = Err (NameError x)
@@ -99,10 +108,10 @@ operation op first second = and_then first (λ a names. and_then (second names) 
 
 -- `x = e`, and `x op= e`, which reads `x` first
 abbrev pub assigned : List ℕ → Option BinaryOperator → Environment → (Environment → Outcome) → Outcome
-assigned x None names value = and_then (value names) (λ v after. outcome (Ok v) (assign after x v))
+assigned x None names value = and_then (value names) (assignment x)
 assigned x (Some op) names value =
     with_value (value_of_name names x) names (λ old same.
-    and_then (value same) (λ v after. with_value (binary op old v) after (λ r last. outcome (Ok r) (assign last x r))))
+    and_then (value same) (λ v after. with_value (binary op old v) after (assignment x)))
 
 abbrev pub value_of : Tree → Environment → Outcome
 value_of (Constant n) names = outcome (Ok (pos n)) names

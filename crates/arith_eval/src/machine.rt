@@ -1,9 +1,9 @@
 //! A stack machine that runs a program's instructions.
 
-ghost use Rattle.std.specs.Prelude.{◌≡◌, ◌<◌, ◌≤◌, ◌+◌, ◌^◌, [], ◌∷◌, Ok, OnOk};
+ghost use Rattle.std.specs.Prelude.{◌≡◌, ◌<◌, ◌≤◌, ◌+◌, ◌^◌, [], ◌∷◌, Ok, OnOk, OnErr};
 ghost use Rattle.arith_eval.specs.Names.{value_in};
 ghost use Rattle.arith_eval.specs.Value.{is_zero, value_of_name, binary, unary};
-ghost use Rattle.arith_eval.specs.Machine.{Machine as State, Turns, Moves, at_rest, act, step, pass, top, below, infix_act, combine_act, pushed, stored};
+ghost use Rattle.arith_eval.specs.Machine.{Machine as State, Turns, Moves, IsBeforeOrBehind, at_rest, act, step, pass, top, below, infix_act, combine_act, pushed, stored};
 
 use crate::error::ArithError;
 use crate::namespace::Namespace;
@@ -58,6 +58,7 @@ impl Machine {
     ) -> Result<(), ArithError>
         requires { self.old.skip < 2 ^ 63 }
         ensures moves { Moves result self.new (value_in names.old) (value_in names.new) (step instruction.now self.old (value_in names.old)) }
+        ensures names { OnErr result (IsBeforeOrBehind (value_in names.old) (value_in names.new) (step instruction.now self.old (value_in names.old))) }
         ensures skip { self.new.skip ≤ self.old.skip + 1 }
     {
         if self.skip > 0 {
@@ -71,6 +72,7 @@ impl Machine {
     fn act(&mut self, instruction: &Instruction, names: &mut Namespace) -> Result<(), ArithError>
         requires { self.old.skip ≡ 0 }
         ensures moves { Moves result self.new (value_in names.old) (value_in names.new) (act instruction.now self.old.stack self.old.last (value_in names.old)) }
+        ensures names { OnErr result (IsBeforeOrBehind (value_in names.old) (value_in names.new) (act instruction.now self.old.stack self.old.last (value_in names.old))) }
         ensures skip { self.new.skip ≤ 1 }
     {
         match instruction {
@@ -208,6 +210,7 @@ impl Machine {
     fn store(&mut self, name: &Text, value: i64, names: &mut Namespace) -> Result<(), ArithError>
         requires { self.old.skip ≡ 0 }
         ensures moves { Moves result self.new (value_in names.old) (value_in names.new) (stored name.now (Ok value) self.old.stack self.old.last (value_in names.old)) }
+        ensures names { OnErr result (IsBeforeOrBehind (value_in names.old) (value_in names.new) (stored name.now (Ok value) self.old.stack self.old.last (value_in names.old))) }
         ensures skip { self.new.skip ≡ 0 }
     {
         names.set(name, value)?;
@@ -224,6 +227,7 @@ impl Machine {
     ) -> Result<(), ArithError>
         requires { self.old.skip ≡ 0 }
         ensures moves { Moves result self.new (value_in names.old) (value_in names.new) (stored name.now (binary operator (top (below self.old.stack)) (top self.old.stack)) (below (below self.old.stack)) self.old.last (value_in names.old)) }
+        ensures names { OnErr result (IsBeforeOrBehind (value_in names.old) (value_in names.new) (stored name.now (binary operator (top (below self.old.stack)) (top self.old.stack)) (below (below self.old.stack)) self.old.last (value_in names.old))) }
         ensures skip { self.new.skip ≡ 0 }
     {
         let value = self.pop_combined(operator)?;
