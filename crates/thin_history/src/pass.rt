@@ -13,6 +13,7 @@ use crate::meanings::event_in;
 use crate::notes::{Note, note_of};
 use cluster_state::state::State;
 use cluster_types::entry::Entry;
+use cluster_types::event::Event;
 use entry_outs::rulings::ruling;
 use json::Scratch;
 use std::alloc::{AllocError, Global};
@@ -26,6 +27,21 @@ pub struct Pass {
     pub notes: Vec<Note>,
 }
 
+/// Takes an entry with what its message means, and says what it does.
+fn take_as(state: &mut State, entry: &Entry, event: &Option<Event>) -> Result<Note, AllocError>
+    requires next { IsNext (plain state.old) entry.now }
+    requires event { event.now ≡ event_in (facts_in (plain state.old)) entry.now }
+    requires time { InTime entry.now }
+    requires now { state.old.moment ≤ last_moment }
+    ensures note { IfOk result (λ note. note ≡ note_of (facts_in (plain state.old)) entry.now) }
+    ensures after { OnOk result (plain state.new ≡ plain_after (facts_in (plain state.old)) entry.now (event_in (facts_in (plain state.old)) entry.now) (plain state.old)) }
+{
+    let known = state.tasks.len() as u64;
+    let ruling = ruling(state, entry, event)?;
+    let kept = state.take(entry, event, ruling)?;
+    note_of(state.allocator(), known, kept, event)
+}
+
 /// Takes an entry, and says what it does.
 fn take_entry(state: &mut State, entry: &Entry, scratch: &mut Scratch) -> Result<Note, AllocError>
     requires next { IsNext (plain state.old) entry.now }
@@ -34,13 +50,8 @@ fn take_entry(state: &mut State, entry: &Entry, scratch: &mut Scratch) -> Result
     ensures note { IfOk result (λ note. note ≡ note_of (facts_in (plain state.old)) entry.now) }
     ensures after { OnOk result (plain state.new ≡ plain_after (facts_in (plain state.old)) entry.now (event_in (facts_in (plain state.old)) entry.now) (plain state.old)) }
 {
-    let alloc = state.allocator();
-    let event = event_in(alloc, state, entry, scratch)?;
-    let known = state.tasks.len() as u64;
-    let ruling = ruling(state, entry, &event)?;
-    let kept = state.take(entry, &event, ruling)?;
-    let note = note_of(alloc, known, kept, &event)?;
-    Ok(note)
+    let event = event_in(state.allocator(), state, entry, scratch)?;
+    take_as(state, entry, &event)
 }
 
 /// Takes the entries of a legal history one after another.
