@@ -9,5 +9,6 @@ pub mod Serving
 pub mod Quiet
 pub mod Short
 pub mod Sorting
+pub mod Told
 pub mod Turns
 pub mod Unsent

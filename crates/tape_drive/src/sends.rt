@@ -6,7 +6,7 @@ ghost use Rattle.cluster_types.specs.Limits.{field_limit};
 ghost use Rattle.cluster_defs.specs.Words.{begins_with};
 ghost use Rattle.cluster_outgo.specs.Frames.{IsSendable, frames_of};
 ghost use Rattle.zmtp_frames.specs.Written.{own_ready};
-ghost use Rattle.tape.specs.Spelling.{Fits, FitsBlob, spelled, all_spelled};
+ghost use Rattle.tape.specs.Spelling.{Fits, KindFits, FitsBlob, spelled, all_spelled};
 ghost use Rattle.tape_drive.specs.Links.{link_on, is_zmtp};
 ghost use Rattle.tape_drive.specs.Sends.{where_any, sendings, frames_sent, out_sent, by_connection, sent_at};
 
@@ -35,28 +35,44 @@ fn are_told(frames: &Frames) -> bool
     told
 }
 
-/// Whether a record has a spelling. An Up or a Down is never sent.
-fn is_told(item: &TapeRecord) -> bool
-    ensures { IsTrue result → Fits item.now }
+/// Whether what stands behind the heading of a record has a spelling.
+#[tactic(auto, using(crate::proofs::Told::told_all))]
+fn is_kind_told(kind: &TapeKind) -> bool
+    ensures only { IsTrue result → KindFits kind.now }
+    ensures all { KindFits kind.now → IsTrue result }
 {
-    let _word = item.word;
-    match &item.kind {
+    match kind {
+        TapeKind::Up { conn, identity, .. } => {
+            let _conn = *conn;
+            identity.as_slice().len() < 256
+        }
         TapeKind::Piece { conn, octets } => {
             let _conn = *conn;
-            item.moment <= LAST_MOMENT && octets.as_slice().len() <= FIELD_OCTETS
+            octets.as_slice().len() <= FIELD_OCTETS
         }
+        TapeKind::Down { conn } => {
+            let _conn = *conn;
+            true
+        }
+        TapeKind::Beat | TapeKind::Time => true,
         TapeKind::Message { conn, frames } => {
             let _conn = *conn;
-            item.moment <= LAST_MOMENT
-                && frames.len() > 0
-                && frames.len() <= MOST_FRAMES
-                && are_told(frames)
+            frames.len() > 0 && frames.len() <= MOST_FRAMES && are_told(frames)
         }
-        _ => false,
     }
 }
 
-/// Appends a record of what is sent.
+/// Whether a record has a spelling.
+fn is_told(item: &TapeRecord) -> bool
+    ensures only { IsTrue result → Fits item.now }
+    ensures all { Fits item.now → IsTrue result }
+{
+    let _word = item.word;
+    item.moment <= LAST_MOMENT && is_kind_told(&item.kind)
+}
+
+/// Appends a record of what is sent. One that has no spelling counts as want of memory; frames of an out stay far below what
+/// a record can hold.
 fn put_sent(into: &mut Vec<u8>, moment: u64, kind: TapeKind) -> Result<(), AllocError>
     ensures { OnOk result (into.new.items ≡ into.old.items ++ spelled (sent_at moment kind)) }
 {
@@ -154,7 +170,8 @@ pub fn put_sendings(
 
 /// Whether the moment of an out has a date.
 fn is_sendable(out: &Out) -> bool
-    ensures { IsTrue result → IsSendable out.now }
+    ensures only { IsTrue result → IsSendable out.now }
+    ensures all { IsSendable out.now → IsTrue result }
 {
     match out {
         Out::Pass { .. } => true,
@@ -162,7 +179,7 @@ fn is_sendable(out: &Out) -> bool
     }
 }
 
-/// The frames of an out.
+/// The frames of an out. One whose moment has no date counts as want of memory; each moment of a history has one.
 pub fn out_frames(alloc: Global, key: &Key, out: &Out) -> Result<Frames, AllocError>
     ensures { IfOk result (λ f. f ≡ frames_of key.now out.now) }
 {
