@@ -79,7 +79,7 @@ fn begin(
         hwm: 1,
         misses: 10,
         entries,
-        bytes: 1000,
+        bytes: 1_000_000,
     };
     Drive::begin(alloc, disk, config, chooser)
 }
@@ -144,6 +144,32 @@ fn joined<R: Abort>(rt: &R, alloc: Global, first: &[u8], second: &[u8]) -> Vec<u
     let mut octets = Vec::from_slice(alloc, first).expect(rt, "memory is ample");
     add(rt, &mut octets, second);
     octets
+}
+
+/// Behind the heading: a message of these parts, signed under a key, on a connection.
+fn signed<R: Abort>(
+    rt: &R,
+    alloc: Global,
+    key: &Key,
+    conn: u8,
+    header: &[u8],
+    content: &[u8],
+) -> Vec<u8> {
+    let tag = key.tag(header, b"{}", b"{}", content);
+    let mut behind = Vec::from_slice(alloc, &[0, 0, 0, conn, 6]).expect(rt, "memory is ample");
+    for body in [
+        b"<IDS|MSG>".as_slice(),
+        tag.as_slice(),
+        header,
+        b"{}".as_slice(),
+        b"{}".as_slice(),
+        content,
+    ] {
+        let count = u32::try_from(body.len()).unwrap_or(0);
+        add(rt, &mut behind, &count.to_be_bytes());
+        add(rt, &mut behind, body);
+    }
+    behind
 }
 
 /// Serves a record, and appends what it sends; or gives its error.
@@ -333,8 +359,8 @@ fn beats<R: Abort>(rt: &R, alloc: Global, count: usize) -> Vec<u8> {
     tape
 }
 
-/// An engine joins, a client comes up, its task is handed out, and a round of heartbeats goes to the engine.
-fn whole_tape<R: Abort>(rt: &R, alloc: Global) -> Vec<u8> {
+/// An engine joins over a stream.
+fn engine_tape<R: Abort>(rt: &R, alloc: Global) -> Vec<u8> {
     let mut tape = record(rt, alloc, 1, 5, UP);
     add(rt, &mut tape, piece(rt, alloc, 6, GREETING).as_slice());
     let octets = joined(rt, alloc, DEALER, JOINING);
@@ -343,6 +369,25 @@ fn whole_tape<R: Abort>(rt: &R, alloc: Global) -> Vec<u8> {
         &mut tape,
         piece(rt, alloc, 7, octets.as_slice()).as_slice(),
     );
+    tape
+}
+
+/// An engine joins on a bare connection.
+fn bare_engine_tape<R: Abort>(rt: &R, alloc: Global, key: &Key) -> Vec<u8> {
+    let header = b"{\"msg_id\":\"j\",\"msg_type\":\"registration_request\"}";
+    let join = signed(rt, alloc, key, 1, header, b"{\"uuid\":\"e0\"}");
+    let mut tape = record(rt, alloc, 1, 5, BARE_UP);
+    add(
+        rt,
+        &mut tape,
+        record(rt, alloc, 6, 7, join.as_slice()).as_slice(),
+    );
+    tape
+}
+
+/// An engine joins, a client comes up, its task is handed out, and a round of heartbeats goes to the engine.
+fn whole_tape<R: Abort>(rt: &R, alloc: Global) -> Vec<u8> {
+    let mut tape = engine_tape(rt, alloc);
     add(rt, &mut tape, record(rt, alloc, 1, 8, CLIENT_UP).as_slice());
     add(
         rt,
@@ -566,5 +611,46 @@ fn each_call_may_fail(rt: HostRuntime) {
     for call in 11..32 {
         let outcome = outcome_of(&rt, alloc, &chooser, &key, whole.as_slice(), call);
         assert_eq!(rt; outcome, wanted(call), "at {call}");
+    }
+}
+
+/// What is sent where an engine has joined by this tape, and a client's task has this content.
+fn handed_out<R: Abort>(
+    rt: &R,
+    alloc: Global,
+    chooser: &Chooser,
+    key: &Key,
+    engine: &[u8],
+    content: &[u8],
+) -> Vec<u8> {
+    let header = b"{\"msg_id\":\"a\",\"msg_type\":\"execute_request\"}";
+    let task = signed(rt, alloc, key, 2, header, content);
+    let mut tape = Vec::from_slice(alloc, engine).expect(rt, "memory is ample");
+    add(rt, &mut tape, record(rt, alloc, 1, 8, CLIENT_UP).as_slice());
+    add(
+        rt,
+        &mut tape,
+        record(rt, alloc, 6, 8, task.as_slice()).as_slice(),
+    );
+    let mut drive = new_drive(rt, alloc, chooser, 1000);
+    let mut answer = Vec::new(alloc);
+    let error = serve(rt, &mut drive, &mut answer, key, chooser, tape.as_slice());
+    assert_eq!(rt; error, None);
+    answer
+}
+
+/// Octets of a stream, and a frame, of more than 65,535 octets are sent.
+#[test]
+fn a_long_task_is_handed_out(rt: HostRuntime) {
+    let alloc = rt.alloc();
+    let chooser = new_chooser(alloc).expect(&rt, "memory is ample");
+    let key = Key::new(alloc, b"k").expect(&rt, "a key");
+    let mut content = Vec::new(alloc);
+    content.resize(70_000, b'1').expect(&rt, "memory is ample");
+    let streams = engine_tape(&rt, alloc);
+    let bare = bare_engine_tape(&rt, alloc, &key);
+    for engine in [streams.as_slice(), bare.as_slice()] {
+        let sent = handed_out(&rt, alloc, &chooser, &key, engine, content.as_slice());
+        assert!(rt; sent.ends_with(content.as_slice()));
     }
 }

@@ -12,7 +12,8 @@ use cluster_types::message::WordList;
 use cluster_types::text::Text;
 use disk_model::fuse::FuseDisk;
 use disk_model::memory::MemDisk;
-use edges::memory::{MemSink, MemSource};
+use edges::memory::{MemSink, MemSource, SureSource};
+use edges::source::{Got, Source};
 use load_schemes::chooser::{Choose, Chooser};
 use load_schemes::place::place_of;
 use quick_commands::quick::quick;
@@ -91,24 +92,23 @@ fn new_chooser(alloc: Global) -> Result<Chooser, AllocError> {
     Ok(Chooser::new(choose))
 }
 
-/// Does what these words ask for, on this input, over a disk.
-fn run<R: Abort>(
+/// Does what these words ask for, on what a source gives, over a disk.
+fn run_from<R: Abort, S: Source>(
     rt: &R,
     alloc: Global,
     texts: &[&str],
-    tape: &[u8],
+    input: &mut S,
     failing: &Failing,
     disk: FuseDisk,
 ) -> Left {
     let words = words(rt, alloc, texts);
-    let mut input = MemSource::new(alloc, tape, failing.reads).expect(rt, "memory is ample");
     let mut output = MemSink::new(alloc, failing.writes).expect(rt, "memory is ample");
     let mut errors = MemSink::new(alloc, failing.lines).expect(rt, "memory is ample");
     let chooser = new_chooser(alloc).expect(rt, "memory is ample");
     let (status, disk) = quick(
         alloc,
         &words,
-        &mut input,
+        input,
         &mut output,
         &mut errors,
         disk,
@@ -122,7 +122,28 @@ fn run<R: Abort>(
     }
 }
 
+/// Does what these words ask for, on this input, over a disk.
+fn run<R: Abort>(
+    rt: &R,
+    alloc: Global,
+    texts: &[&str],
+    tape: &[u8],
+    failing: &Failing,
+    disk: FuseDisk,
+) -> Left {
+    let mut input = MemSource::new(alloc, tape, failing.reads).expect(rt, "memory is ample");
+    run_from(rt, alloc, texts, &mut input, failing, disk)
+}
+
 const REPLAY: &[&str] = &["replay", "--key", "k", "db"];
+
+/// The same with a key of a hundred octets, under which nothing here is signed.
+const OTHER_KEY: &[&str] = &[
+    "replay",
+    "--key",
+    "0123456789012345678901234567890123456789012345678901234567890123456789012345678901234567890123456789",
+    "db",
+];
 
 const ONE_ENTRY: &[&str] = &["replay", "--key", "k", "--entries", "1", "db"];
 
@@ -184,6 +205,7 @@ fn ends(rt: HostRuntime) {
             2,
             "ipcluster: the command line has no reading\n",
         ),
+        (OTHER_KEY, JOINING, &NONE, 0, ""),
         (REPLAY, UP, &SECOND_READ, 3, "ipcluster: read fault\n"),
         (REPLAY, JOINING, &FIRST_WRITE, 4, "ipcluster: write fault\n"),
         (REPLAY, TORN, &FIRST_LINE, 6, ""),
@@ -230,4 +252,50 @@ fn an_engine_joins_before_a_write_fails(rt: HostRuntime) {
         left.status == 4 && left.errors.written() == b"ipcluster: write fault\n".as_slice()
     );
     assert!(rt; left.output.written() == first.output.written());
+}
+
+/// A source that gives one octet at a time.
+#[derive(Drop)]
+struct Slow {
+    source: SureSource,
+}
+
+impl Source for Slow {
+    ghost use Rattle.std.specs.Prelude.{Some};
+
+    ghost left = { λ s. Some s.source };
+
+    ghost faults = { λ _. 0 };
+
+    fn read(&mut self, into: &mut [u8]) -> Got {
+        self.source.read(&mut into[..1])
+    }
+}
+
+/// A beat, of 17 octets.
+const BEAT: &[u8] = b"\x04\0\0\0\0\0\0\0\0\0\0\0\0\0\0\0\0";
+
+/// An engine joins, and a hundred beats come.
+fn beaten<R: Abort>(rt: &R, alloc: Global) -> Vec<u8> {
+    let mut tape = Vec::from_slice(alloc, JOINING).expect(rt, "memory is ample");
+    for _ in 0..100 {
+        tape.extend_from_slice(BEAT).expect(rt, "memory is ample");
+    }
+    tape
+}
+
+#[test]
+fn octets_come_one_by_one(rt: HostRuntime) {
+    let alloc = rt.alloc();
+    let tape = beaten(&rt, alloc);
+    let disk = disk_of(&rt, alloc, b"", 0);
+    let fast = run(&rt, alloc, REPLAY, tape.as_slice(), &NONE, disk);
+    let mut input = Slow {
+        source: SureSource::new(alloc, tape.as_slice()).expect(&rt, "memory is ample"),
+    };
+    let disk = disk_of(&rt, alloc, b"", 0);
+    let slow = run_from(&rt, alloc, REPLAY, &mut input, &NONE, disk);
+    assert!(rt; slow.status == 0 && slow.errors.written().is_empty());
+    assert!(rt; slow.output.written() == fast.output.written());
+    assert!(rt; slow.disk.content() == fast.disk.content());
 }

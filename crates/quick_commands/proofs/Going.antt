@@ -1,5 +1,5 @@
 -- A tape that is served while it is read.
-use Rattle.std.proofs.Common.{◌≡◌, ℕ, true, List, [], ◌∷◌, ◌++◌, Option, Some, None, refl, sym, ap, subst, ◌∙◌, append_assoc}
+use Rattle.std.proofs.Common.{◌≡◌, ◌<◌, ◌≤◌, ◌+◌, ℕ, true, List, [], ◌∷◌, ◌++◌, length, take, Option, Some, None, refl, sym, ap, subst, ◌∙◌, append_assoc, length-append, length-take-le, arith}
 use Rattle.std.specs.Prelude.{option_map, OnOk, Result, Ok, Err, false}
 use Rattle.quick_commands.specs.declared.replay.ServeError.{ServeError}
 use Rattle.quick_commands.specs.Serving.{is_disk_failure}
@@ -197,3 +197,30 @@ whole_at stop e P is p = subst (λ (d : Ending). IsWhole d P) (sym is) (by stop)
     by : (stop : Stop) → IsWhole (ending_at stop) P
     by (BadTape place) = p
     by (HistoryFull size) = p
+
+-- at least so many octets were taken of what was left
+pub record Spent (n : ℕ) (octets : List ℕ) (left : Option (List ℕ)) : Type 0 where
+  pub more : List ℕ
+  pub left_is : left ≡ Some more
+  pub few : n + length more ≤ length octets
+
+pub spent_none : (octets : List ℕ) (left : Option (List ℕ)) → left ≡ Some octets → Spent 0 octets left
+spent_none octets left e = record { more = octets; left_is = e; few = omega arith }
+
+pub spent_more : {n : ℕ} {octets : List ℕ} {left : Option (List ℕ)} → Spent n octets left → (piece : List ℕ) (left' : Option (List ℕ)) → 0 < length piece → Took piece left left' → Spent (n + 1) octets left'
+spent_more {n = n} {octets = octets} s piece left' some took =
+    let t = taken_off piece s.more left' (sym s.left_is ∙ took) in
+    record {
+      more = t.0;
+      left_is = t.1;
+      few =
+          let long : length s.more ≡ length piece + length t.0 = ap length t.2 ∙ length-append piece t.0 in
+          let few = s.few in
+          omega (arith, long, few, some);
+    }
+
+pub spent_all : {n : ℕ} {octets : List ℕ} {left : Option (List ℕ)} → Spent n octets left → n ≤ length octets
+spent_all s = let few = s.few in omega (arith, few)
+
+pub some_taken : (n : ℕ) (xs : List ℕ) → 0 < n → n ≤ length xs → 0 < length (take n xs)
+some_taken n xs some fits = subst (λ k. 0 < k) (sym (length-take-le n xs fits)) some

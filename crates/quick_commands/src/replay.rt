@@ -1,6 +1,7 @@
 //! Serving a tape over a database while it is read.
 
-ghost use Rattle.std.specs.Prelude.{◌≡◌, ◌≢◌, ◌≤◌, ◌<◌, ◌^◌, ℕ, List, [], ◌∷◌, All, None, OnOk, Err, true, false};
+ghost use Rattle.std.specs.Prelude.{◌≡◌, ◌≢◌, ◌≤◌, ◌<◌, ◌-◌, ◌^◌, ℕ, List, [], ◌∷◌, length, All, None, OnOk, Err, true, false};
+ghost use Rattle.std.specs.Option.{unwrap_or};
 ghost use Rattle.cluster_types.specs.Causes.{Rose};
 ghost use Rattle.disk_model.specs.Crashes.{LeavesOnly};
 ghost use Rattle.edges.specs.Streams.{Added, IsAtEnd};
@@ -148,7 +149,7 @@ fn ending_of(error: ServeError) -> Ending
     }
 }
 
-/// Reads a tape to its end or to what stops it, and serves it as far as that.
+/// Reads a tape to its end or to what stops it, and serves it as far as that. There is no ending only behind 2^64 - 1 reads.
 fn serve_tape<S: Source, K: Sink, D: Disk>(
     alloc: Global,
     drive: &mut Drive<D>,
@@ -156,54 +157,55 @@ fn serve_tape<S: Source, K: Sink, D: Disk>(
     chooser: &Chooser,
     input: &mut S,
     output: &mut K,
-) -> Ending
+) -> Option<Ending>
     requires goes { drive.old.stand.stop ≡ None }
     requires working { drive.old.failed ≡ false }
-    ensures end { result ≡ Ending.Done → IsAtEnd (S.left input.new) }
-    ensures ended { Told (S.left input.old) (λ octets. Ended result (drive_output key.now drive.old.stand octets) (drive_stop key.now drive.old.stand octets) (K.written output.old) (K.written output.new)) }
-    ensures history { Told (S.left input.old) (λ octets. IsWhole result (drive.new.stand.history ≡ (drive_stand key.now drive.old.stand octets).history)) }
+    ensures end { unwrap_or result Ending.OutOfMemory ≡ Ending.Done → IsAtEnd (S.left input.new) }
+    ensures ended { Told (S.left input.old) (λ octets. Ended (unwrap_or result Ending.OutOfMemory) (drive_output key.now drive.old.stand octets) (drive_stop key.now drive.old.stand octets) (K.written output.old) (K.written output.new)) }
+    ensures history { Told (S.left input.old) (λ octets. IsWhole (unwrap_or result Ending.OutOfMemory) (drive.new.stand.history ≡ (drive_stand key.now drive.old.stand octets).history)) }
     ensures served { Told (S.left input.old) (λ octets. IsServed key.now drive.old.stand (records blank octets) (K.written output.old) (K.written output.new) drive.new.stand.history) }
     ensures any_moment { D.tells → Told (S.left input.old) (λ octets. IsTouched D.moment D.image D.image_since drive.old.disk drive.new.disk drive.new.failed (HoldsSome (Comes key.now drive.old.stand (records blank octets)))) }
     ensures left { D.tells → drive.new.failed ≡ true → Told (S.left input.old) (λ octets. (c : List ℕ) → D.image drive.new.disk c → HoldsSome (IsServed key.now drive.old.stand (records blank octets) (K.written output.old) (K.written output.new)) c) }
-    ensures failed { drive.new.failed ≡ true → result ≡ Ending.DiskFault }
-    ensures read_fault { result ≡ Ending.ReadFault → Rose (S.faults input.old) (S.faults input.new) }
-    ensures write_fault { result ≡ Ending.WriteFault → Rose (K.faults output.old) (K.faults output.new) }
-    ensures disk_fault { result ≡ Ending.DiskFault → Rose (D.faults drive.old.disk) (D.faults drive.new.disk) }
+    ensures failed { drive.new.failed ≡ true → unwrap_or result Ending.OutOfMemory ≡ Ending.DiskFault }
+    ensures read_fault { unwrap_or result Ending.OutOfMemory ≡ Ending.ReadFault → Rose (S.faults input.old) (S.faults input.new) }
+    ensures write_fault { unwrap_or result Ending.OutOfMemory ≡ Ending.WriteFault → Rose (K.faults output.old) (K.faults output.new) }
+    ensures disk_fault { unwrap_or result Ending.OutOfMemory ≡ Ending.DiskFault → Rose (D.faults drive.old.disk) (D.faults drive.new.disk) }
     ensures later { D.faults drive.old.disk ≤ D.faults drive.new.disk }
-    ensures comes { IsOfTape result }
+    ensures comes { IsOfTape (unwrap_or result Ending.OutOfMemory) }
+    ensures last { result ≡ None → Told (S.left input.old) (λ octets. 2 ^ 64 - 1 ≤ length octets) }
 {
     let mut tape = TapeReader::new(alloc);
     let mut text = Vec::new(alloc);
     let mut piece = [0u8; PIECE];
     for _ in 0..u64::MAX {
         match input.read(&mut piece) {
-            Got::Failed => return Ending::ReadFault,
+            Got::Failed => return Some(Ending::ReadFault),
             Got::End => {
                 match tape.fault() {
-                    Some(place) => return Ending::BadTape(place),
-                    None => return Ending::Done,
+                    Some(place) => return Some(Ending::BadTape(place)),
+                    None => return Some(Ending::Done),
                 }
             }
             Got::Bytes(n) => {
                 let Ok(list) = tape.feed(&piece[..n]) else {
-                    return Ending::OutOfMemory;
+                    return Some(Ending::OutOfMemory);
                 };
                 let list = list.as_slice();
                 if let Err(error) = serve_records(drive, key, chooser, &mut text, list, output) {
-                    return ending_of(error);
+                    return Some(ending_of(error));
                 }
             }
         }
         if let Some(stop) = drive.stop() {
-            return ending_at(stop);
+            return Some(ending_at(stop));
         }
         if tape.ended() {
             if let Some(place) = tape.fault() {
-                return Ending::BadTape(place);
+                return Some(Ending::BadTape(place));
             }
         }
     }
-    Ending::OutOfMemory
+    None
 }
 
 /// Serves a tape with these options, over the database of a disk, which it hands back.
@@ -226,7 +228,8 @@ pub fn replay<S: Source, K: Sink, D: Disk>(
     };
     match Drive::begin(alloc, disk, config_of(options), chooser) {
         Ok(mut drive) => {
-            let ending = serve_tape(alloc, &mut drive, &key, chooser, input, output);
+            let ended = serve_tape(alloc, &mut drive, &key, chooser, input, output);
+            let ending = ended.unwrap_or(Ending::OutOfMemory);
             (ending, drive.close())
         }
         Err(Refused { disk, why }) => (ending_of_refusal(why), disk),

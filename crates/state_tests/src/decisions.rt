@@ -16,6 +16,7 @@ use cluster_types::sequence::Sequence;
 use cluster_types::shared_message::SharedMessage;
 use cluster_types::text::Text;
 use cluster_types::verdict::{Cause, Verdict};
+use dense_numbers::counts::count;
 use due_decisions::due::due;
 use load_schemes::chooser::{Choose, Chooser};
 use load_schemes::place::place_of;
@@ -203,6 +204,23 @@ fn with_load<R: Abort>(rt: &R, alloc: Global) -> State {
     state
 }
 
+/// Adds a task whose id is a number, and hands it to an engine.
+fn add_on<R: Abort>(rt: &R, alloc: Global, tasks: &mut Tasks, number: u32, engine: u32) {
+    let id = number.to_string(alloc).expect(rt, "memory is ample");
+    add(rt, alloc, tasks, id.as_str(), plain(rt, alloc));
+    hand(rt, alloc, tasks, id.as_str(), engine);
+}
+
+/// The two engines, where 1,001 tasks run on engine 0, 1,000 run on engine 1, and `b` waits.
+fn with_many<R: Abort>(rt: &R, alloc: Global) -> State {
+    let mut state = two_engines(rt, alloc);
+    for number in 0..2_001 {
+        add_on(rt, alloc, &mut state.tasks, number, number % 2);
+    }
+    add(rt, alloc, &mut state.tasks, "b", plain(rt, alloc));
+    state
+}
+
 /// A cluster without engines, where `a` waits at a moment.
 fn with_one<R: Abort>(rt: &R, alloc: Global, clock: u64, request: Request) -> State {
     let mut state = State::new(alloc);
@@ -315,6 +333,24 @@ fn worked_decisions(rt: HostRuntime) {
     decides(&rt, &chooser, state, "a", Outcome::Handed(0));
     let state = with_beats(&rt, alloc, 2);
     decides(&rt, &chooser, state, "a", Outcome::Lost(0));
+}
+
+/// The loads of the engines 0 and 1, counted anew.
+fn counted<R: Abort>(rt: &R, state: &State) -> Option<[u32; 2]> {
+    let counts = state.tasks.counted().expect(rt, "memory is ample");
+    match counts {
+        Some(counts) => Some([count(&counts, 0), count(&counts, 1)]),
+        None => None,
+    }
+}
+
+#[test]
+fn a_thousand_tasks_run_on_an_engine(rt: HostRuntime) {
+    let alloc = rt.alloc();
+    let chooser = new_chooser(&rt, alloc);
+    let state = with_many(&rt, alloc);
+    assert_eq!(rt; counted(&rt, &state), Some([1_001, 1_000]));
+    decides(&rt, &chooser, state, "b", Outcome::Handed(1));
 }
 
 /// A Submit whose targets are the engines 0 and 1, with a timeout of five seconds.

@@ -17,7 +17,7 @@ use cluster_state::state::State;
 use cluster_types::config::{Channel, Scheme};
 use cluster_types::entry::{Entry, Input};
 use cluster_types::event::{Dep, Event, Submission};
-use cluster_types::limits::LAST_MOMENT;
+use cluster_types::limits::{LAST_MOMENT, MOST_ENGINES};
 use cluster_types::message::{Engines, Ids};
 use cluster_types::octets::Octets;
 use cluster_types::sequence::Sequence;
@@ -255,6 +255,23 @@ fn connections_and_engines(rt: HostRuntime) {
     assert!(rt; !is_connected(&state, 2) && is_connected(&state, 1));
 }
 
+#[test]
+fn the_numbers_of_engines_are_used_up(rt: HostRuntime) {
+    let alloc = rt.alloc();
+    let mut state = joined(&rt, alloc);
+    state.next_engine = MOST_ENGINES - 1;
+    assert_eq!(rt; joining_on(&rt, alloc, &state, 3, "e1"), Joining::Accepted);
+    state.next_engine = MOST_ENGINES;
+    assert_eq!(rt; joining_on(&rt, alloc, &state, 3, "e1"), Joining::UsedUp);
+    assert_eq!(rt;
+        joining_on(&rt, alloc, &state, 1, "e0"),
+        Joining::Repeat { engine: 0 }
+    );
+    state.engines.end(0);
+    assert!(rt; !joins(&rt, alloc, &mut state, "e1") && state.next_engine == MOST_ENGINES);
+    assert!(rt; state.engines.len() == 0 && state.by_use.len() == 1);
+}
+
 /// Uses the engines 0, 1 and 0, and tells the order of their last use.
 fn used<R: Abort>(rt: &R, alloc: Global) -> Vec<u32> {
     let mut by_use = Vec::new(alloc);
@@ -368,6 +385,26 @@ fn attempts(rt: HostRuntime) {
     hands(&mut attempts, 4);
     loses(&rt, &mut attempts);
     assert!(rt; attempts.spent == 3);
+}
+
+#[test]
+fn counts_go_on(rt: HostRuntime) {
+    for number in [0, 100_000, 4_294_967_295, u64::MAX - 1] {
+        let more = one_more(number).expect(&rt, "a greater count");
+        assert!(rt; more > number);
+    }
+    assert!(rt; one_more(u64::MAX).is_err());
+}
+
+#[test]
+fn counters_go_on(rt: HostRuntime) {
+    let mut state = State::new(rt.alloc());
+    state.opens = 4_294_967_295;
+    opens(&rt, &mut state);
+    assert!(rt; state.opens == 4_294_967_296 && state.beats == 0);
+    state.beats = 4_294_967_295;
+    beats(&rt, &mut state);
+    assert!(rt; state.beats == 4_294_967_296);
 }
 
 /// Whether a purge that comes to this drops anything.

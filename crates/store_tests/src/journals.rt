@@ -95,12 +95,23 @@ fn each_read_fails(rt: HostRuntime) {
     }
 }
 
-/// The number of entries with which a journal of so many batches opens, each the loss of engine 4.
-fn open_batches<R: Abort>(rt: &R, alloc: Global, count: usize) -> Result<usize, OpenFault> {
+/// A batch of the loss of engine 4.
+const LOSS: &[u8] = &[0xa7, 0, 0, 0, 0, 5, 0, 0, 0, 1, 9, 0, 0, 0, 4];
+
+/// A batch without an entry.
+const EMPTY: &[u8] = &[0xa7, 0, 0, 0, 0, 0, 0, 0, 0, 0];
+
+/// The number of entries with which a journal of so many such batches opens.
+fn open_batches<R: Abort>(
+    rt: &R,
+    alloc: Global,
+    batch: &[u8],
+    count: usize,
+) -> Result<usize, OpenFault> {
     let mut octets = Vec::from_slice(alloc, &ONE_OPEN[..31]).expect(rt, "memory is ample");
     for _ in 0..count {
         octets
-            .extend_from_slice(&[0xa7, 0, 0, 0, 0, 5, 0, 0, 0, 1, 9, 0, 0, 0, 4])
+            .extend_from_slice(batch)
             .expect(rt, "memory is ample");
     }
     octets
@@ -115,7 +126,9 @@ fn open_batches<R: Abort>(rt: &R, alloc: Global, count: usize) -> Result<usize, 
 
 #[test]
 fn many_batches_open(rt: HostRuntime) {
-    assert_eq!(rt; open_batches(&rt, rt.alloc(), 1_025), Ok(1_025));
+    for (batch, entries) in [(LOSS, 1_025), (EMPTY, 0)] {
+        assert_eq!(rt; open_batches(&rt, rt.alloc(), batch, 1_025), Ok(entries));
+    }
 }
 
 /// Whether a journal of which a call failed takes no batch.
@@ -236,13 +249,15 @@ fn a_journal_is_cut(rt: HostRuntime) {
     assert_eq!(rt; places.as_slice(), [41, 69, 93, 108, 116].as_slice());
 }
 
+/// The record of a message, up to its content.
+const MESSAGE: [u8; 34] = [
+    4, 0, 0, 0, 2, 0, 0, 0, 0, 0, 0, 0, 5, 0, 0, 0, 0, 0, 0, 0, 6, 0, 0, 0, 0, 0, 0, 0, 0, 0, 0, 0,
+    0, 0,
+];
+
 /// A journal of a message with that many octets of content, and of the loss of engine 4.
 fn long_journal<R: Abort>(rt: &R, alloc: Global, content: u16) -> Vec<u8> {
     let mut octets = Vec::from_slice(alloc, &ONE_OPEN[..31]).expect(rt, "memory is ample");
-    let message = [
-        4, 0, 0, 0, 2, 0, 0, 0, 0, 0, 0, 0, 5, 0, 0, 0, 0, 0, 0, 0, 6, 0, 0, 0, 0, 0, 0, 0, 0, 0,
-        0, 0, 0, 0,
-    ];
     let size = u32::from(content) * 4;
     octets
         .extend_from_slice(&[0xa7, 0])
@@ -254,7 +269,7 @@ fn long_journal<R: Abort>(rt: &R, alloc: Global, content: u16) -> Vec<u8> {
         .extend_from_slice(&[0, 0, 0, 2])
         .expect(rt, "memory is ample");
     octets
-        .extend_from_slice(&message)
+        .extend_from_slice(&MESSAGE)
         .expect(rt, "memory is ample");
     octets
         .extend_from_slice(&size.to_be_bytes())
@@ -279,4 +294,33 @@ fn records_go_on_over_pieces(rt: HostRuntime) {
             Err(OpenFault::Damaged(octets.len().saturating_sub(6) as u64))
         );
     }
+}
+
+/// Adds octets to a journal.
+fn add<R: Abort>(rt: &R, octets: &mut Vec<u8>, more: &[u8]) {
+    octets.extend_from_slice(more).expect(rt, "memory is ample");
+}
+
+/// A journal of a message with so many buffers of 70,000 octets, each of which goes on over a piece.
+fn journal_of_buffers<R: Abort>(rt: &R, alloc: Global, count: u8) -> Vec<u8> {
+    let mut octets = Vec::from_slice(alloc, &ONE_OPEN[..33]).expect(rt, "memory is ample");
+    let size = 39 + u32::from(count) * 70_004;
+    add(rt, &mut octets, &size.to_be_bytes());
+    add(rt, &mut octets, &[0, 0, 0, 1]);
+    add(rt, &mut octets, &MESSAGE);
+    add(rt, &mut octets, &[0, 0, 0, 0, count]);
+    for _ in 0..count {
+        add(rt, &mut octets, &70_000_u32.to_be_bytes());
+        let end = octets.len().saturating_add(70_000);
+        octets.resize(end, 0x20).expect(rt, "memory is ample");
+    }
+    add(rt, &mut octets, &[0]);
+    octets
+}
+
+#[test]
+fn a_record_goes_on_over_many_pieces(rt: HostRuntime) {
+    let alloc = rt.alloc();
+    let octets = journal_of_buffers(&rt, alloc, 58);
+    assert_eq!(rt; read(&rt, alloc, octets.as_slice()), Ok(1));
 }

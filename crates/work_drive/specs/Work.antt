@@ -1,6 +1,6 @@
 -- How generated work goes on: the tape comes record by record, and before each next record the engines answer all that they
 -- are sent, first in, first out.
-use Rattle.std.specs.Prelude.{◌≡◌, ℕ, ◌-◌, ℤ, pos, List, [], ◌∷◌, ◌++◌, map, Bool, Option, Some, None, slice_get, slice_set}
+use Rattle.std.specs.Prelude.{◌≡◌, ℕ, ◌-◌, ℤ, pos, List, [], ◌∷◌, ◌++◌, length, map, Bool, Option, Some, None, slice_get, slice_set}
 use Rattle.cluster_types.specs.declared.message.Message.{Message}
 use Rattle.cluster_types.specs.declared.entry.Input.{Input as InputType}
 use Rattle.cluster_types.specs.declared.entry.Input.TheVariants.{In}
@@ -108,6 +108,12 @@ Leads start (before ∷ path) w = Leads start path before × Moves before w
 
 pub record IsReached (start w : Work) : Type 0 where
   pub path : List Work
+  pub leads : Leads start path w
+
+-- the same by so many moves
+pub record IsReachedBy (moves : ℕ) (start w : Work) : Type 0 where
+  pub path : List Work
+  pub count : length path ≡ moves
   pub leads : Leads start path w
 
 -- nothing is left to do

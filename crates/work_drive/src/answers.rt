@@ -1,6 +1,6 @@
 //! What the engines answer.
 
-ghost use Rattle.std.specs.Prelude.{◌≡◌, ◌-◌, [], map, slice_get, IfOk, IsTrue, Some};
+ghost use Rattle.std.specs.Prelude.{◌≡◌, ◌<◌, ◌^◌, ◌-◌, [], All, length, map, slice_get, IfOk, IsTrue, Some};
 ghost use Rattle.std.specs.Option.{option_copied};
 ghost use Rattle.engine_core.specs.State.{State, new_engine};
 ghost use Rattle.generated_work.specs.Generated.{work_key, engine_uuid};
@@ -8,7 +8,8 @@ ghost use Rattle.record_codec.specs.Spelling.{IsShort};
 ghost use Rattle.tape_drive.specs.Bare.{read_of};
 ghost use Rattle.work_drive.specs.Work.{first_engines, AnswersIf, AnswersAt, IsAnswered};
 
-use cluster_types::limits::FIELD_OCTETS;
+use cluster_types::limits::{FIELD_OCTETS, MOST_BUFFERS};
+use cluster_types::octets::Octets;
 use cluster_types::out::Out;
 use cluster_types::shared_message::SharedMessage;
 use engine_core::engine::Engine;
@@ -79,14 +80,26 @@ pub fn answer(
     answer_at(engines, conn_of(out).saturating_sub(1) as usize, &message)
 }
 
-/// Whether the lengths of the parts of a message without buffers can be written.
+/// Whether the length of each buffer can be written.
+fn are_short(buffers: &[Octets]) -> bool
+    ensures only { IsTrue result → All (λ buffer. length buffer < 2 ^ 32) buffers.now }
+    ensures all { All (λ buffer. length buffer < 2 ^ 32) buffers.now → IsTrue result }
+{
+    buffers
+        .iter()
+        .all(|buffer| buffer.as_slice().len() <= FIELD_OCTETS)
+}
+
+/// Whether the lengths of the parts of a message can be written.
 pub fn is_short(message: &SharedMessage) -> bool
-    ensures { IsTrue result → IsShort message.now }
+    ensures only { IsTrue result → IsShort message.now }
+    ensures all { IsShort message.now → IsTrue result }
 {
     message.target().len() < 256
         && message.header().len() <= FIELD_OCTETS
         && message.parent().len() <= FIELD_OCTETS
         && message.metadata().len() <= FIELD_OCTETS
         && message.content().len() <= FIELD_OCTETS
-        && message.buffers().len() == 0
+        && message.buffers().len() <= MOST_BUFFERS
+        && are_short(message.buffers().as_slice())
 }

@@ -85,7 +85,8 @@ fn serve<D: Disk>(
     }
 }
 
-/// The input of an answer, where there is one. An answer that no record could hold is want of memory.
+/// The input of an answer, where there is one. An answer that no record can hold counts as want of memory; those of the
+/// engines of generated work stay far below that.
 fn answer_in(
     alloc: Global,
     conn: u32,

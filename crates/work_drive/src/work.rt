@@ -1,13 +1,13 @@
 //! Generated work over a disk.
 
-ghost use Rattle.std.specs.Prelude.{◌≡◌, ◌≢◌, ◌<◌, ◌^◌, ◌≤◌, ◌⊎◌, [], ℕ, List, All, IfOk, OnOk, Err, false};
+ghost use Rattle.std.specs.Prelude.{◌≡◌, ◌≢◌, ◌<◌, ◌-◌, ◌^◌, ◌≤◌, ◌⊎◌, [], ℕ, List, All, IfOk, OnOk, Ok, Err, true, false};
 ghost use Rattle.cluster_types.specs.Causes.{Rose};
 ghost use Rattle.cluster_core.specs.declared.size.HistorySize.{HistorySize as Size};
 ghost use Rattle.cluster_store.specs.Stores.{written};
 ghost use Rattle.generated_work.specs.Generated.{work_key, most_tasks, generated};
 ghost use Rattle.tape.specs.Spelling.{Fits};
 ghost use Rattle.task_journal.specs.Journal.{StandsFor};
-ghost use Rattle.work_drive.specs.Work.{Work, first_engines, IsReached, IsDone, IsHeld};
+ghost use Rattle.work_drive.specs.Work.{Work, first_engines, IsReached, IsReachedBy, IsDone, IsHeld};
 ghost use Rattle.work_drive.specs.Summaries.{summary_of};
 ghost use Rattle.work_drive.specs.Ends.{work_config, error_of, HasBegun, IsWorked, IsStopped};
 
@@ -79,8 +79,28 @@ fn error_of(why: OpenFault) -> WorkError
     }
 }
 
-/// Makes all moves of a run.
-#[tactic(auto, using(crate::proofs::Paths::at_start, crate::proofs::Paths::one_more))]
+/// Makes all moves of a run, and says whether none is left. Some are only behind 2^64 - 1 of them.
+#[tactic(auto, using(crate::proofs::Paths::no_moves, crate::proofs::Paths::one_more, crate::proofs::Paths::is_reached))]
+fn move_on<D: Disk>(alloc: Global, run: &mut Run<D>, chooser: &Chooser) -> Result<bool, WorkError>
+    requires working { run.old.failed ≡ false }
+    ensures reached { OnOk result (IsReached run.old.work run.new.work) }
+    ensures done { result ≡ Ok true → IsDone run.new.work }
+    ensures last { result ≡ Ok false → IsReachedBy (2 ^ 64 - 1) run.old.work run.new.work }
+    ensures full { (size : Size) → result ≡ Err (WorkError.HistoryFull size) → IsHeld run.old.work run.old.limits size }
+    ensures failed { OnOk result (run.new.failed ≡ false) }
+    ensures only { (place : ℕ) → result ≡ Err (WorkError.NotEmpty place) → ⊥ }
+    ensures later { D.faults run.old.disk ≤ D.faults run.new.disk }
+    ensures cause { result ≡ Err WorkError.DiskFault → Rose (D.faults run.old.disk) (D.faults run.new.disk) }
+{
+    for _ in 0..u64::MAX {
+        if !run.go_on(alloc, chooser)? {
+            return Ok(true);
+        }
+    }
+    Ok(false)
+}
+
+/// Makes all moves of a run. More than 2^64 - 1 count as want of memory.
 fn run_out<D: Disk>(alloc: Global, run: &mut Run<D>, chooser: &Chooser) -> Result<(), WorkError>
     requires working { run.old.failed ≡ false }
     ensures reached { OnOk result (IsReached run.old.work run.new.work) }
@@ -91,12 +111,11 @@ fn run_out<D: Disk>(alloc: Global, run: &mut Run<D>, chooser: &Chooser) -> Resul
     ensures later { D.faults run.old.disk ≤ D.faults run.new.disk }
     ensures cause { result ≡ Err WorkError.DiskFault → Rose (D.faults run.old.disk) (D.faults run.new.disk) }
 {
-    for _ in 0..u64::MAX {
-        if !run.go_on(alloc, chooser)? {
-            return Ok(());
-        }
+    if move_on(alloc, run, chooser)? {
+        Ok(())
+    } else {
+        Err(WorkError::OutOfMemory)
     }
-    Err(WorkError::OutOfMemory)
 }
 
 /// Makes all moves of a run and sums them up, and hands back the disk.

@@ -1,4 +1,4 @@
-use Rattle.std.proofs.Common.{◌≡◌, ◌∙◌, List, Bool, false, rules, take, arith, sym, ap, subst}
+use Rattle.std.proofs.Common.{◌≡◌, ◌≤◌, ◌∙◌, List, Bool, false, rules, length, take, arith, sym, ap, subst}
 use Rattle.edges.specs.Streams.{Added}
 use Rattle.tape.specs.declared.record.TapeRecord.{TapeRecord}
 use Rattle.tape.specs.Spelling.{all_spelled}
@@ -7,7 +7,7 @@ use Rattle.tape_drive.specs.Drive.{Stand, stand_at, outputs, drive_stand}
 use Rattle.tape_drive.specs.Served.{Comes, HoldsSome, IsTouched}
 use Rattle.tape_drive.proofs.Way.{touched_on}
 use Rattle.quick_commands.specs.Replays.{IsServed}
-use Rattle.quick_commands.proofs.Going.{on_ok, never_failed, whole_at, going_on, going_served, going_piece, going_comes, going_ends, going_bad, going_stopped, ends_done, ends_bad, ends_stopped}
+use Rattle.quick_commands.proofs.Going.{on_ok, never_failed, whole_at, going_on, going_served, going_piece, going_comes, going_ends, going_bad, going_stopped, ends_done, ends_bad, ends_stopped, spent_more, spent_all, some_taken}
 use Rattle.quick_commands.proofs.Reached.{holds_more}
 use Rattle.quick_commands.proofs.replay.serve_tape.Goals as goal
 
@@ -168,6 +168,7 @@ loop-preserved g c =
           (c.loop.invariant.touched tells octets told) (c.serve_records.ensures.any_moment tells)
           (λ x holds. holds_more x (λ h comes. going_comes (c.loop.invariant.going octets told) (take c.in-Bytes.n c.read.new.into) (g.S.Source.left c.read.new.self) h c.in-Bytes.ensures.reads.2
           (subst (λ (rs : List TapeRecord). Comes c.args.key.now c.loop.drive.stand rs h) list comes)) holds));
+      many = λ octets told. spent_more (c.loop.invariant.many octets told) (take c.in-Bytes.n c.read.new.into) (g.S.Source.left c.read.new.self) (some_taken c.in-Bytes.n c.read.new.into c.in-Bytes.ensures.reads.0 c.in-Bytes.ensures.reads.1) c.in-Bytes.ensures.reads.2;
       goes = search (rules, c.stop.ensures);
       working = fine;
       reads = omega (arith, c.loop.invariant.reads, c.in-Bytes.ensures.cause);
@@ -178,3 +179,9 @@ loop-preserved g c =
 pub returns-clause-served : goal.returns-clause-served
 returns-clause-served g c =
     λ octets told. going_served (c.loop.invariant.going octets told)
+
+pub returns-clause-last : goal.returns-clause-last
+returns-clause-last g c =
+    λ none octets told.
+    let many : c.loop.counter ≤ length octets = spent_all (c.loop.invariant.many octets told) in
+    omega (arith, many, c.loop-test.false)

@@ -1,10 +1,10 @@
 use Rattle.std.proofs.Common.{◌≡◌, ◌≤◌, false}
-use Rattle.work_drive.specs.Work.{IsReached}
-use Rattle.work_drive.proofs.work.run_out.Given as goal
+use Rattle.work_drive.specs.Work.{IsReachedBy}
+use Rattle.work_drive.proofs.work.move_on.Given as goal
 
 abbrev pub invariant-loop : goal.invariant-loop
 invariant-loop g l = record {
-  reached : IsReached l.fn.run.work l.run.work;
+  reached : IsReachedBy l.counter l.fn.run.work l.run.work;
   limits : l.run.limits ≡ l.fn.run.limits;
   working : l.run.failed ≡ false;
   later : g.D.Disk.faults l.fn.run.disk ≤ g.D.Disk.faults l.run.disk;
