@@ -119,7 +119,7 @@ fn event_of_entry(
     match entry {
         Entry::Input(input) => {
             let meaning = meaning_of_input(alloc, state, input, scratch)?;
-            Ok(meaning.event)
+            Ok(meaning.into_event())
         }
         _ => Ok(None),
     }

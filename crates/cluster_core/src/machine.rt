@@ -41,7 +41,6 @@ pub struct Made {
 
 /// A controller without connections, disk and clock. Contracts see its history, the newest entry first, for how many
 /// entries it has room, and how much may come after an Open. The history is legal, and no decision is due after it.
-#[derive(Drop)]
 pub struct Core {
     entries: Vec<Entry>,
     /// What is known after the entries, where no step was given up for want of memory.
@@ -56,6 +55,24 @@ pub struct Core {
     limits: HistorySize,
     /// Room for the texts of messages while they are read.
     scratch: Scratch,
+}
+
+// Written out, so that what lets one go is proved over one call, and not case by case.
+impl Drop for Core {
+    fn drop(self) {
+        let Core {
+            entries,
+            known,
+            live: _,
+            stops: _,
+            size: _,
+            limits: _,
+            scratch,
+        } = self;
+        drop(entries);
+        drop(known);
+        drop(scratch);
+    }
 }
 
 impl Model for Core {

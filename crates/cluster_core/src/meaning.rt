@@ -7,12 +7,21 @@ use cluster_types::text::Text;
 use std::alloc::{AllocError, Global};
 
 /// What the message of an input means, and its type.
-#[derive(Debug, Drop)]
+#[derive(Debug)]
 pub struct Meaning {
     /// None for an input without a message, and for a message that is junk or on no connection.
     pub event: Option<Event>,
     /// The `msg_type` of the message, where it means something; empty elsewhere.
     pub msg_type: Text,
+}
+
+// Written out, so that what lets one go is proved over one call, and not case by case.
+impl Drop for Meaning {
+    fn drop(self) {
+        let Meaning { event, msg_type } = self;
+        drop(event);
+        drop(msg_type);
+    }
 }
 
 impl Meaning {
@@ -25,5 +34,14 @@ impl Meaning {
             event: None,
             msg_type: Text::new(alloc, "")?,
         })
+    }
+
+    /// What it means alone.
+    pub(crate) fn into_event(self) -> Option<Event>
+        ensures { result ≡ self.event }
+    {
+        let Meaning { event, msg_type } = self;
+        drop(msg_type);
+        event
     }
 }

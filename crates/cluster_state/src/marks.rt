@@ -10,7 +10,6 @@ use std::alloc::{AllocError, Global};
 use std::collections::BTreeSet;
 
 /// Places of tasks, each set with all that it is for, and maybe more.
-#[derive(Drop)]
 pub struct Marks {
     /// Of those whose attempts are over.
     pub finals: BTreeSet<usize>,
@@ -30,6 +29,32 @@ pub struct Marks {
     pub deadlines: Lanes,
     /// Which engines ended, as far as that was noted: others are looked at first where one is to be watched.
     pub ended: Vec<bool>,
+}
+
+// Written out, so that what lets one go is proved over one call, and not case by case.
+impl Drop for Marks {
+    fn drop(self) {
+        let Marks {
+            finals,
+            directs,
+            running,
+            free,
+            lanes,
+            doubtful,
+            watches,
+            deadlines,
+            ended,
+        } = self;
+        drop(finals);
+        drop(directs);
+        drop(running);
+        drop(free);
+        drop(lanes);
+        drop(doubtful);
+        drop(watches);
+        drop(deadlines);
+        drop(ended);
+    }
 }
 
 /// No places. It takes no memory.

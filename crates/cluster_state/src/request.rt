@@ -7,7 +7,7 @@ use cluster_types::shared_message::SharedMessage;
 use cluster_types::text::Text;
 
 /// What an accepted request says, and its message, which is passed on.
-#[derive(Clone, Debug, Drop)]
+#[derive(Clone, Debug)]
 pub struct Request {
     pub owner: Option<Owner>,
     /// Of a direct request its engine, of any other none.
@@ -30,4 +30,35 @@ pub struct Request {
     pub retries: u32,
     /// Whether a dependency lists its own id, or one that wasn't known before.
     pub invalid: bool,
+}
+
+// Written out, so that what lets one go is proved over one call, and not case by case.
+impl Drop for Request {
+    fn drop(self) {
+        let Request {
+            owner,
+            direct_to: _,
+            message,
+            msg_type,
+            session,
+            username,
+            after,
+            follow,
+            listed,
+            targets,
+            accepted_at: _,
+            timeout: _,
+            retries: _,
+            invalid: _,
+        } = self;
+        drop(owner);
+        drop(message);
+        drop(msg_type);
+        drop(session);
+        drop(username);
+        drop(after);
+        drop(follow);
+        drop(listed);
+        drop(targets);
+    }
 }

@@ -12,7 +12,6 @@ use resubmission::purge::PurgePlan;
 
 /// What an entry comes to where a cluster stands so. It is worked out once: the answer to the entry and what the entry changes
 /// are both made of it.
-#[derive(Drop)]
 pub enum Ruling {
     /// A request for a task.
     Demand(Acceptance),
@@ -26,6 +25,21 @@ pub enum Ruling {
     Settle(Option<Settling>),
     /// Of all others nothing is worked out.
     Other,
+}
+
+// Written out, so that what lets one go is proved over one call, and not case by case.
+impl Drop for Ruling {
+    fn drop(self) {
+        match self {
+            Ruling::Demand(_) => {},
+            Ruling::Join(_) => {},
+            Ruling::Leave(_) => {},
+            Ruling::Purge(it) => drop(it),
+            Ruling::Resubmit(it) => drop(it),
+            Ruling::Settle(it) => drop(it),
+            Ruling::Other => {}
+        }
+    }
 }
 
 impl Ruling {

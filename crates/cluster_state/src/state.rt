@@ -25,7 +25,6 @@ use std::alloc::{AllocError, Global};
 
 /// What is known of a cluster after a history. A call that answers want of memory may have made a part of its change, so who
 /// calls lets the state go then, and reads it off the entries anew.
-#[derive(Drop)]
 pub struct State {
     /// Whether the database was opened.
     pub begun: bool,
@@ -53,6 +52,32 @@ pub struct State {
     /// The engines in ascending order of last use.
     pub by_use: Vec<u32>,
     pub tasks: Tasks,
+}
+
+// Written out, so that what lets one go is proved over one call, and not case by case.
+impl Drop for State {
+    fn drop(self) {
+        let State {
+            begun: _,
+            opens: _,
+            scheme: _,
+            hwm: _,
+            misses: _,
+            clock: _,
+            moment: _,
+            word: _,
+            beats: _,
+            connections,
+            engines,
+            next_engine: _,
+            by_use,
+            tasks,
+        } = self;
+        drop(connections);
+        drop(engines);
+        drop(by_use);
+        drop(tasks);
+    }
 }
 
 /// The word after a word (Knuth's MMIX generator, modulo 2 ^ 64).

@@ -24,13 +24,28 @@ pub struct Classes {
 }
 
 /// How many tasks are counted at each number, by class. There are no counts of a class where a change failed half-way.
-#[derive(Drop)]
 pub struct Tallies {
     pub loads: Option<Vec<u32>>,
     pub directs: Option<Vec<u32>>,
     pub finished: Option<Vec<u32>>,
     /// All are counted at number 0.
     pub unassigned: Option<Vec<u32>>,
+}
+
+// Written out, so that what lets one go is proved over one call, and not case by case.
+impl Drop for Tallies {
+    fn drop(self) {
+        let Tallies {
+            loads,
+            directs,
+            finished,
+            unassigned,
+        } = self;
+        drop(loads);
+        drop(directs);
+        drop(finished);
+        drop(unassigned);
+    }
 }
 
 /// The engine that a Direct runs on.
@@ -126,24 +141,24 @@ impl Tallies {
             unassigned: self.unassigned.take(),
         }
     }
-}
 
-/// The counts, once a task that was counted at some numbers is counted at others.
-fn followed(kept: Tallies, before: Classes, after: Classes) -> Result<Tallies, AllocError>
-    ensures { IfOk result (λ new. Followed kept before after new) }
-{
-    let Tallies {
-        loads,
-        directs,
-        finished,
-        unassigned,
-    } = kept;
-    Ok(Tallies {
-        loads: moved(loads, before.loads, after.loads)?,
-        directs: moved(directs, before.directs, after.directs)?,
-        finished: moved(finished, before.finished, after.finished)?,
-        unassigned: moved(unassigned, before.unassigned, after.unassigned)?,
-    })
+    /// The counts, once a task that was counted at some numbers is counted at others.
+    fn followed(self, before: Classes, after: Classes) -> Result<Tallies, AllocError>
+        ensures { IfOk result (λ new. Followed self before after new) }
+    {
+        let Tallies {
+            loads,
+            directs,
+            finished,
+            unassigned,
+        } = self;
+        Ok(Tallies {
+            loads: moved(loads, before.loads, after.loads)?,
+            directs: moved(directs, before.directs, after.directs)?,
+            finished: moved(finished, before.finished, after.finished)?,
+            unassigned: moved(unassigned, before.unassigned, after.unassigned)?,
+        })
+    }
 }
 
 /// The counts without the tasks at some places.
@@ -152,7 +167,7 @@ fn without(kept: Tallies, table: &Table, places: &[usize]) -> Result<Tallies, Al
 {
     let mut tallies = kept;
     for place in places {
-        tallies = followed(tallies, classes_at(table, *place), no_classes())?;
+        tallies = tallies.followed(classes_at(table, *place), no_classes())?;
     }
     Ok(tallies)
 }
@@ -163,7 +178,7 @@ fn along(rest: Tallies, table: &Table, places: &[usize]) -> Result<Tallies, Allo
 {
     let mut tallies = rest;
     for place in places {
-        tallies = followed(tallies, no_classes(), classes_at(table, *place))?;
+        tallies = tallies.followed(no_classes(), classes_at(table, *place))?;
     }
     Ok(tallies)
 }
@@ -178,7 +193,7 @@ pub fn follow(
     ensures ok { OnOk result (Followed kept before after tallies.new) }
     ensures err { OnErr result (tallies.new ≡ tallies.old) }
 {
-    *tallies = followed(kept, before, after)?;
+    *tallies = kept.followed(before, after)?;
     Ok(())
 }
 

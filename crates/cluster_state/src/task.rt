@@ -19,13 +19,30 @@ use std::alloc::{AllocError, Global};
 use std::marker::Model;
 
 /// A task, which contracts see as all that a history says of its id.
-#[derive(Debug, Drop)]
+#[derive(Debug)]
 pub struct Task {
     row: Record,
     request: Request,
     attempts: Attempts,
     reply: Option<SharedMessage>,
     settled: Option<Settled>,
+}
+
+// Written out, so that what lets one go is proved over one call, and not case by case.
+impl Drop for Task {
+    fn drop(self) {
+        let Task {
+            row,
+            request,
+            attempts,
+            reply,
+            settled: _,
+        } = self;
+        drop(row);
+        drop(request);
+        drop(attempts);
+        drop(reply);
+    }
 }
 
 impl Model for Task {

@@ -32,7 +32,6 @@ use task_graph::waiters::Waiters;
 /// All tasks in order of number, which contracts see as a list. A task is found by its id without a search, and those of
 /// which something may be due without a look at the others. After a change that answers want of memory they are let go with
 /// the state, since a change of many may have been made of some.
-#[derive(Drop)]
 pub struct Tasks {
     table: Table,
     /// Places of those of which something may be due.
@@ -41,6 +40,22 @@ pub struct Tasks {
     waiters: Waiters,
     /// How many run, finished or wait, by engine.
     tallies: Tallies,
+}
+
+// Written out, so that what lets one go is proved over one call, and not case by case.
+impl Drop for Tasks {
+    fn drop(self) {
+        let Tasks {
+            table,
+            marks,
+            waiters,
+            tallies,
+        } = self;
+        drop(table);
+        drop(marks);
+        drop(waiters);
+        drop(tallies);
+    }
 }
 
 impl Model for Tasks {

@@ -289,6 +289,7 @@ impl<D: Disk> Store<D> {
         requires calm { (c : ℕ) → told self.old c ≡ length (sendings_to self.old.history c) }
         ensures ok { OnOk result (Becomes self.old (opened config moment self.old.history) (λ c. 0) self.old.fulls self.new) }
         ensures err { OnErr result (Becomes self.old self.old.history (told self.old) self.old.fulls self.new) }
+        ensures why { IfErr result (IsRefused false self.old.mark self.old.limits (opened config moment self.old.history)) }
     {
         let input = Input::Open {
             moment,

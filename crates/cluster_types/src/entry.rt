@@ -12,7 +12,7 @@ pub type Entries = Sequence<Entry>;
 
 /// What comes from outside. Moments are milliseconds since 1970-01-01T00:00:00Z, from 0 to 253,402,300,799,999.
 /// A word is what random choices draw from.
-#[derive(Clone, Debug, Drop)]
+#[derive(Clone, Debug)]
 pub enum Input {
     /// The controller opens its database.
     Open {
@@ -54,8 +54,42 @@ pub enum Input {
     },
 }
 
+// Written out, so that what lets one go is proved over one call, and not case by case.
+impl Drop for Input {
+    fn drop(self) {
+        match self {
+            Input::Up {
+                conn: _,
+                channel: _,
+                moment: _,
+                word: _,
+                identity,
+            } => drop(identity),
+            Input::In {
+                conn: _,
+                moment: _,
+                word: _,
+                message,
+            } => drop(message),
+            Input::Open {
+                moment: _,
+                scheme: _,
+                hwm: _,
+                misses: _,
+            } => {}
+            Input::Down {
+                conn: _,
+                moment: _,
+                word: _,
+            } => {}
+            Input::Beat { moment: _, word: _ } => {}
+            Input::Time { moment: _, word: _ } => {}
+        }
+    }
+}
+
 /// An entry of a history: an input or a decision.
-#[derive(Clone, Debug, Drop)]
+#[derive(Clone, Debug)]
 pub enum Entry {
     Input(Input),
     /// A task is handed out to an engine.
@@ -73,4 +107,20 @@ pub enum Entry {
     Lose {
         engine: u32,
     },
+}
+
+// Written out, so that what lets one go is proved over one call, and not case by case.
+impl Drop for Entry {
+    fn drop(self) {
+        match self {
+            Entry::Input(input) => drop(input),
+            Entry::Hand { id, engine: _ } => drop(id),
+            Entry::Settle {
+                id,
+                verdict: _,
+                cause: _,
+            } => drop(id),
+            Entry::Lose { engine: _ } => {}
+        }
+    }
 }

@@ -1,7 +1,8 @@
 //! The lines of entries.
 
-ghost use Rattle.std.specs.Prelude.{◌≡◌, ◌++◌, OnOk, decimal, map};
+ghost use Rattle.std.specs.Prelude.{◌≡◌, ◌++◌, OnOk, OnErr, decimal, map};
 ghost use Rattle.std.specs.List.{flat_map};
+ghost use Rattle.octet_fields.specs.Keeping.{Keeps};
 ghost use Rattle.history_text.specs.Lines.{channel_name, scheme_name, hexadecimal, field, message_fields, kind_word, fields, line};
 
 use cluster_types::config::{Channel, Scheme};
@@ -9,6 +10,7 @@ use cluster_types::entry::{Entry, Input};
 use cluster_types::octets::Octets;
 use cluster_types::shared_message::SharedMessage;
 use itoa::Buffer;
+use octet_fields::writing::put_both;
 use std::alloc::AllocError;
 
 /// The name of a channel.
@@ -37,15 +39,16 @@ fn name_of_scheme(scheme: Scheme) -> &'static str
 
 /// Appends a field behind the space that parts it from what stands before.
 fn put_field(into: &mut Vec<u8>, text: &str) -> Result<(), AllocError>
-    ensures { OnOk result (into.new.items ≡ into.old.items ++ field text.now) }
+    ensures ok { OnOk result (into.new.items ≡ into.old.items ++ field text.now) }
+    ensures err { OnErr result (into.new.items ≡ into.old.items) }
 {
-    into.push(b' ')?;
-    into.extend_from_slice(text.as_bytes())
+    put_both(into, b" ", text.as_bytes())
 }
 
 /// Appends a number as a field.
 fn put_number(into: &mut Vec<u8>, number: u64) -> Result<(), AllocError>
-    ensures { OnOk result (into.new.items ≡ into.old.items ++ field (decimal number)) }
+    ensures ok { OnOk result (into.new.items ≡ into.old.items ++ field (decimal number)) }
+    ensures err { OnErr result (into.new.items ≡ into.old.items) }
 {
     let mut digits = Buffer::new();
     put_field(into, digits.format(number))
@@ -53,7 +56,8 @@ fn put_number(into: &mut Vec<u8>, number: u64) -> Result<(), AllocError>
 
 /// Appends octets as a field.
 fn put_octets(into: &mut Vec<u8>, octets: &[u8]) -> Result<(), AllocError>
-    ensures { OnOk result (into.new.items ≡ into.old.items ++ field (hexadecimal octets.now)) }
+    ensures ok { OnOk result (into.new.items ≡ into.old.items ++ field (hexadecimal octets.now)) }
+    ensures err { OnErr result (into.new.items ≡ into.old.items) }
 {
     if octets.is_empty() {
         return put_field(into, "-");
@@ -64,7 +68,8 @@ fn put_octets(into: &mut Vec<u8>, octets: &[u8]) -> Result<(), AllocError>
 
 /// Appends each buffer as a field.
 fn put_buffers(into: &mut Vec<u8>, buffers: &[Octets]) -> Result<(), AllocError>
-    ensures { OnOk result (into.new.items ≡ into.old.items ++ flat_map field (map hexadecimal buffers.now)) }
+    ensures ok { OnOk result (into.new.items ≡ into.old.items ++ flat_map field (map hexadecimal buffers.now)) }
+    ensures kept { OnErr result (Keeps into.old.items into.new.items) }
 {
     for buffer in buffers {
         put_octets(into, buffer.as_slice())?;
@@ -74,7 +79,8 @@ fn put_buffers(into: &mut Vec<u8>, buffers: &[Octets]) -> Result<(), AllocError>
 
 /// Appends the fields of a message.
 fn put_message(into: &mut Vec<u8>, message: &SharedMessage) -> Result<(), AllocError>
-    ensures { OnOk result (into.new.items ≡ into.old.items ++ flat_map field (message_fields message.now)) }
+    ensures ok { OnOk result (into.new.items ≡ into.old.items ++ flat_map field (message_fields message.now)) }
+    ensures kept { OnErr result (Keeps into.old.items into.new.items) }
 {
     put_octets(into, message.target())?;
     put_octets(into, message.header())?;
@@ -112,7 +118,8 @@ fn word_of(entry: &Entry) -> &'static str
 
 /// Appends the moment and the word of an input.
 fn put_moment(into: &mut Vec<u8>, moment: u64, word: u64) -> Result<(), AllocError>
-    ensures { OnOk result (into.new.items ≡ into.old.items ++ field (decimal moment) ++ field (decimal word)) }
+    ensures ok { OnOk result (into.new.items ≡ into.old.items ++ field (decimal moment) ++ field (decimal word)) }
+    ensures kept { OnErr result (Keeps into.old.items into.new.items) }
 {
     put_number(into, moment)?;
     put_number(into, word)
@@ -120,7 +127,8 @@ fn put_moment(into: &mut Vec<u8>, moment: u64, word: u64) -> Result<(), AllocErr
 
 /// Appends the fields of an input.
 fn put_input(into: &mut Vec<u8>, input: &Input) -> Result<(), AllocError>
-    ensures { OnOk result (into.new.items ≡ into.old.items ++ flat_map field (fields (Entry.Input input.now))) }
+    ensures ok { OnOk result (into.new.items ≡ into.old.items ++ flat_map field (fields (Entry.Input input.now))) }
+    ensures kept { OnErr result (Keeps into.old.items into.new.items) }
 {
     match input {
         Input::Open {
@@ -167,7 +175,8 @@ fn put_input(into: &mut Vec<u8>, input: &Input) -> Result<(), AllocError>
 
 /// Appends the fields of an entry.
 fn put_fields(into: &mut Vec<u8>, entry: &Entry) -> Result<(), AllocError>
-    ensures { OnOk result (into.new.items ≡ into.old.items ++ flat_map field (fields entry.now)) }
+    ensures ok { OnOk result (into.new.items ≡ into.old.items ++ flat_map field (fields entry.now)) }
+    ensures kept { OnErr result (Keeps into.old.items into.new.items) }
 {
     match entry {
         Entry::Input(input) => put_input(into, input),
@@ -184,12 +193,26 @@ fn put_fields(into: &mut Vec<u8>, entry: &Entry) -> Result<(), AllocError>
     }
 }
 
-/// Appends the line of an entry. What is appended before an `AllocError` may be a part of it.
-pub fn put_line(into: &mut Vec<u8>, entry: &Entry) -> Result<(), AllocError>
-    ensures { OnOk result (into.new.items ≡ into.old.items ++ line entry.now) }
+/// Appends the parts of the line of an entry, one after another.
+fn put_parts(into: &mut Vec<u8>, entry: &Entry) -> Result<(), AllocError>
+    ensures ok { OnOk result (into.new.items ≡ into.old.items ++ line entry.now) }
+    ensures kept { OnErr result (Keeps into.old.items into.new.items) }
 {
     into.extend_from_slice(word_of(entry).as_bytes())?;
     put_fields(into, entry)?;
     into.push(b'\n')?;
     Ok(())
+}
+
+/// Appends the line of an entry. Where memory is wanting, `into` is as it was.
+pub fn put_line(into: &mut Vec<u8>, entry: &Entry) -> Result<(), AllocError>
+    ensures ok { OnOk result (into.new.items ≡ into.old.items ++ line entry.now) }
+    ensures err { OnErr result (into.new.items ≡ into.old.items) }
+{
+    let before = into.len();
+    let put = put_parts(into, entry);
+    if put.is_err() {
+        into.truncate(before);
+    }
+    put
 }

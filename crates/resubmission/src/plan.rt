@@ -28,7 +28,7 @@ pub struct Renaming {
 pub type Renamed = Sequence<Renaming>;
 
 /// Why a resubmission makes no task. Each list has the ids concerned, in the order of the request.
-#[derive(Debug, Drop, Error)]
+#[derive(Debug, Error)]
 pub enum ResubmitRefusal {
     /// These ids were never known.
     #[error("ids that were never known")]
@@ -45,6 +45,19 @@ pub enum ResubmitRefusal {
     /// There was no memory.
     #[error("out of memory")]
     OutOfMemory,
+}
+
+// Written out, so that what lets one go is proved over one call, and not case by case.
+impl Drop for ResubmitRefusal {
+    fn drop(self) {
+        match self {
+            ResubmitRefusal::Unknown(it) => drop(it),
+            ResubmitRefusal::Purged(it) => drop(it),
+            ResubmitRefusal::Inflight(it) => drop(it),
+            ResubmitRefusal::TableFull => {}
+            ResubmitRefusal::OutOfMemory => {}
+        }
+    }
 }
 
 impl From<AllocError> for ResubmitRefusal {

@@ -15,7 +15,7 @@ use task_lookup::distinct::once;
 use task_lookup::standing::{Standing, ids_that};
 
 /// What a purge comes to: all listed ids are dropped, or none. Each list is in the order of the request.
-#[derive(Debug, Drop)]
+#[derive(Debug)]
 pub enum PurgePlan {
     /// Nothing is dropped: these ids were never known, or are purged.
     Unknown(Ids),
@@ -23,6 +23,17 @@ pub enum PurgePlan {
     Inflight(Ids),
     /// These ids are dropped.
     Drops(Ids),
+}
+
+// Written out, so that what lets one go is proved over one call, and not case by case.
+impl Drop for PurgePlan {
+    fn drop(self) {
+        match self {
+            PurgePlan::Unknown(it) => drop(it),
+            PurgePlan::Inflight(it) => drop(it),
+            PurgePlan::Drops(it) => drop(it),
+        }
+    }
 }
 
 /// Whether a record is settled and not purged.

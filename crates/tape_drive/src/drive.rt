@@ -9,6 +9,7 @@ ghost use Rattle.cluster_store.specs.Openings.{IsOpened, HasOpen, Exits, WhyNot}
 ghost use Rattle.cluster_store.specs.Stores.{written};
 ghost use Rattle.disk_model.specs.Crashes.{LeavesOnly};
 ghost use Rattle.record_codec.specs.Spelling.{IsWithinLimits};
+ghost use Rattle.octet_fields.specs.Keeping.{Keeps};
 ghost use Rattle.tape.specs.Spelling.{Fits, spelled, all_spelled};
 ghost use Rattle.task_journal.specs.Journal.{StandsFor};
 ghost use Rattle.task_journal.specs.Settled.{Unharmed, Spared, OnRefusal};
@@ -176,6 +177,7 @@ impl<D: Disk> Drive<D> {
         ensures full { IfOk result (λ f. f ≡ overfull self.old.stand.limits self.old.stand.history input) }
         ensures stand { OnOk result (self.new.stand ≡ record self.old.stand { history = history_behind self.old.stand.limits self.old.stand.history input }) }
         ensures octets { OnOk result (into.new.items ≡ into.old.items ++ all_spelled (map (sent_at moment) (unless_full (overfull self.old.stand.limits self.old.stand.history input) (step_sends key.now self.old.stand.links self.old.stand.history input)))) }
+        ensures kept { OnErr result (Keeps into.old.items into.new.items) }
         ensures on_way { IsOnWay self.old.stand.limits self.old.stand.history (input ∷ []) self.new.stand.history }
         ensures any_moment { D.tells → self.old.failed ≡ false → IsTouched D.moment D.image D.image_since self.old.disk self.new.disk self.new.failed (HoldsSome (IsOnWay self.old.stand.limits self.old.stand.history (input ∷ []))) }
         ensures reopen { (result ≡ Err DriveError.Reopen) ↔ (self.old.failed ≡ true) }
@@ -206,6 +208,7 @@ impl<D: Disk> Drive<D> {
         ensures full { IfOk result (λ f. f ≡ full_at self.old.stand.limits self.old.stand.history (reverse inputs.items)) }
         ensures stand { OnOk result (self.new.stand ≡ record self.old.stand { history = stepped_all self.old.stand.history (fitting self.old.stand.limits self.old.stand.history (reverse inputs.items)) }) }
         ensures octets { OnOk result (into.new.items ≡ into.old.items ++ all_spelled (map (sent_at moment) (steps_send key.now self.old.stand.links self.old.stand.history (fitting self.old.stand.limits self.old.stand.history (reverse inputs.items))))) }
+        ensures kept { OnErr result (Keeps into.old.items into.new.items) }
         ensures on_way { IsOnWay self.old.stand.limits self.old.stand.history (reverse inputs.items) self.new.stand.history }
         ensures any_moment { D.tells → self.old.failed ≡ false → IsTouched D.moment D.image D.image_since self.old.disk self.new.disk self.new.failed (HoldsSome (IsOnWay self.old.stand.limits self.old.stand.history (reverse inputs.items))) }
         ensures reopen { result ≡ Err DriveError.Reopen → self.old.failed ≡ true }
@@ -234,6 +237,7 @@ impl<D: Disk> Drive<D> {
         requires end { self.old.stand.at + length (spelled item.now) ≤ tape_limit }
         ensures stand { OnOk result (self.new.stand ≡ goes_on key.now self.old.stand item.now) }
         ensures octets { OnOk result (into.new.items ≡ into.old.items ++ all_spelled (sends key.now self.old.stand item.now)) }
+        ensures kept { OnErr result (Keeps into.old.items into.new.items) }
         ensures on_way { IsOnWay self.old.stand.limits self.old.stand.history (inputs_of key.now self.old.stand.links item.now) self.new.stand.history }
         ensures any_moment { D.tells → self.old.failed ≡ false → IsTouched D.moment D.image D.image_since self.old.disk self.new.disk self.new.failed (HoldsSome (IsOnWay self.old.stand.limits self.old.stand.history (inputs_of key.now self.old.stand.links item.now))) }
         ensures reopen { result ≡ Err DriveError.Reopen → self.old.failed ≡ true }
@@ -261,7 +265,7 @@ impl<D: Disk> Drive<D> {
 
     /// Serves a record, and appends the octets of what is sent, which is safe then. A record that breaks a rule stops the
     /// tape: neither it nor what stands behind it is served. So does a step that would pass a limit, but for what its
-    /// record sends before it. At an error some inputs of the record may be served, and what is appended isn't to be sent.
+    /// record sends before it. At an error some inputs of the record may be served, and nothing is appended.
     pub fn serve(
         &mut self,
         into: &mut Vec<u8>,
@@ -272,6 +276,7 @@ impl<D: Disk> Drive<D> {
         requires { Fits item.now }
         ensures stand { OnOk result (self.new.stand ≡ served key.now self.old.stand item.now) }
         ensures octets { OnOk result (into.new.items ≡ into.old.items ++ all_spelled (outs key.now self.old.stand item.now)) }
+        ensures err { OnErr result (into.new.items ≡ into.old.items) }
         ensures on_way { IsOnWay self.old.stand.limits self.old.stand.history (inputs_taken key.now self.old.stand item.now) self.new.stand.history }
         // A crash at any moment of the call leaves what is kept of the history from before it, or with some of the steps.
         ensures any_moment { D.tells → self.old.failed ≡ false → IsTouched D.moment D.image D.image_since self.old.disk self.new.disk self.new.failed (HoldsSome (IsOnWay self.old.stand.limits self.old.stand.history (inputs_taken key.now self.old.stand item.now))) }
@@ -284,10 +289,15 @@ impl<D: Disk> Drive<D> {
         if self.stop.is_some() {
             return Ok(());
         }
-        match self.fault_of(item) {
-            Some(place) => self.stop = Some(Stop::BadTape(place)),
-            None => self.go_on(into, key, chooser, item)?,
+        if let Some(place) = self.fault_of(item) {
+            self.stop = Some(Stop::BadTape(place));
+            return Ok(());
         }
-        Ok(())
+        let before = into.len();
+        let served = self.go_on(into, key, chooser, item);
+        if served.is_err() {
+            into.truncate(before);
+        }
+        served
     }
 }

@@ -1,7 +1,8 @@
 //! What the records of a tape do to its connections.
 
-ghost use Rattle.std.specs.Prelude.{◌≡◌, ◌≤◌, ◌<◌, ◌^◌, ◌++◌, ◌∷◌, [], map, IfOk, OnOk};
+ghost use Rattle.std.specs.Prelude.{◌≡◌, ◌≤◌, ◌<◌, ◌^◌, ◌++◌, ◌∷◌, [], map, IfOk, OnOk, OnErr};
 ghost use Rattle.cluster_types.specs.Limits.{last_moment};
+ghost use Rattle.octet_fields.specs.Keeping.{Keeps};
 ghost use Rattle.tape.specs.Spelling.{Fits, all_spelled};
 ghost use Rattle.tape_drive.specs.Links.{links_at, links_left, link_on, given_on};
 ghost use Rattle.tape_drive.specs.Steps.{AreTaken};
@@ -33,6 +34,7 @@ fn take_up(
     ensures links { OnOk result (links.new.items ≡ links_at links.old.items (TapeKind.Up from.conn channel bare identity.now)) }
     ensures inputs { OnOk result (inputs.new.items ≡ inputs.old.items ++ kind_inputs [] links.old.items from.moment from.word (TapeKind.Up from.conn channel bare identity.now)) }
     ensures octets { OnOk result (into.new.items ≡ into.old.items ++ all_spelled (map (sent_at from.moment) (stream_sends links.old.items (TapeKind.Up from.conn channel bare identity.now)))) }
+    ensures err { OnErr result (into.new.items ≡ into.old.items) }
 {
     links.push(Link::new(*links.allocator(), from.conn, channel, bare))?;
     if bare {
@@ -53,6 +55,7 @@ fn take_given(
 ) -> Result<(), AllocError>
     ensures inputs { OnOk result (inputs.new.items ≡ inputs.old.items ++ stream_inputs key.now from.conn from.moment from.word given.now) }
     ensures octets { OnOk result (into.new.items ≡ into.old.items ++ all_spelled (map (sent_at from.moment) (map (TapeKind.Piece from.conn) (given_sendings given.now)))) }
+    ensures kept { OnErr result (Keeps into.old.items into.new.items) }
 {
     match given {
         Some((channel, fed)) => {
@@ -79,6 +82,7 @@ fn take_piece(
     ensures links { OnOk result (links.new ≡ links_at links.old (TapeKind.Piece from.conn octets.now)) }
     ensures inputs { OnOk result (inputs.new.items ≡ inputs.old.items ++ kind_inputs key.now links.old from.moment from.word (TapeKind.Piece from.conn octets.now)) }
     ensures octets { OnOk result (into.new.items ≡ into.old.items ++ all_spelled (map (sent_at from.moment) (stream_sends links.old (TapeKind.Piece from.conn octets.now)))) }
+    ensures kept { OnErr result (Keeps into.old.items into.new.items) }
 {
     let given = hear_on(links, from.conn, octets.as_slice())?;
     take_given(inputs, into, key, from, &given)?;
@@ -98,6 +102,7 @@ pub fn take_record(
     ensures links { OnOk result (links.new.items ≡ links_at links.old.items item.now.kind) }
     ensures inputs { OnOk result (inputs.new.items ≡ inputs.old.items ++ inputs_of key.now links.old.items item.now) }
     ensures octets { OnOk result (into.new.items ≡ into.old.items ++ all_spelled (map (sent_at item.now.moment) (stream_sends links.old.items item.now.kind))) }
+    ensures kept { OnErr result (Keeps into.old.items into.new.items) }
 {
     let (moment, word) = (item.moment, item.word);
     match &item.kind {

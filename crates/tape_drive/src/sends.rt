@@ -1,11 +1,12 @@
 //! What is sent while a record of a tape is served, as records.
 
-ghost use Rattle.std.specs.Prelude.{◌≡◌, ◌≤◌, ◌++◌, ◌∷◌, [], map, All, IfOk, OnOk, IsTrue, length, drop, nat_le, reverse, true, Some};
+ghost use Rattle.std.specs.Prelude.{◌≡◌, ◌≤◌, ◌++◌, ◌∷◌, [], map, All, IfOk, OnOk, OnErr, IsTrue, length, drop, nat_le, reverse, true, Some};
 ghost use Rattle.std.specs.List.{list_all};
 ghost use Rattle.cluster_types.specs.Limits.{field_limit};
 ghost use Rattle.cluster_defs.specs.Words.{begins_with};
 ghost use Rattle.cluster_outgo.specs.Frames.{IsSendable, frames_of};
 ghost use Rattle.zmtp_frames.specs.Written.{own_ready};
+ghost use Rattle.octet_fields.specs.Keeping.{Keeps};
 ghost use Rattle.tape.specs.Spelling.{Fits, KindFits, FitsBlob, spelled, all_spelled};
 ghost use Rattle.tape_drive.specs.Links.{link_on, is_zmtp};
 ghost use Rattle.tape_drive.specs.Sends.{where_any, sendings, frames_sent, out_sent, by_connection, sent_at};
@@ -74,7 +75,8 @@ fn is_told(item: &TapeRecord) -> bool
 /// Appends a record of what is sent. One that has no spelling counts as want of memory; frames of an out stay far below what
 /// a record can hold.
 fn put_sent(into: &mut Vec<u8>, moment: u64, kind: TapeKind) -> Result<(), AllocError>
-    ensures { OnOk result (into.new.items ≡ into.old.items ++ spelled (sent_at moment kind)) }
+    ensures ok { OnOk result (into.new.items ≡ into.old.items ++ spelled (sent_at moment kind)) }
+    ensures err { OnErr result (into.new.items ≡ into.old.items) }
 {
     let item = TapeRecord {
         moment,
@@ -95,7 +97,8 @@ pub fn put_piece(
     conn: u32,
     octets: &[u8],
 ) -> Result<(), AllocError>
-    ensures { OnOk result (into.new.items ≡ into.old.items ++ spelled (sent_at moment (TapeKind.Piece conn octets.now))) }
+    ensures ok { OnOk result (into.new.items ≡ into.old.items ++ spelled (sent_at moment (TapeKind.Piece conn octets.now))) }
+    ensures err { OnErr result (into.new.items ≡ into.old.items) }
 {
     let octets = Octets::new(*into.allocator(), octets)?;
     put_sent(into, moment, TapeKind::Piece { conn, octets })?;
@@ -109,7 +112,8 @@ fn put_where_any(
     conn: u32,
     octets: &[u8],
 ) -> Result<(), AllocError>
-    ensures { OnOk result (into.new.items ≡ into.old.items ++ all_spelled (map (sent_at moment) (map (TapeKind.Piece conn) (where_any octets.now)))) }
+    ensures ok { OnOk result (into.new.items ≡ into.old.items ++ all_spelled (map (sent_at moment) (map (TapeKind.Piece conn) (where_any octets.now)))) }
+    ensures err { OnErr result (into.new.items ≡ into.old.items) }
 {
     if octets.len() > 0 {
         put_piece(into, moment, conn, octets)?;
@@ -143,7 +147,8 @@ fn put_ready_and_rest(
     octets: &[u8],
 ) -> Result<(), AllocError>
     requires { length ready.now ≤ length octets.now }
-    ensures { OnOk result (into.new.items ≡ into.old.items ++ all_spelled (map (sent_at moment) (map (TapeKind.Piece conn) (ready.now ∷ where_any (drop (length ready.now) octets.now))))) }
+    ensures ok { OnOk result (into.new.items ≡ into.old.items ++ all_spelled (map (sent_at moment) (map (TapeKind.Piece conn) (ready.now ∷ where_any (drop (length ready.now) octets.now))))) }
+    ensures kept { OnErr result (Keeps into.old.items into.new.items) }
 {
     put_piece(into, moment, conn, ready)?;
     put_where_any(into, moment, conn, &octets[ready.len()..])?;
@@ -157,7 +162,8 @@ pub fn put_sendings(
     conn: u32,
     octets: &[u8],
 ) -> Result<(), AllocError>
-    ensures { OnOk result (into.new.items ≡ into.old.items ++ all_spelled (map (sent_at moment) (map (TapeKind.Piece conn) (sendings octets.now)))) }
+    ensures ok { OnOk result (into.new.items ≡ into.old.items ++ all_spelled (map (sent_at moment) (map (TapeKind.Piece conn) (sendings octets.now)))) }
+    ensures kept { OnErr result (Keeps into.old.items into.new.items) }
 {
     let ready = ready_octets(*into.allocator())?;
     if begin_with(octets, ready.as_slice()) {
@@ -209,7 +215,8 @@ fn put_out(
     moment: u64,
     out: &Out,
 ) -> Result<(), AllocError>
-    ensures { OnOk result (into.new.items ≡ into.old.items ++ spelled (sent_at moment (out_sent key.now links.now out.now))) }
+    ensures ok { OnOk result (into.new.items ≡ into.old.items ++ spelled (sent_at moment (out_sent key.now links.now out.now))) }
+    ensures err { OnErr result (into.new.items ≡ into.old.items) }
 {
     let alloc = *into.allocator();
     let conn = conn_of(out);
@@ -227,7 +234,8 @@ fn put_each(
     moment: u64,
     outs: &[Out],
 ) -> Result<(), AllocError>
-    ensures { OnOk result (into.new.items ≡ into.old.items ++ all_spelled (map (sent_at moment) (map (out_sent key.now links.now) outs.now))) }
+    ensures ok { OnOk result (into.new.items ≡ into.old.items ++ all_spelled (map (sent_at moment) (map (out_sent key.now links.now) outs.now))) }
+    ensures kept { OnErr result (Keeps into.old.items into.new.items) }
 {
     for out in outs {
         put_out(into, key, links, moment, out)?;
@@ -243,7 +251,8 @@ pub fn put_outs(
     moment: u64,
     outs: Outs,
 ) -> Result<(), AllocError>
-    ensures { OnOk result (into.new.items ≡ into.old.items ++ all_spelled (map (sent_at moment) (map (out_sent key.now links.now) (by_connection outs)))) }
+    ensures ok { OnOk result (into.new.items ≡ into.old.items ++ all_spelled (map (sent_at moment) (map (out_sent key.now links.now) (by_connection outs)))) }
+    ensures kept { OnErr result (Keeps into.old.items into.new.items) }
 {
     let mut outs = outs.into_vec();
     sort_by_connection(&mut outs)?;

@@ -242,13 +242,28 @@ fn keep(
 
 /// A peer's stream of which some octets came. Contracts see what is known of it, and whether memory was wanting. It
 /// counts as spent while it takes octets, and stays so where memory was wanting.
-#[derive(Drop)]
 pub struct Peer {
     phase: Phase,
     greeting: Vec<u8>,
     reader: FrameReader,
     parts: Parts,
     spent: bool,
+}
+
+// Written out, so that what lets one go is proved over one call, and not case by case.
+impl Drop for Peer {
+    fn drop(self) {
+        let Peer {
+            phase: _,
+            greeting,
+            reader,
+            parts,
+            spent: _,
+        } = self;
+        drop(greeting);
+        drop(reader);
+        drop(parts);
+    }
 }
 
 impl Model for Peer {

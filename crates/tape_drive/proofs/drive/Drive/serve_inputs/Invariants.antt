@@ -1,6 +1,7 @@
 use Rattle.std.proofs.Common.{◌≡◌, ◌≤◌, ◌++◌, false, reverse, length}
 use Rattle.std.specs.Prelude.{map}
 use Rattle.cluster_defs.specs.Histories.{History}
+use Rattle.octet_fields.specs.Keeping.{Keeps}
 use Rattle.tape.specs.Spelling.{all_spelled}
 use Rattle.tape_drive.specs.Served.{IsOnWay, HoldsSome, IsTouched}
 use Rattle.tape_drive.specs.Steps.{stepped_all, fitting, full_at, AreTaken}
@@ -17,6 +18,7 @@ invariant-loop-input g l = record {
       ≡ record l.fn.self.stand { history = stepped_all l.fn.self.stand.history (fitting l.fn.self.stand.limits l.fn.self.stand.history (reverse l.fn.inputs.items)) };
   octets : l.into.items ++ all_spelled (map (sent_at l.moment) (steps_send l.key l.self.stand.links l.self.stand.history (fitting l.self.stand.limits l.self.stand.history (reverse l.inputs.items))))
       ≡ l.fn.into.items ++ all_spelled (map (sent_at l.moment) (steps_send l.key l.fn.self.stand.links l.fn.self.stand.history (fitting l.fn.self.stand.limits l.fn.self.stand.history (reverse l.fn.inputs.items))));
+  kept : Keeps l.fn.into.items l.into.items;
   on_way : (h : History) → IsOnWay l.self.stand.limits l.self.stand.history (reverse l.inputs.items) h → IsOnWay l.fn.self.stand.limits l.fn.self.stand.history (reverse l.fn.inputs.items) h;
   any_moment : g.D.Disk.tells → l.fn.self.failed ≡ false → IsTouched g.D.Disk.moment g.D.Disk.image g.D.Disk.image_since l.fn.self.disk l.self.disk false (HoldsSome (IsOnWay l.fn.self.stand.limits l.fn.self.stand.history (reverse l.fn.inputs.items)));
   failed : l.self.failed ≡ l.fn.self.failed;
