@@ -182,12 +182,10 @@ fn serve_one(
 ) -> Option<DriveError>
     requires { Fits item.now }
 {
-    let before = into.len();
-    if let Err(error) = drive.serve(into, key, chooser, item) {
-        into.truncate(before);
-        return Some(error);
+    match drive.serve(into, key, chooser, item) {
+        Ok(()) => None,
+        Err(error) => Some(error),
     }
-    None
 }
 
 /// Serves records until one isn't served, appends what those before it send, and gives its error.
