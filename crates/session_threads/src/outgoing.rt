@@ -47,30 +47,14 @@ pub struct Batch {
 }
 
 /// The out with a moment that has a date.
-fn dated(out: Out) -> Out
+fn dated(mut out: Out) -> Out
     ensures value { result ≡ dated out }
     ensures sendable { IsSendable result }
 {
-    match out {
-        Out::Made {
-            conn,
-            moment,
-            msg_id,
-            msg_type,
-            parent,
-            content,
-            buffers,
-        } => Out::Made {
-            conn,
-            moment: moment.min(LAST_MOMENT),
-            msg_id,
-            msg_type,
-            parent,
-            content,
-            buffers,
-        },
-        Out::Pass { conn, message } => Out::Pass { conn, message },
+    if let Out::Made { moment, .. } = &mut out {
+        *moment = (*moment).min(LAST_MOMENT);
     }
+    out
 }
 
 /// Appends the octets of an out.

@@ -1,4 +1,4 @@
-use Rattle.std.proofs.Common.{◌≡◌, ◌∙◌, ◌∷◌, ◌++◌, [], List, map, ℕ, Bool, true, false, None, Err, reverse, refl, sym, ap, subst, arith}
+use Rattle.std.proofs.Common.{◌≡◌, ◌∙◌, ◌∷◌, ◌++◌, [], List, map, ℕ, Bool, true, false, None, Err, zero, reverse, refl, sym, ap, subst, arith}
 use Rattle.cluster_types.specs.declared.entry.Input.{Input as InputType}
 use Rattle.cluster_defs.specs.Histories.{History}
 use Rattle.tape_drive.specs.Drive.{Stand}
@@ -73,7 +73,7 @@ loop-input-preserved g c =
       full = after.full;
       stand = after.stand;
       octets = after.octets;
-      kept = keeps_on_err (Err c.loop-input.into) _ c.loop-input.into.items _ c.loop-input.invariant.kept (subst (Keeps c.loop-input.into.items) (sym c.in_ok-size.ensures.octets) (keeps_front _ _));
+      kept = keeps_on_err {T = ℕ} (Err zero) _ c.loop-input.into.items _ c.loop-input.invariant.kept (subst (Keeps c.loop-input.into.items) (sym c.in_ok-size.ensures.octets) (keeps_front _ _));
       on_way = after.on_way;
       any_moment = λ tells good.
           subst (λ (b : Bool). IsTouched g.D.Disk.moment g.D.Disk.image g.D.Disk.image_since c.args.self.now.disk c.serve_input.new.self.disk b (HoldsSome (IsOnWay c.args.self.now.stand.limits c.args.self.now.stand.history (reverse c.args.inputs.items)))) fine
