@@ -207,7 +207,8 @@ fn has_result<R: Abort + Wait>(
     let acted = desk.act(rt, pass, &chooser, conn, reading);
     assert_eq!(rt; acted, Ok(Acted::Entered));
     desk.flush(rt, pass).expect(rt, "a flush");
-    match desk.take_out(rt, pass, conn) {
+    let taken = desk.take_out(rt, pass, conn);
+    match &taken {
         Taken::Out(Out::Made { content, .. }) => content.as_slice() == wanted,
         _ => false,
     }
