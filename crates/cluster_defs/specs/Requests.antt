@@ -33,6 +33,11 @@ pub record Body : Type 0 where
   pub content : List ℕ
   pub buffers : List (List ℕ)
 
+-- an accepted request with what it passes on
+pub record WholeRequest : Type 0 where
+  pub request : Request
+  pub body : Body
+
 abbrev pub is_direct : Request → Bool
 is_direct r = is_some r.direct_to
 

@@ -6,4 +6,5 @@ pub mod answer;
 pub mod attempt;
 pub mod connection;
 pub mod engine;
+pub mod request;
 pub mod settled;

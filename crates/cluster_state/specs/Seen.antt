@@ -9,34 +9,6 @@ use Rattle.cluster_defs.specs.declared.attempt.Ending.{Ending}
 use Rattle.cluster_defs.specs.declared.settled.Settled.{Settled}
 use Rattle.cluster_defs.specs.Tasks.{Task as TaskFacts, new_task, engine_of, runs, runs_at, handed, lost, after_end, took}
 use Rattle.cluster_defs.specs.Requests.{Request as RequestFacts, Body as BodyFacts, is_direct}
-use Rattle.cluster_state.specs.declared.request.Request.{Request}
-use Rattle.cluster_state.specs.declared.attempts.Attempts.{Attempts}
-
--- THE DATA, AS THE DEFINITIONS SPEAK OF IT
-
-abbrev pub request_as : Request → RequestFacts
-request_as r = record {
-  owner = r.owner;
-  direct_to = r.direct_to;
-  target = r.message.target;
-  msg_type = r.msg_type;
-  session = r.session;
-  username = r.username;
-  header = r.message.header;
-  parent = r.message.parent;
-  metadata = r.message.metadata;
-  after = r.after;
-  follow = r.follow;
-  listed = r.listed;
-  targets = r.targets;
-  accepted_at = r.accepted_at;
-  timeout = r.timeout;
-  retries = r.retries;
-  invalid = r.invalid;
-}
-
-abbrev pub attempts_as : Attempts → TaskFacts
-attempts_as a = record { last = a.last; spent = a.spent; excluded = a.excluded.items; heard = a.heard.items }
 
 -- WHAT IS SEEN OF A TASK
 

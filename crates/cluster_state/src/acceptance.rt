@@ -12,18 +12,18 @@ ghost use Rattle.cluster_defs.specs.Connections.{connection_on, peer_on};
 ghost use Rattle.cluster_defs.specs.Engines.{engine_named};
 ghost use Rattle.cluster_defs.specs.Requests.{targets_of, is_invalid, body_of};
 ghost use Rattle.cluster_defs.specs.Acceptance.{Demand, acceptance, acceptance_new, is_same, is_accepted, accepted_as, no_dependency, request_plain, request_submit, request_direct, request_made, reserved_front};
-ghost use Rattle.cluster_state.specs.Seen.{Seen, request_as, begun};
+ghost use Rattle.cluster_state.specs.Seen.{Seen, begun};
 ghost use Rattle.cluster_state.specs.Plain.{facts_in, accepted_by};
 ghost use Rattle.cluster_state.specs.Stands.{plain};
 
 use crate::attempts::one_more;
-use crate::request::Request;
 use crate::state::State;
 use crate::task::Task;
 use crate::tasks::Tasks;
 use cluster_defs::acceptance::Acceptance;
 use cluster_defs::connection::{Connection, Owner};
 use cluster_defs::engine::Engine;
+use cluster_defs::request::WholeRequest;
 use cluster_types::event::{Dep, Submission};
 use cluster_types::limits::MOST_IDS;
 use cluster_types::message::{Engines, Ids};
@@ -252,13 +252,13 @@ impl State {
         moment: u64,
         message: &SharedMessage,
         submission: &Submission,
-    ) -> Result<Request, AllocError>
-        ensures value { IfOk result (λ r. request_as r ≡ request_plain (facts_in (plain self.now)) conn moment message.now submission.now) }
-        ensures message { IfOk result (λ r. r.message ≡ message.now) }
+    ) -> Result<WholeRequest, AllocError>
+        ensures value { IfOk result (λ r. r.request ≡ request_plain (facts_in (plain self.now)) conn moment message.now submission.now) }
+        ensures message { IfOk result (λ r. r.body ≡ body_of message.now) }
     {
         let alloc = self.allocator();
         let (msg_type, session, username) = words_of(self.tasks.as_slice().last(), submission)?;
-        Ok(Request {
+        Ok(WholeRequest {
             owner: owner_on(&self.connections, conn)?,
             direct_to: None,
             message: message.clone()?,
@@ -282,9 +282,9 @@ impl State {
         moment: u64,
         message: &SharedMessage,
         submission: &Submission,
-    ) -> Result<Request, AllocError>
-        ensures value { IfOk result (λ r. request_as r ≡ request_submit (facts_in (plain self.now)) conn moment message.now submission.now) }
-        ensures message { IfOk result (λ r. r.message ≡ message.now) }
+    ) -> Result<WholeRequest, AllocError>
+        ensures value { IfOk result (λ r. r.request ≡ request_submit (facts_in (plain self.now)) conn moment message.now submission.now) }
+        ensures message { IfOk result (λ r. r.body ≡ body_of message.now) }
     {
         let mut request = self.request_plain(conn, moment, message, submission)?;
         request.after = submission.after.clone()?;
@@ -312,9 +312,9 @@ impl State {
         moment: u64,
         message: &SharedMessage,
         submission: &Submission,
-    ) -> Result<Request, AllocError>
-        ensures value { IfOk result (λ r. request_as r ≡ request_direct (facts_in (plain self.now)) conn moment message.now submission.now) }
-        ensures message { IfOk result (λ r. r.message ≡ message.now) }
+    ) -> Result<WholeRequest, AllocError>
+        ensures value { IfOk result (λ r. r.request ≡ request_direct (facts_in (plain self.now)) conn moment message.now submission.now) }
+        ensures message { IfOk result (λ r. r.body ≡ body_of message.now) }
     {
         let mut request = self.request_plain(conn, moment, message, submission)?;
         request.direct_to = match self.engines.named(message.target()) {
@@ -331,9 +331,9 @@ impl State {
         message: &SharedMessage,
         direct: bool,
         submission: &Submission,
-    ) -> Result<Request, AllocError>
-        ensures value { IfOk result (λ r. request_as r ≡ request_made (facts_in (plain self.now)) conn moment message.now (record { direct = direct; submission = submission.now })) }
-        ensures message { IfOk result (λ r. r.message ≡ message.now) }
+    ) -> Result<WholeRequest, AllocError>
+        ensures value { IfOk result (λ r. r.request ≡ request_made (facts_in (plain self.now)) conn moment message.now (record { direct = direct; submission = submission.now })) }
+        ensures message { IfOk result (λ r. r.body ≡ body_of message.now) }
     {
         if direct {
             let request = self.request_direct(conn, moment, message, submission)?;
@@ -345,8 +345,8 @@ impl State {
     }
 
     /// Adds a task under the next number.
-    pub fn begin(&mut self, id: &Text, request: Request) -> Result<(), AllocError>
-        ensures { OnOk result (plain self.new ≡ record (plain self.old) { tasks = self.old.tasks ++ begun id.now (length self.old.tasks + 1) (request_as request) (body_of request.message) ∷ [] }) }
+    pub fn begin(&mut self, id: &Text, request: WholeRequest) -> Result<(), AllocError>
+        ensures { OnOk result (plain self.new ≡ record (plain self.old) { tasks = self.old.tasks ++ begun id.now (length self.old.tasks + 1) request.request request.body ∷ [] }) }
     {
         let number = one_more(self.tasks.len() as u64)?;
         let task = Task::new(self.allocator(), id, number, request)?;

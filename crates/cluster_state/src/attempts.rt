@@ -4,13 +4,13 @@ ghost use Rattle.std.specs.Prelude.{◌≡◌, ◌∷◌, ◌+◌, ◌^◌, ◌=
 ghost use Rattle.std.specs.List.{list_any};
 ghost use Rattle.cluster_defs.specs.Tasks.{new_task, runs, runs_at, is_never, engine_of, handed, lost, after_end, replied, took, has_heard};
 ghost use Rattle.cluster_defs.specs.declared.attempt.Attempt.{Attempt as AttemptType};
-ghost use Rattle.cluster_state.specs.Seen.{attempts_as};
 
 use cluster_defs::attempt::{Attempt, Ending};
 use cluster_types::text::Text;
 use std::alloc::{AllocError, Global};
+use std::marker::Model;
 
-/// The attempts of a task.
+/// The attempts of a task, which contracts see as a history tells them.
 #[derive(Debug, Drop)]
 pub struct Attempts {
     pub last: Attempt,
@@ -20,6 +20,14 @@ pub struct Attempts {
     pub excluded: Vec<u32>,
     /// The engine and the header id of each valid reply, the last one first.
     pub heard: Vec<(u32, Text)>,
+}
+
+impl Model for Attempts {
+    ghost use Rattle.cluster_defs.specs.Tasks.{Task};
+
+    ghost Value = { Task };
+
+    ghost view = { λ a. record { last = a.last; spent = a.spent; excluded = a.excluded.items; heard = a.heard.items } };
 }
 
 /// One more of something that is counted. At the last number of 64 bits there is none; what is counted lies in memory, and
@@ -81,7 +89,7 @@ pub fn engine_of(attempt: Attempt) -> Option<u32>
 impl Attempts {
     /// Those of a task that was not handed out yet. It takes no memory.
     pub fn new(alloc: Global) -> Attempts
-        ensures { attempts_as result ≡ new_task }
+        ensures { result ≡ new_task }
     {
         Attempts {
             last: Attempt::Never,
@@ -93,14 +101,14 @@ impl Attempts {
 
     /// Begins an attempt on an engine.
     pub fn hand(&mut self, engine: u32)
-        ensures { attempts_as self.new ≡ handed engine (attempts_as self.old) }
+        ensures { self.new ≡ handed engine self.old }
     {
         self.last = Attempt::Running { engine };
     }
 
     /// Ends a current attempt with its engine, or by an Open.
     pub fn lose(&mut self) -> Result<(), AllocError>
-        ensures { OnOk result (attempts_as self.new ≡ lost (attempts_as self.old).last (attempts_as self.old)) }
+        ensures { OnOk result (self.new ≡ lost self.old.last self.old) }
     {
         if let Attempt::Running { engine } = self.last {
             self.spent = one_more(self.spent)?;
@@ -111,7 +119,7 @@ impl Attempts {
 
     /// Ends a current attempt on an engine that ended.
     pub fn end(&mut self, engine: u32) -> Result<(), AllocError>
-        ensures { OnOk result (attempts_as self.new ≡ after_end (Some engine) (attempts_as self.old)) }
+        ensures { OnOk result (self.new ≡ after_end (Some engine) self.old) }
     {
         if runs_at(engine, self.last) {
             self.lose()?;
@@ -121,7 +129,7 @@ impl Attempts {
 
     /// Whether the current attempt's engine has given a valid reply with this header id before.
     pub fn has_heard(&self, header: &Text) -> bool
-        ensures { result ≡ has_heard header.now (attempts_as self.now).heard (attempts_as self.now).last }
+        ensures { result ≡ has_heard header.now self.now.heard self.now.last }
     {
         match self.last {
             Attempt::Running { engine } => is_heard(&self.heard, engine, header),
@@ -131,7 +139,7 @@ impl Attempts {
 
     /// Takes a valid reply on the current attempt.
     pub fn take_reply(&mut self, header: &Text, how: Ending) -> Result<(), AllocError>
-        ensures { OnOk result (attempts_as self.new ≡ took header.now how (attempts_as self.old).last (attempts_as self.old)) }
+        ensures { OnOk result (self.new ≡ took header.now how self.old.last self.old) }
     {
         if let Attempt::Running { engine } = self.last {
             self.hear(header, engine)?;
@@ -151,7 +159,7 @@ impl Attempts {
     }
 
     fn hear(&mut self, header: &Text, engine: u32) -> Result<(), AllocError>
-        ensures { OnOk result (attempts_as self.new ≡ record (attempts_as self.old) { heard = (engine, header.now) ∷ (attempts_as self.old).heard }) }
+        ensures { OnOk result (self.new ≡ record self.old { heard = (engine, header.now) ∷ self.old.heard }) }
     {
         let header = header.clone()?;
         self.heard.insert(0, (engine, header))?;

@@ -2,22 +2,21 @@
 
 ghost use Rattle.std.specs.Prelude.{◌≡◌, ◌≤◌, ◌+◌, ◌++◌, ◌∷◌, [], map, length, is_ok, IfOk, OnOk, Some, None, true};
 ghost use Rattle.cluster_types.specs.Limits.{last_moment};
-ghost use Rattle.cluster_defs.specs.Requests.{body_of};
 ghost use Rattle.cluster_defs.specs.Purges.{resubmitted};
 ghost use Rattle.message_defs.specs.Texts.{resubmit_header};
 ghost use Rattle.edges.specs.Date.{date_of};
 ghost use Rattle.resubmission.specs.Plans.{copy_of as renaming};
-ghost use Rattle.cluster_state.specs.Seen.{request_as, begun, seen_in, all_open};
+ghost use Rattle.cluster_state.specs.Seen.{begun, seen_in, all_open};
 ghost use Rattle.cluster_state.specs.Plain.{facts_in, copy_of, copies_in, copied_out};
 ghost use Rattle.cluster_state.specs.Ruled.{copies_planned};
 ghost use Rattle.cluster_state.specs.Stands.{plain};
 
 use crate::acceptance::{is_invalid, targets_of};
 use crate::attempts::one_more;
-use crate::request::Request;
 use crate::state::State;
 use crate::task::Task;
 use crate::tasks::Tasks;
+use cluster_defs::request::WholeRequest;
 use cluster_types::octets::Octets;
 use cluster_types::text::Text;
 use edges::date::{Moment, date_text};
@@ -29,11 +28,11 @@ use std::alloc::{AllocError, Global};
 fn copy_header(
     alloc: Global,
     id: &Text,
-    request: &Request,
+    request: &WholeRequest,
     moment: u64,
 ) -> Result<Octets, AllocError>
     requires { moment ≤ last_moment }
-    ensures { IfOk result (λ o. o ≡ resubmit_header id.now request.now.session request.now.username request.now.msg_type (date_of moment)) }
+    ensures { IfOk result (λ o. o ≡ resubmit_header id.now request.now.request.session request.now.request.username request.now.request.msg_type (date_of moment)) }
 {
     let date = date_text(alloc, Moment { millis: moment })?;
     resubmit_header(
@@ -46,7 +45,7 @@ fn copy_header(
     )
 }
 
-fn same_request(request: &Request) -> Result<Request, AllocError>
+fn same_request(request: &WholeRequest) -> Result<WholeRequest, AllocError>
     ensures { IfOk result (λ r. r ≡ request.now) }
 {
     request.clone()
@@ -64,10 +63,15 @@ fn push_each(tasks: &mut Tasks, copies: Vec<Task>) -> Result<(), AllocError>
 
 impl State {
     /// The request of a copy.
-    fn request_again(&self, moment: u64, id: &Text, old: &Request) -> Result<Request, AllocError>
+    fn request_again(
+        &self,
+        moment: u64,
+        id: &Text,
+        old: &WholeRequest,
+    ) -> Result<WholeRequest, AllocError>
         requires { moment ≤ last_moment }
-        ensures value { IfOk result (λ r. request_as r ≡ resubmitted (facts_in (plain self.now)) moment id.now (request_as old.now)) }
-        ensures body { IfOk result (λ r. body_of r.message ≡ body_of old.now.message) }
+        ensures value { IfOk result (λ r. r.request ≡ resubmitted (facts_in (plain self.now)) moment id.now old.now.request) }
+        ensures body { IfOk result (λ r. r.body ≡ old.now.body) }
     {
         let mut request = same_request(old)?;
         request.direct_to = None;

@@ -3,17 +3,16 @@
 ghost use Rattle.std.specs.Prelude.{◌≡◌, ◌||◌, not, filter_map, IfOk};
 ghost use Rattle.std.specs.Option.{option_and_then};
 ghost use Rattle.cluster_defs.specs.Words.{is_empty};
-ghost use Rattle.cluster_state.specs.Seen.{request_as};
 ghost use Rattle.cluster_state.specs.Waiting.{settled_in};
 ghost use Rattle.cluster_state.specs.Fitting.{takes, fits, is_tied, tied};
 
 use crate::dependencies::{is_empty, settled_in};
 use crate::following::is_met_on;
 use crate::readiness::is_ready;
-use crate::request::Request;
 use crate::table::Table;
 use crate::task::Task;
 use crate::viability::{is_bound, is_excluded, is_target};
+use cluster_defs::request::WholeRequest;
 use cluster_types::message::Ids;
 use cluster_types::text::Text;
 use std::alloc::{AllocError, Global};
@@ -35,8 +34,8 @@ pub fn is_fitting(table: &Table, task: &Task, engine: u32) -> bool
 }
 
 /// Whether the targets of a request or the engines of what it follows tell where it may run.
-pub fn is_tied(request: &Request) -> bool
-    ensures { result ≡ is_tied (request_as request.now) }
+pub fn is_tied(request: &WholeRequest) -> bool
+    ensures { result ≡ is_tied request.now.request }
 {
     is_bound(request) || !is_empty(&request.follow.ids)
 }
@@ -62,8 +61,8 @@ fn finished_on(alloc: Global, table: &Table, ids: &Ids) -> Result<Vec<u32>, Allo
 }
 
 /// The targets of a request where it has any, and else the engines where what it follows finished.
-pub fn tied(alloc: Global, table: &Table, request: &Request) -> Result<Vec<u32>, AllocError>
-    ensures { IfOk result (λ v. v.items ≡ tied table.now (request_as request.now)) }
+pub fn tied(alloc: Global, table: &Table, request: &WholeRequest) -> Result<Vec<u32>, AllocError>
+    ensures { IfOk result (λ v. v.items ≡ tied table.now request.now.request) }
 {
     if is_bound(request) {
         request.targets.as_slice().iter().copied().collect(alloc)

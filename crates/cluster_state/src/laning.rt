@@ -6,17 +6,16 @@ ghost use Rattle.cluster_defs.specs.Requests.{Request as RequestFacts};
 ghost use Rattle.place_sets.specs.Lanes.{in_lane};
 ghost use Rattle.cluster_state.specs.Live.{lone};
 ghost use Rattle.cluster_state.specs.Fitting.{fits, hopeless, late, is_tied};
-ghost use Rattle.cluster_state.specs.Seen.{request_as};
 ghost use Rattle.cluster_state.specs.Marking.{StaysWhereFit, OthersStay, IsLaned, IsLanedOn, IsWatched, IsTimed, LanedAt, WatchedAt, TimedAt};
 
 use crate::fitting::{is_fitting, is_tied, tied};
 use crate::live::Live;
 use crate::readiness::is_ready;
-use crate::request::Request;
 use crate::standing::rests;
 use crate::table::Table;
 use crate::task::Task;
 use crate::viability::is_hopeless;
+use cluster_defs::request::WholeRequest;
 use dense_numbers::flags::has;
 use place_sets::lanes::Lanes;
 use std::alloc::AllocError;
@@ -161,8 +160,8 @@ pub fn is_watched(table: &Table, watches: &mut Lanes, ended: &[bool], place: usi
 }
 
 /// The moment from which on a request is past its timeout, in milliseconds; the last of 64 bits where that is later.
-fn deadline(request: &Request) -> u64
-    ensures { result ≡ min (request.now.accepted_at + 1000 * request.now.timeout) (2 ^ 64 - 1) }
+fn deadline(request: &WholeRequest) -> u64
+    ensures { result ≡ min (request.now.request.accepted_at + 1000 * request.now.request.timeout) (2 ^ 64 - 1) }
 {
     request
         .accepted_at

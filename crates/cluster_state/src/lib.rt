@@ -18,7 +18,6 @@ pub mod outcomes;
 pub mod purges;
 pub mod readiness;
 pub mod replies;
-pub mod request;
 pub mod ruling;
 pub mod settling;
 pub mod standing;

@@ -7,11 +7,10 @@ ghost use Rattle.cluster_types.specs.Limits.{last_moment};
 ghost use Rattle.message_defs.specs.Texts.{outcome_id, made_header, reply_type};
 ghost use Rattle.edges.specs.Date.{date_of};
 ghost use Rattle.cluster_defs.specs.Outcomes.{made_outcome};
-ghost use Rattle.cluster_state.specs.Seen.{request_as};
 ghost use Rattle.cluster_state.specs.Plain.{outcome_for};
 
-use crate::request::Request;
 use crate::task::Task;
+use cluster_defs::request::WholeRequest;
 use cluster_defs::settled::Settled;
 use cluster_types::message::Buffers;
 use cluster_types::octets::Octets;
@@ -68,10 +67,10 @@ fn made_outcome(
     alloc: Global,
     number: u64,
     settled: Settled,
-    request: &Request,
+    request: &WholeRequest,
 ) -> Result<SharedMessage, AllocError>
     requires { settled.moment ≤ last_moment }
-    ensures { IfOk result (λ m. m ≡ made_outcome number settled (request_as request.now)) }
+    ensures { IfOk result (λ m. m ≡ made_outcome number settled request.now.request) }
 {
     let value = cause_text(alloc, settled.cause, settled.engine)?;
     let header = outcome_header(alloc, number, &request.msg_type, settled.moment)?;

@@ -5,7 +5,6 @@ ghost use Rattle.cluster_defs.specs.Words.{is_number};
 ghost use Rattle.cluster_defs.specs.Tasks.{home, counts, ending};
 ghost use Rattle.cluster_defs.specs.Requests.{parts_of};
 ghost use Rattle.cluster_defs.specs.Facts.{is_direct_id};
-ghost use Rattle.cluster_state.specs.Seen.{attempts_as};
 ghost use Rattle.cluster_state.specs.Plain.{facts_in, replied_by};
 ghost use Rattle.cluster_state.specs.Stands.{plain};
 
@@ -38,7 +37,7 @@ fn is_home(live: &Registry, conn: u32, attempt: Attempt) -> bool
 
 /// Whether a reply on a connection is valid for a task with these attempts.
 fn counts(live: &Registry, conn: u32, header: &Text, attempts: &Attempts) -> bool
-    ensures { result ≡ counts live.now conn header.now (attempts_as attempts.now) }
+    ensures { result ≡ counts live.now conn header.now attempts.now }
 {
     is_home(live, conn, attempts.last) && !attempts.has_heard(header)
 }

@@ -3,13 +3,12 @@
 ghost use Rattle.std.specs.Prelude.{◌≡◌, Some, None, IfOk, OnOk};
 ghost use Rattle.std.specs.Option.{option_copied};
 ghost use Rattle.cluster_types.specs.declared.record.Record.{Record as RecordType};
-ghost use Rattle.cluster_defs.specs.Requests.{body_of};
-ghost use Rattle.cluster_state.specs.Seen.{request_as, attempts_as, begun, attempted, handed_to, ended_on, lost_all, replied_with, settled_with, purged_out, on_unsettled};
+ghost use Rattle.cluster_state.specs.Seen.{begun, attempted, handed_to, ended_on, lost_all, replied_with, settled_with, purged_out, on_unsettled};
 ghost use Rattle.cluster_state.specs.Places.{IsSame};
 
 use crate::attempts::{Attempts, engine_of, runs, runs_at};
-use crate::request::Request;
 use cluster_defs::attempt::Ending;
+use cluster_defs::request::WholeRequest;
 use cluster_defs::settled::Settled;
 use cluster_types::record::Record;
 use cluster_types::shared_message::SharedMessage;
@@ -22,7 +21,7 @@ use std::marker::Model;
 #[derive(Debug)]
 pub struct Task {
     row: Record,
-    request: Request,
+    request: WholeRequest,
     attempts: Attempts,
     reply: Option<SharedMessage>,
     settled: Option<Settled>,
@@ -47,20 +46,24 @@ impl Drop for Task {
 
 impl Model for Task {
     ghost use Rattle.std.specs.Prelude.{Some, option_map};
-    ghost use Rattle.cluster_defs.specs.Requests.{body_of};
-    ghost use Rattle.cluster_state.specs.Seen.{Seen, request_as, attempts_as};
+    ghost use Rattle.cluster_state.specs.Seen.{Seen};
 
     ghost Value = { Seen };
 
-    ghost view = { λ t. record { row = t.row; request = Some (request_as t.request); body = Some (body_of t.request.message); attempts = attempts_as t.attempts; reply = t.reply; settled = t.settled } };
+    ghost view = { λ t. record { row = t.row; request = Some t.request.request; body = Some t.request.body; attempts = t.attempts; reply = t.reply; settled = t.settled } };
 }
 
 impl Task {
     ghost use Rattle.std.specs.Prelude.{option_map};
 
     /// A task that was just accepted.
-    pub fn new(alloc: Global, id: &Text, number: u64, request: Request) -> Result<Task, AllocError>
-        ensures { IfOk result (λ t. t ≡ begun id.now number (request_as request) (body_of request.message)) }
+    pub fn new(
+        alloc: Global,
+        id: &Text,
+        number: u64,
+        request: WholeRequest,
+    ) -> Result<Task, AllocError>
+        ensures { IfOk result (λ t. t ≡ begun id.now number request.request request.body) }
     {
         Ok(Task {
             row: Record {
@@ -93,15 +96,15 @@ impl Task {
         &self.row.id
     }
 
-    pub fn request(&self) -> &Request
-        ensures value { self.now.request ≡ Some (request_as result.now) }
-        ensures body { self.now.body ≡ Some (body_of result.now.message) }
+    pub fn request(&self) -> &WholeRequest
+        ensures value { self.now.request ≡ Some result.now.request }
+        ensures body { self.now.body ≡ Some result.now.body }
     {
         &self.request
     }
 
     pub fn attempts(&self) -> &Attempts
-        ensures { self.now.attempts ≡ attempts_as result.now }
+        ensures { self.now.attempts ≡ result.now }
     {
         &self.attempts
     }

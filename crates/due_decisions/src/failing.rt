@@ -2,12 +2,11 @@
 
 ghost use Rattle.std.specs.Prelude.{◌≡◌, [], Some};
 ghost use Rattle.cluster_defs.specs.Scheduling.{failing, failing_as};
-ghost use Rattle.cluster_state.specs.Seen.{request_as, attempts_as};
 ghost use Rattle.due_decisions.specs.Table.{among, failing_in};
 
+use cluster_defs::request::WholeRequest;
 use cluster_state::attempts::Attempts;
 use cluster_state::live::Live;
-use cluster_state::request::Request;
 use cluster_state::standing::rests;
 use cluster_state::table::Table;
 use cluster_state::task::Task;
@@ -21,9 +20,9 @@ fn cause(
     engines: &Registry,
     now: u64,
     attempts: &Attempts,
-    request: &Request,
+    request: &WholeRequest,
 ) -> Option<Cause>
-    ensures { result ≡ failing (among table.now engines.now now (attempts_as attempts.now)) [] (request_as request.now) }
+    ensures { result ≡ failing (among table.now engines.now now attempts.now) [] request.now.request }
 {
     if request.invalid {
         Some(Cause::InvalidDependency)
@@ -42,9 +41,9 @@ fn failing_request(
     engines: &Registry,
     now: u64,
     attempts: &Attempts,
-    request: &Request,
+    request: &WholeRequest,
 ) -> Option<Cause>
-    ensures { result ≡ failing_as (among table.now engines.now now (attempts_as attempts.now)) [] (Some (request_as request.now)) }
+    ensures { result ≡ failing_as (among table.now engines.now now attempts.now) [] (Some request.now.request) }
 {
     if request.direct_to.is_some() {
         None

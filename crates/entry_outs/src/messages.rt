@@ -29,7 +29,7 @@ use cluster_types::shared_message::SharedMessage;
 use cluster_types::text::Text;
 use hub_queries::answer::ok_answer;
 use hub_queries::limits::{plain, refusal};
-use resubmission::answers::{purge_answer, refused_answer, renamed_answer};
+use hub_queries::resubmissions::{purge_answer, refused_answer, renamed_answer};
 use resubmission::plan::{Renamed, ResubmitRefusal};
 use resubmission::purge::PurgePlan;
 use std::alloc::{AllocError, Global};

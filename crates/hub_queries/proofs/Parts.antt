@@ -5,9 +5,12 @@ use Rattle.std.specs.Option.{option_to_list}
 use Rattle.std.proofs.lemmas.List.{take_more, map-append, length-map}
 use Rattle.std.proofs.lemmas.List.Concat.{flat_map-append}
 use Rattle.std.proofs.lemmas.List.Elements.{filter_map-append}
-use Rattle.message_defs.specs.Texts.{parted}
+use Rattle.message_defs.specs.Texts.{parted, text_member}
+use Rattle.cluster_defs.specs.Purges.{Copy}
 use Rattle.cluster_defs.specs.RecordAnswers.{lives_in}
 use Rattle.jupyter_header.specs.Comma.{comma}
+use Rattle.resubmission.specs.Plans.{copy_of, pair_of}
+use Rattle.resubmission.specs.declared.plan.Renaming.{Renaming}
 
 pub parted_more : (pieces : List (List ℕ)) (piece : List ℕ) → parted (pieces ++ piece ∷ []) ≡ parted pieces ++ (comma (length pieces) ++ piece)
 parted_more [] piece = append-nil piece
@@ -61,3 +64,8 @@ lives_map (e ∷ live) n = rw (lives_map live n) refl
 pub missing_same : (live : List (ℕ × List ℕ)) (targets : List ℕ)
     → find (λ n. not (list_any (λ m. nat_eq m n) (map (λ e. e.0) live))) targets ≡ find (λ n. not (lives_in live n)) targets
 missing_same live targets = λ i. find (λ n. not (lives_map live n i)) targets
+
+-- the members of a reply, off the copies
+pub members_of : (renamed : List Renaming) → map text_member (map (λ (c : Copy). (c.old, c.new)) (map copy_of renamed)) ≡ map (λ r. text_member (pair_of r)) renamed
+members_of [] = refl
+members_of (r ∷ renamed) = ap (λ z. text_member (pair_of r) ∷ z) (members_of renamed)

@@ -1,4 +1,4 @@
-//! Answers to questions about the cluster, off the records of all tasks and the live engines.
+//! Answers to questions about the cluster, off the records of all tasks and the live engines, and to purges and resubmissions.
 #![tactic(auto)]
 
 pub mod answer;
@@ -6,6 +6,7 @@ pub mod engines;
 pub mod lengths;
 pub mod limits;
 mod queues;
+pub mod resubmissions;
 mod results;
 mod rows;
 mod scan;

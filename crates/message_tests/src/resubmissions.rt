@@ -8,7 +8,7 @@ use cluster_types::sequence::Sequence;
 use cluster_types::shared_message::SharedMessage;
 use cluster_types::text::Text;
 use cluster_types::verdict::{Cause, Verdict};
-use resubmission::answers::{purge_answer, refused_answer, renamed_answer};
+use hub_queries::resubmissions::{purge_answer, refused_answer, renamed_answer};
 use resubmission::plan::{Renamed, ResubmitRefusal, plan};
 use resubmission::purge::{PurgePlan, plan_purge};
 use std::alloc::Global;

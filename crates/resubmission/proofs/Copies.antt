@@ -1,8 +1,6 @@
 -- One more copy.
-use Rattle.std.proofs.Common.{◌≡◌, ◌+◌, ℕ, List, [], ◌∷◌, ◌++◌, length, map, suc, refl, ap, ◌∙◌, arith}
-use Rattle.message_defs.specs.Texts.{resubmit_id, text_member}
-use Rattle.resubmission.specs.Plans.{copy_of, pair_of}
-use Rattle.resubmission.specs.declared.plan.Renaming.{Renaming}
+use Rattle.std.proofs.Common.{◌≡◌, ◌+◌, ℕ, List, [], ◌∷◌, ◌++◌, length, suc, ap, ◌∙◌, arith}
+use Rattle.message_defs.specs.Texts.{resubmit_id}
 use Rattle.cluster_defs.specs.Words.{Id}
 use Rattle.cluster_defs.specs.Purges.{Copy, copies_from}
 
@@ -14,8 +12,3 @@ copies_more number [] x = let same : number ≡ number + 0 = omega arith in ap (
 copies_more number (y ∷ xs) x =
     let same : (number + 1) + length xs ≡ number + suc (length xs) = omega arith in
     ap (λ z. copied y number ∷ z) (copies_more (number + 1) xs x ∙ ap (λ n. copies_from (number + 1) xs ++ copied x n ∷ []) same)
-
--- the members of a reply, off the copies
-pub members_of : (renamed : List Renaming) → map text_member (map (λ (c : Copy). (c.old, c.new)) (map copy_of renamed)) ≡ map (λ r. text_member (pair_of r)) renamed
-members_of [] = refl
-members_of (r ∷ renamed) = ap (λ z. text_member (pair_of r) ∷ z) (members_of renamed)

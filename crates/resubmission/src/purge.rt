@@ -4,7 +4,7 @@ ghost use Rattle.std.specs.Prelude.{◌≡◌, ◌++◌, ◌&&◌, not, is_some,
 ghost use Rattle.std.specs.Option.{option_copied};
 ghost use Rattle.cluster_defs.specs.RecordAnswers.{ids_where};
 ghost use Rattle.cluster_defs.specs.RecordPlans.{purge_list_in, purge_in};
-ghost use Rattle.hub_queries.specs.Kinds.{id_if};
+ghost use Rattle.task_lookup.specs.Wheres.{id_if};
 ghost use Rattle.resubmission.specs.Purging.{purging_of};
 
 use cluster_types::message::Ids;

@@ -4,8 +4,8 @@ ghost use Rattle.std.specs.Prelude.{◌≡◌, ◌<◌, length, None};
 ghost use Rattle.cluster_defs.specs.Scheduling.{pick};
 
 use cluster_defs::engine::Engine;
+use cluster_defs::request::WholeRequest;
 use cluster_defs::settled::Settled;
-use cluster_state::request::Request;
 use cluster_state::state::State;
 use cluster_state::task::Task;
 use cluster_state::tasks::Tasks;
@@ -60,8 +60,8 @@ fn message<R: Abort>(rt: &R, alloc: Global) -> SharedMessage {
 }
 
 /// A Submit with these dependencies, accepted at moment 1000.
-fn request<R: Abort>(rt: &R, alloc: Global, after: Dep, follow: Dep) -> Request {
-    Request {
+fn request<R: Abort>(rt: &R, alloc: Global, after: Dep, follow: Dep) -> WholeRequest {
+    WholeRequest {
         owner: None,
         direct_to: None,
         message: message(rt, alloc),
@@ -80,44 +80,44 @@ fn request<R: Abort>(rt: &R, alloc: Global, after: Dep, follow: Dep) -> Request 
 }
 
 /// A Submit that waits for nothing.
-fn plain<R: Abort>(rt: &R, alloc: Global) -> Request {
+fn plain<R: Abort>(rt: &R, alloc: Global) -> WholeRequest {
     request(rt, alloc, dep(alloc, false), dep(alloc, false))
 }
 
 /// A Submit that waits for `x` and `y`.
-fn after_both<R: Abort>(rt: &R, alloc: Global, failure: bool) -> Request {
+fn after_both<R: Abort>(rt: &R, alloc: Global, failure: bool) -> WholeRequest {
     let after = on_both(rt, alloc, failure);
     request(rt, alloc, after, dep(alloc, false))
 }
 
 /// A Submit that follows `x` and `y`.
-fn follows_both<R: Abort>(rt: &R, alloc: Global) -> Request {
+fn follows_both<R: Abort>(rt: &R, alloc: Global) -> WholeRequest {
     let follow = on_both(rt, alloc, false);
     request(rt, alloc, dep(alloc, false), follow)
 }
 
-fn invalid<R: Abort>(rt: &R, alloc: Global) -> Request {
+fn invalid<R: Abort>(rt: &R, alloc: Global) -> WholeRequest {
     let mut request = plain(rt, alloc);
     request.invalid = true;
     request
 }
 
 /// A Submit that waits for five seconds at most.
-fn impatient<R: Abort>(rt: &R, alloc: Global) -> Request {
+fn impatient<R: Abort>(rt: &R, alloc: Global) -> WholeRequest {
     let mut request = plain(rt, alloc);
     request.timeout = 5;
     request
 }
 
 /// A direct request to engine 0.
-fn direct<R: Abort>(rt: &R, alloc: Global) -> Request {
+fn direct<R: Abort>(rt: &R, alloc: Global) -> WholeRequest {
     let mut request = plain(rt, alloc);
     request.direct_to = Some(0);
     request
 }
 
 /// A task that was just accepted.
-fn task_of<R: Abort>(rt: &R, alloc: Global, id: &Text, request: Request) -> Task
+fn task_of<R: Abort>(rt: &R, alloc: Global, id: &Text, request: WholeRequest) -> Task
     ensures { result.settled ≡ None }
 {
     Task::new(alloc, id, 1, request).expect(rt, "memory is ample")
@@ -130,7 +130,7 @@ fn push<R: Abort>(rt: &R, tasks: &mut Tasks, task: Task)
 }
 
 /// Adds a task with a request.
-fn add<R: Abort>(rt: &R, alloc: Global, tasks: &mut Tasks, id: &str, request: Request) {
+fn add<R: Abort>(rt: &R, alloc: Global, tasks: &mut Tasks, id: &str, request: WholeRequest) {
     let id = text(rt, alloc, id);
     push(rt, tasks, task_of(rt, alloc, &id, request));
 }
@@ -188,7 +188,7 @@ fn finish_both<R: Abort>(rt: &R, alloc: Global, tasks: &mut Tasks, last: Verdict
 }
 
 /// The same with `x` completed on engine 0, `y` settled on engine 1, and `a`.
-fn with_both<R: Abort>(rt: &R, alloc: Global, last: Verdict, request: Request) -> State {
+fn with_both<R: Abort>(rt: &R, alloc: Global, last: Verdict, request: WholeRequest) -> State {
     let mut state = two_engines(rt, alloc);
     finish_both(rt, alloc, &mut state.tasks, last);
     add(rt, alloc, &mut state.tasks, "a", request);
@@ -222,7 +222,7 @@ fn with_many<R: Abort>(rt: &R, alloc: Global) -> State {
 }
 
 /// A cluster without engines, where `a` waits at a moment.
-fn with_one<R: Abort>(rt: &R, alloc: Global, clock: u64, request: Request) -> State {
+fn with_one<R: Abort>(rt: &R, alloc: Global, clock: u64, request: WholeRequest) -> State {
     let mut state = State::new(alloc);
     state.clock = clock;
     add(rt, alloc, &mut state.tasks, "a", request);
@@ -354,7 +354,7 @@ fn a_thousand_tasks_run_on_an_engine(rt: HostRuntime) {
 }
 
 /// A Submit whose targets are the engines 0 and 1, with a timeout of five seconds.
-fn bound<R: Abort>(rt: &R, alloc: Global) -> Request {
+fn bound<R: Abort>(rt: &R, alloc: Global) -> WholeRequest {
     let mut request = impatient(rt, alloc);
     let uuid = text(rt, alloc, "e");
     request.listed.push(uuid).expect(rt, "memory is ample");

@@ -1,2 +1,3 @@
 pub mod Onces
 pub mod Pushes
+pub mod Wheres

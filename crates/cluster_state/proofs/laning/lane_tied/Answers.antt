@@ -1,5 +1,4 @@
 use Rattle.std.proofs.Common.{◌≡◌, ap, subst, sym, ◌∙◌, Some}
-use Rattle.cluster_state.specs.Seen.{request_as}
 use Rattle.cluster_state.specs.Fitting.{tied}
 use Rattle.cluster_state.specs.Marking.{IsLanedOn}
 use Rattle.cluster_state.proofs.Watching.{up_ok, laned_tied}
@@ -11,7 +10,7 @@ returns-clause-there c = λ r is some.
     let t = c.args.task.now in
     let place = c.args.place in
     let lanes = c.lane_on_each.new.lanes in
-    let same : Some (request_as c.request.result.now) ≡ Some r = sym c.request.ensures.value ∙ is in
-    let said : request_as c.request.result.now ≡ r = cc in
+    let same : Some c.request.result.now.request ≡ Some r = sym c.request.ensures.value ∙ is in
+    let said : c.request.result.now.request ≡ r = cc in
     up_ok c.lane_on_each.result
     (λ laned. laned_tied ts t place r lanes is some (subst (λ es. IsLanedOn es ts t place lanes) (c.deref.ensures.value ∙ c.in_ok-engines.ensures ∙ ap (tied ts) said) laned)) c.lane_on_each.ensures.there

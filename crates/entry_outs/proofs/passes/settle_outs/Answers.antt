@@ -3,7 +3,7 @@ use Rattle.std.specs.Option.{option_copied, option_and_then}
 use Rattle.cluster_defs.specs.declared.connection.Connection.{Connection}
 use Rattle.cluster_defs.specs.Connections.{reached}
 use Rattle.cluster_state.specs.declared.settling.Settling.{Settling}
-use Rattle.cluster_state.specs.Seen.{request_as, seen_in}
+use Rattle.cluster_state.specs.Seen.{seen_in}
 use Rattle.cluster_state.specs.Settling.{IsSettling}
 use Rattle.cluster_state.specs.Stands.{plain}
 use Rattle.entry_outs.proofs.Telling.{settle_sends, settling_outcome}
@@ -14,7 +14,7 @@ returns c = λ v k is.
     let p = plain c.args.state.now in
     let id = c.args.id.now in
     let t = c.in-Some-find.task.now in
-    let request = request_as c.request.result.now in
+    let request = c.request.result.now.request in
     let here = sym c.find.ensures ∙ ap option_copied c.in-Some-find.is in
     let settling = subst (λ (o : Option Settling). IsSettling v k p.moment (seen_in p.tasks id) o) c.in-Some.is is in
     c.in_ok-outs.ensures

@@ -1,9 +1,11 @@
 use Rattle.std.proofs.Common.{◌≡◌, ◌<◌, ◌+◌, ◌^◌, ◌++◌, length, take, Bool, arith, sym, ap, ◌∙◌, length-take-le}
 use Rattle.cluster_types.specs.declared.record.Record.{Record}
 use Rattle.cluster_defs.specs.RecordAnswers.{ids_where}
-use Rattle.hub_queries.specs.Kinds.{is_kind, id_if}
+use Rattle.hub_queries.specs.Kinds.{is_kind}
+use Rattle.task_lookup.specs.Wheres.{id_if}
+use Rattle.task_lookup.proofs.Wheres.{where_more}
 use Rattle.hub_queries.specs.Tallies.{tallied}
-use Rattle.hub_queries.proofs.Wheres.{where_more, where_short}
+use Rattle.hub_queries.proofs.Wheres.{where_short}
 use Rattle.hub_queries.proofs.scan.tally_of.Goals as goal
 
 pub loop-place-preserved : goal.loop-place-preserved

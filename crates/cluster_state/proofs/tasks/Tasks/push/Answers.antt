@@ -1,6 +1,5 @@
 use Rattle.std.proofs.Common.{◌≡◌, true, subst, sym, length}
 use Rattle.cluster_defs.specs.Words.{Id}
-use Rattle.cluster_state.specs.Seen.{request_as}
 use Rattle.cluster_state.specs.Waiting.{awaits, is_among, Indexed}
 use Rattle.task_graph.specs.Listing.{waiting_for}
 use Rattle.cluster_state.proofs.Waiting.{indexed_grown, indexed_more, noted_both}
@@ -15,7 +14,7 @@ invariant_of-self-2 c =
     let waits = c.note_waits-2.new.waiters in
     let noted : (id : Id) → awaits id t ≡ true → is_among (length ts) (waiting_for waits id) ≡ true =
     λ id on. subst (λ n. is_among n (waiting_for waits id) ≡ true) c.len-place.ensures
-    (noted_both id t.request (request_as c.request.result.now) (request_as c.request-2.result.now) c.len-place.result c.note_waits.new.waiters waits c.request.ensures.value c.request-2.ensures.value
+    (noted_both id t.request c.request.result.now.request c.request-2.result.now.request c.len-place.result c.note_waits.new.waiters waits c.request.ensures.value c.request-2.ensures.value
     c.in_ok-note_waits.ensures.there c.in_ok-note_waits-2.ensures.there c.note_waits-2.ensures.grow on) in
     let grown : Indexed ts waits = indexed_grown ts c.note_waits.new.waiters waits (indexed_grown ts c.self.inside.waiters c.note_waits.new.waiters c.self.invariant.indexed c.note_waits.ensures.grow) c.note_waits-2.ensures.grow in
     record {

@@ -4,7 +4,7 @@ use Rattle.jupyter_header.specs.Comma.{comma}
 use Rattle.hub_queries.proofs.Parts.{members_more}
 use Rattle.resubmission.specs.Plans.{pair_of}
 use Rattle.resubmission.specs.declared.plan.Renaming.{Renaming}
-use Rattle.resubmission.proofs.answers.push_renamed.Goals as goal
+use Rattle.hub_queries.proofs.resubmissions.push_renamed.Goals as goal
 
 pub loop-place-preserved : goal.loop-place-preserved
 loop-place-preserved c =

@@ -8,16 +8,16 @@ ghost use Rattle.jupyter_header.specs.Comma.{comma};
 ghost use Rattle.resubmission.specs.Plans.{copy_of, pair_of, refusal_of};
 ghost use Rattle.resubmission.specs.Purging.{purging_of};
 
-use crate::plan::{Renamed, Renaming, ResubmitRefusal};
-use crate::purge::PurgePlan;
+use crate::answer::ok_answer;
+use crate::limits::{limited, plain, refusal};
 use cluster_defs::answer::Answer;
 use cluster_types::config::Channel;
 use cluster_types::octets::Octets;
 use cluster_types::sequence::Sequence;
-use hub_queries::answer::ok_answer;
-use hub_queries::limits::{limited, plain, refusal};
 use jupyter_header::contents::push_comma;
 use jupyter_header::write::quoted;
+use resubmission::plan::{Renamed, Renaming, ResubmitRefusal};
+use resubmission::purge::PurgePlan;
 use std::alloc::{AllocError, Global};
 
 /// The answer to a purge, whatever its length.

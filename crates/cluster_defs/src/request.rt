@@ -1,14 +1,16 @@
 //! Requests that were accepted.
 
-use cluster_defs::connection::Owner;
+use crate::connection::Owner;
 use cluster_types::event::Dep;
 use cluster_types::message::{Engines, Ids};
 use cluster_types::shared_message::SharedMessage;
 use cluster_types::text::Text;
+use std::marker::Model;
 
-/// What an accepted request says, and its message, which is passed on.
+/// An accepted request, which contracts see as what it says and what it passes on unread: both lie in its message, in
+/// one block.
 #[derive(Clone, Debug)]
-pub struct Request {
+pub struct WholeRequest {
     pub owner: Option<Owner>,
     /// Of a direct request its engine, of any other none.
     pub direct_to: Option<u32>,
@@ -32,10 +34,18 @@ pub struct Request {
     pub invalid: bool,
 }
 
+impl Model for WholeRequest {
+    ghost use Rattle.cluster_defs.specs.Requests.{WholeRequest, body_of};
+
+    ghost Value = { WholeRequest };
+
+    ghost view = { λ r. record { request = record { owner = r.owner; direct_to = r.direct_to; target = r.message.target; msg_type = r.msg_type; session = r.session; username = r.username; header = r.message.header; parent = r.message.parent; metadata = r.message.metadata; after = r.after; follow = r.follow; listed = r.listed; targets = r.targets; accepted_at = r.accepted_at; timeout = r.timeout; retries = r.retries; invalid = r.invalid }; body = body_of r.message } };
+}
+
 // Written out, so that what lets one go is proved over one call, and not case by case.
-impl Drop for Request {
+impl Drop for WholeRequest {
     fn drop(self) {
-        let Request {
+        let WholeRequest {
             owner,
             direct_to: _,
             message,

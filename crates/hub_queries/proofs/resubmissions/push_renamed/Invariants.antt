@@ -1,7 +1,7 @@
 use Rattle.std.proofs.Common.{◌≡◌, ◌++◌, map, take, string_bytes}
 use Rattle.message_defs.specs.Texts.{parted, text_member}
 use Rattle.resubmission.specs.Plans.{pair_of}
-use Rattle.resubmission.proofs.answers.push_renamed.Given as goal
+use Rattle.hub_queries.proofs.resubmissions.push_renamed.Given as goal
 
 abbrev pub invariant-loop-place : goal.invariant-loop-place
 invariant-loop-place l = string_bytes l.text ≡ string_bytes l.fn.text ++ parted (map (λ r. text_member (pair_of r)) (take l.place l.renamed))

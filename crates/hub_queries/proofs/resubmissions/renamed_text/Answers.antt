@@ -1,7 +1,7 @@
 use Rattle.std.proofs.Common.{refl}
 use Rattle.message_defs.specs.Texts.{resubmit_content}
-use Rattle.resubmission.proofs.Copies.{members_of}
-use Rattle.resubmission.proofs.answers.renamed_text.Goals as goal
+use Rattle.hub_queries.proofs.Parts.{members_of}
+use Rattle.hub_queries.proofs.resubmissions.renamed_text.Goals as goal
 
 pub returns : goal.returns
 unfolding resubmit_content
