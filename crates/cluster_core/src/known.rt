@@ -22,7 +22,6 @@ use crate::taken::{Taken, take_entry};
 use cluster_intake::fault::IntakeError;
 use cluster_intake::understand;
 use cluster_state::acceptance::connection_on;
-use cluster_state::attempts::one_more;
 use cluster_state::state::State;
 use cluster_types::config::Channel;
 use cluster_types::entry::{Entry, Input};
@@ -31,6 +30,7 @@ use cluster_types::shared_message::SharedMessage;
 use entry_outs::rulings::ruling;
 use json::Scratch;
 use std::alloc::{AllocError, Global};
+use task_table::attempts::one_more;
 
 /// What a message means on a channel.
 fn understood(

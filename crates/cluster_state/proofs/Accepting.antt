@@ -4,7 +4,7 @@ use Rattle.cluster_types.specs.declared.message.Message.{Message}
 use Rattle.cluster_defs.specs.declared.acceptance.Acceptance.TheVariants.{Again}
 use Rattle.cluster_defs.specs.Words.{begins_with}
 use Rattle.cluster_defs.specs.Acceptance.{Demand, acceptance, acceptance_new, is_same, reserved_front}
-use Rattle.cluster_state.specs.Seen.{Seen, seen_in}
+use Rattle.task_table.specs.Seen.{Seen, seen_in}
 use Rattle.cluster_state.specs.Plain.{Plain, facts_in}
 use Rattle.cluster_state.proofs.Known.{known_is}
 

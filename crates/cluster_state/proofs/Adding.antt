@@ -20,7 +20,7 @@ use Rattle.cluster_defs.proofs.Options.{or_else-None, id_self}
 use Rattle.cluster_laws.proofs.Closed.{closed, requested, Requested}
 use Rattle.cluster_laws.proofs.Held.{bodied, Bodied}
 use Rattle.cluster_laws.proofs.Numbers.{accepted_says}
-use Rattle.cluster_state.specs.Seen.{begun}
+use Rattle.task_table.specs.Seen.{begun}
 use Rattle.cluster_state.specs.Plain.{look, plain_of, told, noted, accepted_by}
 use Rattle.cluster_state.proofs.Lists.{map_listed}
 use Rattle.cluster_state.proofs.Pieces.{look_is}

@@ -19,7 +19,7 @@ use Rattle.cluster_defs.proofs.Options.{none_from, or_else-None, id_self}
 use Rattle.cluster_defs.proofs.Says.{due_says}
 use Rattle.cluster_laws.proofs.Apart.{known_once}
 use Rattle.cluster_laws.proofs.Closed.{closed, Closed}
-use Rattle.cluster_state.specs.Seen.{Seen, attempted, handed_to, ended_on, changed, on_unsettled}
+use Rattle.task_table.specs.Seen.{Seen, attempted, handed_to, ended_on, changed, on_unsettled}
 use Rattle.cluster_state.specs.Plain.{look, plain_of, handed_out, settled_at, settled_out, engine_ended}
 use Rattle.cluster_state.proofs.Lists.{changed_one, map_all, map_twice}
 use Rattle.cluster_state.proofs.Pieces.{seen_from, look_is}

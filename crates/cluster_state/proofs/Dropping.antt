@@ -14,7 +14,7 @@ use Rattle.cluster_defs.specs.Steps.{step, changes}
 use Rattle.cluster_defs.specs.Histories.{History, facts}
 use Rattle.cluster_defs.proofs.Options.{or_else-None, id_self}
 use Rattle.cluster_laws.proofs.Apart.{known_once}
-use Rattle.cluster_state.specs.Seen.{purged_out, changed}
+use Rattle.task_table.specs.Seen.{purged_out, changed}
 use Rattle.cluster_state.specs.Plain.{look, plain_of, told, noted, purged_tasks, dropped_by}
 use Rattle.cluster_state.proofs.Lists.{changed_one, map_all}
 use Rattle.cluster_state.proofs.Pieces.{seen_from, look_is}

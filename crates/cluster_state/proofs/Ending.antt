@@ -5,7 +5,7 @@ use Rattle.cluster_types.specs.declared.verdict.Cause.{Cause}
 use Rattle.cluster_defs.specs.Words.{Id}
 use Rattle.cluster_defs.specs.Tasks.{settled_as}
 use Rattle.cluster_state.specs.declared.settling.Settling.{Settling}
-use Rattle.cluster_state.specs.Seen.{Seen, settled_with, seen_in, changed}
+use Rattle.task_table.specs.Seen.{Seen, settled_with, seen_in, changed}
 use Rattle.cluster_state.specs.Plain.{settled_at}
 use Rattle.cluster_state.specs.Settling.{IsSettling}
 

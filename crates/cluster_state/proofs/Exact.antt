@@ -8,7 +8,7 @@ use Rattle.cluster_defs.specs.Facts.{Facts}
 use Rattle.cluster_defs.specs.Histories.{History, facts, Legal}
 use Rattle.cluster_defs.proofs.Options.{none_from, same_id}
 use Rattle.cluster_laws.proofs.Closed.{closed, Closed}
-use Rattle.cluster_state.specs.Seen.{Seen, seen_in}
+use Rattle.task_table.specs.Seen.{Seen, seen_in}
 use Rattle.cluster_state.specs.Plain.{look, plain_of, facts_in}
 use Rattle.cluster_state.proofs.Blank.{blank}
 

@@ -16,7 +16,7 @@ use Rattle.cluster_defs.specs.Steps.{step}
 use Rattle.cluster_defs.specs.Histories.{History, facts, Legal}
 use Rattle.cluster_defs.specs.Outcomes.{number_of}
 use Rattle.cluster_laws.proofs.Closed.{closed, Closed}
-use Rattle.cluster_state.specs.Seen.{Seen, attempted, ended_on, lost_all, on_unsettled}
+use Rattle.task_table.specs.Seen.{Seen, attempted, ended_on, lost_all, on_unsettled}
 use Rattle.cluster_state.specs.Plain.{look, plain_of, opened, input_at, came_up, went_down, tasks_ended, engine_ended, beaten, passed}
 use Rattle.cluster_state.proofs.Lists.{map_all, map_twice}
 use Rattle.cluster_state.proofs.Pieces.{seen_from, look_is}

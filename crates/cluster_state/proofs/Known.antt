@@ -5,7 +5,7 @@ use Rattle.std.proofs.lemmas.List.{drop_more, drop_all}
 use Rattle.std.specs.Prelude.{is_some}
 use Rattle.std.specs.Option.{option_copied}
 use Rattle.cluster_defs.specs.Words.{Id, is_listed, same_lists}
-use Rattle.cluster_state.specs.Seen.{Seen, seen_in}
+use Rattle.task_table.specs.Seen.{Seen, seen_in}
 
 -- an id is known where a task of it is there
 pub known_is : (id : Id) (ts : List Seen) → is_listed id (map (λ t. t.row.id) ts) ≡ is_some (seen_in ts id)

@@ -1,12 +1,11 @@
 -- Lists of what is seen, where one id or all of them change.
-use Rattle.std.proofs.Common.{◌≡◌, suc, length, arith, List, [], ◌∷◌, map, Bool, true, false, cond, ◌||◌, refl, sym, ap, subst, bytes_eq}
-use Rattle.std.proofs.lemmas.Bool.{false_from_ne_true, both_ways, ne_eqb}
-use Rattle.std.specs.Prelude.{◌==◌}
-use Rattle.cluster_defs.specs.Words.{Id, is_empty, is_listed}
+use Rattle.std.proofs.Common.{◌≡◌, List, [], ◌∷◌, map, Bool, true, false, cond, ◌||◌, refl, sym, ap, subst, bytes_eq}
+use Rattle.std.proofs.lemmas.Bool.{false_from_ne_true, both_ways}
+use Rattle.cluster_defs.specs.Words.{Id, is_listed}
 use Rattle.cluster_defs.specs.Facts.{Facts}
 use Rattle.cluster_defs.specs.Laws.{EachOnce}
 use Rattle.cluster_defs.proofs.Options.{same_id, id_self}
-use Rattle.cluster_state.specs.Seen.{Seen, changed}
+use Rattle.task_table.specs.Seen.{Seen, changed}
 use Rattle.cluster_state.specs.Plain.{look}
 
 pub turned : (i j : Id) → bytes_eq i j ≡ false → bytes_eq j i ≡ false
@@ -52,7 +51,3 @@ changed_one f g change id (i ∷ ids) once same here =
           rw (head, rest) refl
       | false ↦ λ off. rw (same i (turned i id off), changed_one f g change id ids once.1 same here) refl
     ] refl
-
-pub none_listed : {X : Type 0} (xs : List X) → (length xs == 0) ≡ is_empty xs
-none_listed [] = refl
-none_listed (x ∷ xs) = ne_eqb (suc (length xs)) 0 (λ e. omega arith)

@@ -20,7 +20,7 @@ use Rattle.cluster_defs.specs.Outcomes.{number_of}
 use Rattle.cluster_defs.proofs.Options.{same_id, id_self}
 use Rattle.cluster_laws.proofs.Closed.{closed}
 use Rattle.cluster_laws.proofs.Copies.{Copied, AllCopied, all_copied}
-use Rattle.cluster_state.specs.Seen.{begun, seen_in}
+use Rattle.task_table.specs.Seen.{begun, seen_in}
 use Rattle.cluster_state.specs.Plain.{look, plain_of, told, noted, copy_of, copies_in, copied_out}
 use Rattle.cluster_state.proofs.Lists.{map_listed, turned}
 use Rattle.cluster_state.proofs.Pieces.{look_is}

@@ -11,7 +11,7 @@ use Rattle.cluster_defs.specs.Tasks.{Task, engine_of, runs}
 use Rattle.cluster_defs.specs.Requests.{Request, Body, is_direct}
 use Rattle.cluster_defs.specs.Facts.{Facts, is_direct_id}
 use Rattle.cluster_defs.specs.Outcomes.{number_of, made_outcome, outcome_by}
-use Rattle.cluster_state.specs.Seen.{Seen}
+use Rattle.task_table.specs.Seen.{Seen}
 use Rattle.cluster_state.specs.Plain.{look}
 
 abbrev pub outcome_with : ℕ → Option Request → Option Message → Settled → Cause → Option Message

@@ -20,7 +20,7 @@ use Rattle.cluster_defs.specs.Steps.{step, changes, engines_in, with_joined, rep
 use Rattle.cluster_defs.specs.Outcomes.{number_of}
 use Rattle.cluster_defs.proofs.Options.{or_else-None, none_from, same_id, id_self}
 use Rattle.cluster_laws.proofs.Closed.{Closed, home_idle}
-use Rattle.cluster_state.specs.Seen.{replied_with, changed}
+use Rattle.task_table.specs.Seen.{replied_with, changed}
 use Rattle.cluster_state.specs.Plain.{Plain, look, plain_of, told, noted, engine_ended, joined_by, echoed_by, replied_by}
 use Rattle.cluster_state.proofs.Lists.{changed_one, map_all}
 use Rattle.cluster_state.proofs.Pieces.{seen_from, look_is}

@@ -1,13 +1,4 @@
-pub mod Fitting
-pub mod Live
-pub mod Loading
-pub mod Marking
-pub mod Places
 pub mod Plain
 pub mod Ruled
-pub mod Seen
 pub mod Settling
-pub mod Standing
 pub mod Stands
-pub mod Tallying
-pub mod Waiting

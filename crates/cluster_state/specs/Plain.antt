@@ -28,7 +28,7 @@ use Rattle.cluster_defs.specs.Purges.{Copy, purged_by, copied_by, resubmitted}
 use Rattle.cluster_defs.specs.Steps.{changes, moved, next_word}
 use Rattle.cluster_defs.specs.Outcomes.{made_outcome}
 use Rattle.cluster_defs.specs.TaskRecords.{record_of}
-use Rattle.cluster_state.specs.Seen.{Seen, begun as begun_task, handed_to, ended_on, lost_all, replied_with, settled_with, purged_out, seen_in, changed, on_unsettled}
+use Rattle.task_table.specs.Seen.{Seen, begun as begun_task, handed_to, ended_on, lost_all, replied_with, settled_with, purged_out, seen_in, changed, on_unsettled}
 
 pub record Plain : Type 0 where
   pub begun : Bool

@@ -20,7 +20,7 @@ use Rattle.resubmission.specs.Purging.{purging_of}
 use Rattle.cluster_state.specs.declared.settling.Settling.{Settling}
 use Rattle.cluster_state.specs.declared.ruling.Ruling.{Ruling}
 use Rattle.cluster_state.specs.declared.ruling.Ruling.TheVariants.{Demand, Join, Leave, Purge, Resubmit, Settle, Other}
-use Rattle.cluster_state.specs.Seen.{Seen, seen_in}
+use Rattle.task_table.specs.Seen.{Seen, seen_in}
 use Rattle.cluster_state.specs.Plain.{Plain, facts_in}
 use Rattle.cluster_state.specs.Settling.{IsSettling}
 

@@ -4,7 +4,7 @@ use Rattle.cluster_types.specs.declared.verdict.Verdict.{Verdict}
 use Rattle.cluster_types.specs.declared.verdict.Cause.{Cause}
 use Rattle.cluster_defs.specs.Tasks.{settled_as}
 use Rattle.cluster_state.specs.declared.settling.Settling.{Settling}
-use Rattle.cluster_state.specs.Seen.{Seen}
+use Rattle.task_table.specs.Seen.{Seen}
 use Rattle.cluster_state.specs.Plain.{outcome_for}
 
 -- as its verdict, its cause and its last attempt say, with the outcome that it gets; a task that isn't there isn't

@@ -12,14 +12,11 @@ ghost use Rattle.cluster_defs.specs.Connections.{connection_on, peer_on};
 ghost use Rattle.cluster_defs.specs.Engines.{engine_named};
 ghost use Rattle.cluster_defs.specs.Requests.{targets_of, is_invalid, body_of};
 ghost use Rattle.cluster_defs.specs.Acceptance.{Demand, acceptance, acceptance_new, is_same, is_accepted, accepted_as, no_dependency, request_plain, request_submit, request_direct, request_made, reserved_front};
-ghost use Rattle.cluster_state.specs.Seen.{Seen, begun};
+ghost use Rattle.task_table.specs.Seen.{Seen, begun};
 ghost use Rattle.cluster_state.specs.Plain.{facts_in, accepted_by};
 ghost use Rattle.cluster_state.specs.Stands.{plain};
 
-use crate::attempts::one_more;
 use crate::state::State;
-use crate::task::Task;
-use crate::tasks::Tasks;
 use cluster_defs::acceptance::Acceptance;
 use cluster_defs::connection::{Connection, Owner};
 use cluster_defs::engine::Engine;
@@ -32,6 +29,9 @@ use cluster_types::shared_message::SharedMessage;
 use cluster_types::text::Text;
 use std::alloc::{AllocError, Global};
 use std::collections::BTreeMap;
+use task_table::attempts::one_more;
+use task_table::task::Task;
+use task_table::tasks::Tasks;
 
 /// The live connection of a number.
 pub fn connection_on(live: &[Connection], conn: u32) -> Option<&Connection>

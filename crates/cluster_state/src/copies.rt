@@ -6,16 +6,13 @@ ghost use Rattle.cluster_defs.specs.Purges.{resubmitted};
 ghost use Rattle.message_defs.specs.Texts.{resubmit_header};
 ghost use Rattle.edges.specs.Date.{date_of};
 ghost use Rattle.resubmission.specs.Plans.{copy_of as renaming};
-ghost use Rattle.cluster_state.specs.Seen.{begun, seen_in, all_open};
+ghost use Rattle.task_table.specs.Seen.{begun, seen_in, all_open};
 ghost use Rattle.cluster_state.specs.Plain.{facts_in, copy_of, copies_in, copied_out};
 ghost use Rattle.cluster_state.specs.Ruled.{copies_planned};
 ghost use Rattle.cluster_state.specs.Stands.{plain};
 
 use crate::acceptance::{is_invalid, targets_of};
-use crate::attempts::one_more;
 use crate::state::State;
-use crate::task::Task;
-use crate::tasks::Tasks;
 use cluster_defs::request::WholeRequest;
 use cluster_types::octets::Octets;
 use cluster_types::text::Text;
@@ -23,6 +20,9 @@ use edges::date::{Moment, date_text};
 use jupyter_header::write::resubmit_header;
 use resubmission::plan::{Renamed, Renaming, ResubmitRefusal};
 use std::alloc::{AllocError, Global};
+use task_table::attempts::one_more;
+use task_table::task::Task;
+use task_table::tasks::Tasks;
 
 /// The header of a copy.
 fn copy_header(

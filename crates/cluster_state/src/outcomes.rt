@@ -9,7 +9,6 @@ ghost use Rattle.edges.specs.Date.{date_of};
 ghost use Rattle.cluster_defs.specs.Outcomes.{made_outcome};
 ghost use Rattle.cluster_state.specs.Plain.{outcome_for};
 
-use crate::task::Task;
 use cluster_defs::request::WholeRequest;
 use cluster_defs::settled::Settled;
 use cluster_types::message::Buffers;
@@ -22,6 +21,7 @@ use jupyter_header::contents::{empty_object, outcome_content};
 use jupyter_header::kinds::reply_type;
 use jupyter_header::write::made_header;
 use std::alloc::{AllocError, Global};
+use task_table::task::Task;
 
 /// The id of an outcome that the controller makes, by the number of the task.
 #[tactic(auto, unfolding(message_defs::specs::Texts::outcome_id))]

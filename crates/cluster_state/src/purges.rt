@@ -7,10 +7,10 @@ ghost use Rattle.cluster_state.specs.Plain.{purged_tasks, dropped_by};
 ghost use Rattle.cluster_state.specs.Stands.{plain};
 
 use crate::state::State;
-use crate::tasks::Tasks;
 use cluster_types::text::Text;
 use resubmission::purge::PurgePlan;
 use std::alloc::AllocError;
+use task_table::tasks::Tasks;
 
 /// Purges tasks one after another.
 fn purge_each(tasks: &mut Tasks, ids: &[Text]) -> Result<(), AllocError>

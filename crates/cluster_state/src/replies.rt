@@ -8,13 +8,13 @@ ghost use Rattle.cluster_defs.specs.Facts.{is_direct_id};
 ghost use Rattle.cluster_state.specs.Plain.{facts_in, replied_by};
 ghost use Rattle.cluster_state.specs.Stands.{plain};
 
-use crate::attempts::Attempts;
 use crate::state::State;
 use cluster_defs::attempt::{Attempt, Ending};
 use cluster_types::shared_message::SharedMessage;
 use cluster_types::text::Text;
 use engine_registry::registry::Registry;
 use std::alloc::AllocError;
+use task_table::attempts::Attempts;
 
 /// The connection of the engine of a current attempt.
 fn home(live: &Registry, attempt: Attempt) -> Option<u32>

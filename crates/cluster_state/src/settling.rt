@@ -2,12 +2,11 @@
 
 ghost use Rattle.std.specs.Prelude.{◌≡◌, ◌≤◌, IfOk, OnOk};
 ghost use Rattle.cluster_types.specs.Limits.{last_moment};
-ghost use Rattle.cluster_state.specs.Seen.{seen_in};
+ghost use Rattle.task_table.specs.Seen.{seen_in};
 ghost use Rattle.cluster_state.specs.Plain.{settled_out};
 ghost use Rattle.cluster_state.specs.Stands.{plain};
 ghost use Rattle.cluster_state.specs.Settling.{IsSettling};
 
-use crate::attempts::engine_of;
 use crate::outcomes::outcome_for;
 use crate::state::State;
 use cluster_defs::settled::Settled;
@@ -15,6 +14,7 @@ use cluster_types::shared_message::SharedMessage;
 use cluster_types::text::Text;
 use cluster_types::verdict::{Cause, Verdict};
 use std::alloc::AllocError;
+use task_table::attempts::engine_of;
 
 /// How a task is settled, with the outcome that it gets.
 #[derive(Drop)]

@@ -9,10 +9,8 @@ ghost use Rattle.cluster_defs.specs.Connections.{without_connection};
 ghost use Rattle.cluster_state.specs.Plain.{plain_of, opened, input_at, came_up, went_down, engine_ended, beaten, passed, handed_out, settled_out, joined_by, echoed_by};
 ghost use Rattle.cluster_state.specs.Stands.{plain};
 
-use crate::attempts::{engine_of, one_more};
 use crate::engines::use_engine;
 use crate::outcomes::outcome_for;
-use crate::tasks::Tasks;
 use cluster_defs::connection::Connection;
 use cluster_defs::engine::Engine;
 use cluster_defs::settled::Settled;
@@ -22,6 +20,8 @@ use cluster_types::text::Text;
 use cluster_types::verdict::{Cause, Verdict};
 use engine_registry::registry::Registry;
 use std::alloc::{AllocError, Global};
+use task_table::attempts::{engine_of, one_more};
+use task_table::tasks::Tasks;
 
 /// What is known of a cluster after a history. A call that answers want of memory may have made a part of its change, so who
 /// calls lets the state go then, and reads it off the entries anew.

@@ -6,8 +6,8 @@ use Rattle.cluster_defs.specs.declared.engine.Engine.{Engine}
 use Rattle.cluster_defs.specs.Engines.{lists_number}
 use Rattle.dense_numbers.specs.Counts.{count_of}
 use Rattle.dense_numbers.specs.Flags.{is_set}
-use Rattle.cluster_state.specs.Seen.{Seen}
-use Rattle.cluster_state.specs.Loading.{load_in, Counts}
+use Rattle.task_table.specs.Seen.{Seen}
+use Rattle.task_table.specs.Loading.{load_in, Counts}
 use Rattle.due_decisions.specs.declared.rooms.Room.{Room}
 use Rattle.cluster_defs.specs.Scheduling.{leaves_room}
 use Rattle.due_decisions.specs.Table.{rooms_in}

@@ -19,10 +19,10 @@ use Rattle.cluster_defs.specs.Words.{Id, is_empty}
 use Rattle.cluster_defs.specs.Requests.{Request, is_direct, is_bound, is_target}
 use Rattle.cluster_defs.specs.Dependencies.{asked, met, quantified, on_engine}
 use Rattle.cluster_defs.specs.Scheduling.{may_run_as, excludes, rests, failing_as, is_dead, is_timed_out}
-use Rattle.cluster_state.specs.declared.marks.Marks.{Marks}
-use Rattle.cluster_state.specs.Seen.{Seen}
-use Rattle.cluster_state.specs.Marking.{Marked}
-use Rattle.cluster_state.specs.Fitting.{hopeless_as, late_as, is_tied}
+use Rattle.task_table.specs.declared.marks.Marks.{Marks}
+use Rattle.task_table.specs.Seen.{Seen}
+use Rattle.task_table.specs.Marking.{Marked}
+use Rattle.task_table.specs.Fitting.{hopeless_as, late_as, is_tied}
 use Rattle.due_decisions.specs.declared.rooms.Room.{Room}
 use Rattle.due_decisions.specs.Table.{settled_in, alone, among, failing_in, ready_as, ready, takes_as, takes, fits, hopeless, late, rooms_for}
 use Rattle.due_decisions.proofs.LaneSteps.{in_none}

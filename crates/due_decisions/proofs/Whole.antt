@@ -17,7 +17,7 @@ use Rattle.cluster_defs.specs.Histories.{History, facts, Legal}
 use Rattle.cluster_defs.specs.Scheduling.{due, settle_due, fail_due, direct_due, hand_due, settle_as, verdict, is_final, rests, failing_as, failing_id, ready_for, hand_to, leaves_room, load, may_run_as, may_run, excludes, is_live, candidates, engine_for, pick, has_room as room_left}
 use Rattle.cluster_defs.proofs.Counts.{count_by-cons}
 use Rattle.cluster_laws.proofs.Closed.{closed}
-use Rattle.cluster_state.specs.Seen.{Seen}
+use Rattle.task_table.specs.Seen.{Seen}
 use Rattle.cluster_state.specs.Plain.{look, tasks_of, plain_of}
 use Rattle.cluster_state.proofs.Exact.{exact}
 use Rattle.due_decisions.specs.declared.rooms.Room.{Room}

@@ -12,11 +12,11 @@ use Rattle.cluster_defs.specs.Words.{or_else}
 use Rattle.cluster_defs.specs.Engines.{lists_number}
 use Rattle.cluster_defs.specs.Facts.{Facts, nothing_yet}
 use Rattle.cluster_defs.specs.Scheduling.{lose_due, verdict, settle_as, rests, failing_as, ready_for, hand_to, leaves_room, pick}
-use Rattle.cluster_state.specs.Seen.{Seen}
-pub use Rattle.cluster_state.specs.Standing.{alone, final_at, direct_at}
-pub use Rattle.cluster_state.specs.Waiting.{settled_in, ready_as, ready}
-pub use Rattle.cluster_state.specs.Fitting.{among, takes_as, takes, fits, hopeless, late}
-pub use Rattle.cluster_state.specs.Loading.{loads, load_in}
+use Rattle.task_table.specs.Seen.{Seen}
+pub use Rattle.task_table.specs.Standing.{alone, final_at, direct_at}
+pub use Rattle.task_table.specs.Waiting.{settled_in, ready_as, ready}
+pub use Rattle.task_table.specs.Fitting.{among, takes_as, takes, fits, hopeless, late}
+pub use Rattle.task_table.specs.Loading.{loads, load_in}
 use Rattle.cluster_state.specs.Plain.{Plain}
 use Rattle.due_decisions.specs.declared.rooms.Room.{Room}
 

@@ -5,14 +5,14 @@ ghost use Rattle.cluster_defs.specs.Scheduling.{failing, failing_as};
 ghost use Rattle.due_decisions.specs.Table.{among, failing_in};
 
 use cluster_defs::request::WholeRequest;
-use cluster_state::attempts::Attempts;
-use cluster_state::live::Live;
-use cluster_state::standing::rests;
-use cluster_state::table::Table;
-use cluster_state::task::Task;
-use cluster_state::viability::{is_dead, is_timed_out};
 use cluster_types::verdict::Cause;
 use engine_registry::registry::Registry;
+use task_table::attempts::Attempts;
+use task_table::live::Live;
+use task_table::standing::rests;
+use task_table::table::Table;
+use task_table::task::Task;
+use task_table::viability::{is_dead, is_timed_out};
 
 /// Why a Submit fails without an attempt, by the order of the causes.
 fn cause(

@@ -8,17 +8,11 @@ ghost use Rattle.place_sets.specs.Lanes.{in_some};
 ghost use Rattle.place_sets.specs.Least.{IsLeast};
 ghost use Rattle.dense_numbers.specs.Flags.{is_set};
 ghost use Rattle.cluster_defs.specs.Requests.{Request as RequestFacts};
-ghost use Rattle.cluster_state.specs.Fitting.{is_tied};
+ghost use Rattle.task_table.specs.Fitting.{is_tied};
 ghost use Rattle.due_decisions.specs.declared.rooms.Room.{Room};
 ghost use Rattle.due_decisions.specs.Table.{direct_at, direct_of, direct_in, ready, takes, fits, rooms_for, picked, hand_of, hand_in};
 
 use crate::rooms::{Room, is_open, open_numbers};
-use cluster_state::fitting::{is_tied, takes};
-use cluster_state::readiness::is_ready;
-use cluster_state::standing::{is_direct_at, ready_for};
-use cluster_state::table::Table;
-use cluster_state::task::Task;
-use cluster_state::tasks::Tasks;
 use cluster_types::config::Scheme;
 use cluster_types::entry::Entry;
 use load_schemes::chooser::Chooser;
@@ -26,6 +20,12 @@ use place_sets::lanes::Lanes;
 use place_sets::least::lesser;
 use std::alloc::{AllocError, Global};
 use std::collections::BTreeSet;
+use task_table::fitting::{is_tied, takes};
+use task_table::readiness::is_ready;
+use task_table::standing::{is_direct_at, ready_for};
+use task_table::table::Table;
+use task_table::task::Task;
+use task_table::tasks::Tasks;
 
 /// The lowest of some places at which a direct request isn't settled and has no attempt.
 fn direct_place(tasks: &[Task], places: &BTreeSet<usize>) -> Option<usize>

@@ -8,11 +8,11 @@ ghost use Rattle.cluster_defs.specs.Engines.{lists_number};
 ghost use Rattle.cluster_defs.specs.Scheduling.{leaves_room};
 ghost use Rattle.due_decisions.specs.Table.{rooms_in};
 
-use cluster_state::tasks::Tasks;
 use dense_numbers::counts::count;
 use dense_numbers::flags::set;
 use engine_registry::registry::Registry;
 use std::alloc::{AllocError, Global};
+use task_table::tasks::Tasks;
 
 /// An engine, with how many Submits run on it.
 #[derive(Clone, Copy, Debug, PartialEq, Eq)]

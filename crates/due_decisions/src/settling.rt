@@ -9,10 +9,6 @@ ghost use Rattle.cluster_defs.specs.Engines.{lists_number};
 ghost use Rattle.due_decisions.specs.Table.{final_at, settle_of, settle_in, failing_in, fail_of, fail_in};
 
 use crate::failing::failing;
-use cluster_state::standing::{is_final_at, verdict};
-use cluster_state::table::Table;
-use cluster_state::task::Task;
-use cluster_state::tasks::Tasks;
 use cluster_types::entry::Entry;
 use cluster_types::verdict::Verdict;
 use engine_registry::registry::Registry;
@@ -20,6 +16,10 @@ use place_sets::lanes::Lanes;
 use place_sets::least::lesser;
 use std::alloc::AllocError;
 use std::collections::BTreeSet;
+use task_table::standing::{is_final_at, verdict};
+use task_table::table::Table;
+use task_table::task::Task;
+use task_table::tasks::Tasks;
 
 /// The lowest of some places at which a task's attempts are over, and it isn't settled.
 fn final_place(tasks: &[Task], places: &BTreeSet<usize>) -> Option<usize>

@@ -17,11 +17,11 @@ use Rattle.cluster_laws.proofs.Closed.{closed}
 use Rattle.dense_numbers.specs.Counts.{count_of, hits}
 use Rattle.hub_queries.specs.declared.lengths.Lengths.{Lengths}
 use Rattle.hub_queries.specs.Lengths.{lengths_of}
-use Rattle.cluster_state.specs.Seen.{Seen}
+use Rattle.task_table.specs.Seen.{Seen}
 use Rattle.cluster_state.specs.Plain.{Plain, look, tasks_of}
-use Rattle.cluster_state.specs.Loading.{loads, load_in, Counted}
-use Rattle.cluster_state.specs.Tallying.{direct_class, finished_class, waiting_class, tally_in, Told, AllTold}
-use Rattle.cluster_state.specs.declared.tallies.Tallies.{Tallies}
+use Rattle.task_table.specs.Loading.{loads, load_in, Counted}
+use Rattle.task_table.specs.Tallying.{direct_class, finished_class, waiting_class, tally_in, Told, AllTold}
+use Rattle.task_table.specs.declared.tallies.Tallies.{Tallies}
 use Rattle.entry_outs.specs.Reached.{Reached}
 use Rattle.entry_outs.specs.Shown.{LoadsShown}
 

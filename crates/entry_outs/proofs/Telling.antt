@@ -41,7 +41,7 @@ use Rattle.cluster_laws.proofs.Apart.{live_ascend}
 use Rattle.cluster_laws.proofs.RecordsHold.{records_hold}
 use Rattle.cluster_laws.proofs.RecordsPlan.{records_plan}
 use Rattle.cluster_laws.proofs.RecordsTell.{records_answer}
-use Rattle.cluster_state.specs.Seen.{Seen, seen_in}
+use Rattle.task_table.specs.Seen.{Seen, seen_in}
 use Rattle.cluster_state.specs.declared.settling.Settling.{Settling}
 use Rattle.cluster_state.specs.declared.ruling.Ruling.{Ruling}
 use Rattle.cluster_state.specs.declared.ruling.Ruling.TheVariants.{Resubmit}

@@ -19,7 +19,6 @@ use crate::beats::beat_outs;
 use crate::messages::event_outs;
 use crate::passes::{hand_outs, settle_outs};
 use cluster_state::acceptance::connection_on;
-use cluster_state::attempts::one_more;
 use cluster_state::ruling::Ruling;
 use cluster_state::state::State;
 use cluster_types::entry::{Entry, Input};
@@ -28,6 +27,7 @@ use cluster_types::out::Outs;
 use cluster_types::shared_message::SharedMessage;
 use cluster_types::text::Text;
 use std::alloc::{AllocError, Global};
+use task_table::attempts::one_more;
 
 /// What a message sends, where its answer goes as the slip says.
 fn message_outs(

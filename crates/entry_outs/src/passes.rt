@@ -11,7 +11,7 @@ ghost use Rattle.cluster_defs.specs.Engines.{conn_in};
 ghost use Rattle.cluster_types.specs.declared.entry.Entry.{Entry};
 ghost use Rattle.cluster_types.specs.declared.verdict.Verdict.{Verdict as VerdictType};
 ghost use Rattle.cluster_types.specs.declared.verdict.Cause.{Cause as CauseType};
-ghost use Rattle.cluster_state.specs.Seen.{seen_in};
+ghost use Rattle.task_table.specs.Seen.{seen_in};
 ghost use Rattle.cluster_state.specs.Settling.{IsSettling};
 ghost use Rattle.cluster_state.specs.Plain.{facts_in};
 ghost use Rattle.cluster_state.specs.Stands.{plain};

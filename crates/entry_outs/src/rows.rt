@@ -8,11 +8,11 @@ ghost use Rattle.entry_outs.specs.Reached.{Reached};
 ghost use Rattle.entry_outs.specs.Shown.{LoadsShown};
 
 use cluster_state::state::State;
-use cluster_state::tasks::Tasks;
 use cluster_types::record::{Record, Records};
 use cluster_types::text::Text;
 use dense_numbers::counts::count;
 use hub_queries::lengths::{Lengths, QueueCounts};
+use task_table::tasks::Tasks;
 
 /// The records of all tasks of a cluster, in order of number.
 #[derive(Drop)]

@@ -7,8 +7,6 @@ use cluster_defs::engine::Engine;
 use cluster_defs::request::WholeRequest;
 use cluster_defs::settled::Settled;
 use cluster_state::state::State;
-use cluster_state::task::Task;
-use cluster_state::tasks::Tasks;
 use cluster_types::config::Scheme;
 use cluster_types::entry::Entry;
 use cluster_types::event::Dep;
@@ -23,6 +21,8 @@ use load_schemes::place::place_of;
 use place_sets::lanes::Lanes;
 use std::alloc::Global;
 use std::process::Abort;
+use task_table::task::Task;
+use task_table::tasks::Tasks;
 
 fn text<R: Abort>(rt: &R, alloc: Global, name: &str) -> Text {
     Text::new(alloc, name).expect(rt, "memory is ample")

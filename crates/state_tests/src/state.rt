@@ -10,7 +10,6 @@ use cluster_defs::acceptance::Acceptance;
 use cluster_defs::attempt::Ending;
 use cluster_defs::engine::{Engine, Joining};
 use cluster_state::acceptance::{connection_on, is_invalid, is_known, targets_of};
-use cluster_state::attempts::{Attempts, engine_of, is_never, one_more, runs, runs_at};
 use cluster_state::engines::use_engine;
 use cluster_state::ruling::Ruling;
 use cluster_state::state::State;
@@ -29,6 +28,7 @@ use resubmission::plan::{Renamed, Renaming};
 use resubmission::purge::PurgePlan;
 use std::alloc::Global;
 use std::process::Abort;
+use task_table::attempts::{Attempts, engine_of, is_never, one_more, runs, runs_at};
 
 fn text<R: Abort>(rt: &R, alloc: Global, name: &str) -> Text {
     Text::new(alloc, name).expect(rt, "memory is ample")

@@ -6,7 +6,7 @@ ghost use Rattle.cluster_defs.specs.Words.{once};
 ghost use Rattle.cluster_defs.specs.Purges.{copies_from};
 ghost use Rattle.thin_history.specs.Notes.{note_as};
 
-use cluster_state::attempts::one_more;
+use task_table::attempts::one_more;
 use cluster_types::event::Event;
 use cluster_types::message::Ids;
 use cluster_types::sequence::Sequence;

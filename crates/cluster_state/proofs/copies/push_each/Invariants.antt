@@ -1,5 +1,5 @@
 use Rattle.std.proofs.Common.{◌≡◌, ◌++◌, true}
-use Rattle.cluster_state.specs.Seen.{all_open}
+use Rattle.task_table.specs.Seen.{all_open}
 use Rattle.cluster_state.proofs.copies.push_each.Given as goal
 
 -- the copies that came are added, and those to come aren't settled

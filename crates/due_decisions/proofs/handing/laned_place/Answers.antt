@@ -5,7 +5,7 @@ use Rattle.dense_numbers.specs.Flags.{is_set}
 use Rattle.place_sets.specs.Sets.{holds_at}
 use Rattle.place_sets.specs.Lanes.{in_some}
 use Rattle.place_sets.proofs.Leasts.{least_of}
-use Rattle.cluster_state.specs.Seen.{Seen}
+use Rattle.task_table.specs.Seen.{Seen}
 use Rattle.due_decisions.specs.declared.rooms.Room.{Room}
 use Rattle.due_decisions.specs.Table.{fits}
 use Rattle.due_decisions.proofs.LaneSteps.{none_left, some_alike, some_of_none}

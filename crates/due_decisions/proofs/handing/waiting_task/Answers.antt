@@ -5,7 +5,7 @@ use Rattle.place_sets.specs.Sets.{has, holds_at}
 use Rattle.place_sets.specs.Lanes.{in_some}
 use Rattle.place_sets.specs.Least.{IsLeast}
 use Rattle.place_sets.proofs.Leasts.{least_is}
-use Rattle.cluster_state.specs.Seen.{Seen}
+use Rattle.task_table.specs.Seen.{Seen}
 use Rattle.due_decisions.specs.declared.rooms.Room.{Room}
 use Rattle.due_decisions.specs.Table.{fits}
 use Rattle.due_decisions.proofs.OpenTasks.{fits_covers, no_rooms}

@@ -6,7 +6,7 @@ use Rattle.place_sets.specs.Sets.{has, holds_at}
 use Rattle.place_sets.specs.Lanes.{in_some}
 use Rattle.place_sets.specs.Least.{IsLeast}
 use Rattle.place_sets.proofs.Leasts.{least_is}
-use Rattle.cluster_state.specs.Seen.{Seen}
+use Rattle.task_table.specs.Seen.{Seen}
 use Rattle.due_decisions.specs.Table.{failing_in}
 use Rattle.due_decisions.proofs.OpenTasks.{fails_covers}
 use Rattle.due_decisions.proofs.settling.failing_task.Goals as goal

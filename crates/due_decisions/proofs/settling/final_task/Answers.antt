@@ -3,7 +3,7 @@ use Rattle.std.specs.Prelude.{slice_get, find}
 use Rattle.std.specs.Option.{option_and_then}
 use Rattle.place_sets.specs.Sets.{holds_at}
 use Rattle.place_sets.proofs.Covering.{find_covered}
-use Rattle.cluster_state.specs.Standing.{final_at}
+use Rattle.task_table.specs.Standing.{final_at}
 use Rattle.due_decisions.proofs.settling.final_task.Goals as goal
 
 pub returns : goal.returns

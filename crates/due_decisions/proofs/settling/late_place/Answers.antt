@@ -8,7 +8,7 @@ use Rattle.place_sets.specs.Sets.{has, holds_at}
 use Rattle.place_sets.specs.Lanes.{LaneList, in_some}
 use Rattle.place_sets.specs.Least.{IsLeast}
 use Rattle.place_sets.proofs.Leasts.{least_of}
-use Rattle.cluster_state.specs.Seen.{Seen}
+use Rattle.task_table.specs.Seen.{Seen}
 use Rattle.due_decisions.specs.Table.{failing_in}
 use Rattle.due_decisions.proofs.LaneSteps.{map_push, lane_more, some_picked}
 use Rattle.due_decisions.proofs.LaneSteps.{up_to}

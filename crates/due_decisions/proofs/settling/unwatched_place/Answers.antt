@@ -6,7 +6,7 @@ use Rattle.cluster_defs.specs.Engines.{lists_number}
 use Rattle.place_sets.specs.Sets.{has, holds_at}
 use Rattle.place_sets.specs.Lanes.{LaneList, in_some}
 use Rattle.place_sets.specs.Least.{IsLeast}
-use Rattle.cluster_state.specs.Seen.{Seen}
+use Rattle.task_table.specs.Seen.{Seen}
 use Rattle.due_decisions.specs.Table.{failing_in}
 use Rattle.due_decisions.proofs.LaneSteps.{map_push, lane_more, lane_passed}
 use Rattle.due_decisions.proofs.settling.unwatched_place.Goals as goal

@@ -3,7 +3,7 @@ use Rattle.std.specs.Option.{option_copied, option_and_then}
 use Rattle.cluster_defs.specs.declared.connection.Connection.{Connection}
 use Rattle.cluster_defs.specs.Connections.{reached}
 use Rattle.cluster_state.specs.declared.settling.Settling.{Settling}
-use Rattle.cluster_state.specs.Seen.{seen_in}
+use Rattle.task_table.specs.Seen.{seen_in}
 use Rattle.cluster_state.specs.Settling.{IsSettling}
 use Rattle.cluster_state.specs.Stands.{plain}
 use Rattle.entry_outs.proofs.Telling.{settle_sends, settling_outcome}

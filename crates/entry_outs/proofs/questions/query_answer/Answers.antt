@@ -1,7 +1,7 @@
 use Rattle.std.proofs.Common.{ℕ, List, map, sym, ap, ◌∙◌, subst}
 use Rattle.cluster_defs.specs.declared.engine.Engine.{Engine}
 use Rattle.cluster_defs.specs.RecordAnswers.{answer_in}
-use Rattle.cluster_state.specs.Seen.{Seen}
+use Rattle.task_table.specs.Seen.{Seen}
 use Rattle.cluster_state.specs.Stands.{plain}
 use Rattle.hub_queries.specs.Ascending.{Ascends}
 use Rattle.entry_outs.specs.Asked.{asked_live}

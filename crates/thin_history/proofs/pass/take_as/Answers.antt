@@ -2,7 +2,7 @@ use Rattle.std.proofs.Common.{◌≡◌, length, sym, ap, subst, ◌∙◌}
 use Rattle.std.specs.Prelude.{IfOk}
 use Rattle.std.proofs.lemmas.List.{length-map}
 use Rattle.cluster_defs.specs.Scheduling.{is_kept_as}
-use Rattle.cluster_state.specs.Seen.{Seen}
+use Rattle.task_table.specs.Seen.{Seen}
 use Rattle.cluster_state.specs.Plain.{facts_in}
 use Rattle.cluster_state.specs.Stands.{plain}
 use Rattle.thin_history.specs.declared.notes.Note.{Note}

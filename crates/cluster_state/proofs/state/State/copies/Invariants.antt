@@ -2,7 +2,7 @@ use Rattle.std.proofs.Common.{◌≡◌, ◌+◌, ◌++◌, length, drop, true}
 use Rattle.std.specs.Prelude.{map}
 use Rattle.cluster_defs.specs.Purges.{resubmitted}
 use Rattle.resubmission.specs.Plans.{copy_of}
-use Rattle.cluster_state.specs.Seen.{all_open}
+use Rattle.task_table.specs.Seen.{all_open}
 use Rattle.cluster_state.specs.Plain.{facts_in, copies_in}
 use Rattle.cluster_state.specs.Stands.{plain}
 use Rattle.cluster_state.proofs.state.State.copies.Given as goal

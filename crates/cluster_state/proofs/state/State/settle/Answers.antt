@@ -1,6 +1,6 @@
 use Rattle.std.proofs.Common.{ap, ◌∙◌, subst, Option}
 use Rattle.cluster_state.specs.declared.settling.Settling.{Settling}
-use Rattle.cluster_state.specs.Seen.{seen_in}
+use Rattle.task_table.specs.Seen.{seen_in}
 use Rattle.cluster_state.specs.Stands.{plain}
 use Rattle.cluster_state.specs.Settling.{IsSettling}
 use Rattle.cluster_state.proofs.Ending.{settle_some, settle_none}

@@ -1,5 +1,0 @@
-use Rattle.cluster_state.specs.Marking.{OthersStay}
-use Rattle.cluster_state.proofs.laning.leave_each.Given as goal
-
-abbrev pub invariant-loop-engine : goal.invariant-loop-engine
-invariant-loop-engine l = OthersStay l.place l.fn.lanes l.lanes

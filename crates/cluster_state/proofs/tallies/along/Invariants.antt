@@ -1,6 +1,0 @@
-use Rattle.std.proofs.Common.{take}
-use Rattle.cluster_state.specs.Tallying.{AllMore}
-use Rattle.cluster_state.proofs.tallies.along.Given as goal
-
-abbrev pub invariant-loop-place : goal.invariant-loop-place
-invariant-loop-place l = AllMore l.table (take l.place-index l.places) l.fn.rest l.tallies

@@ -1,0 +1,15 @@
+use Rattle.std.proofs.Common.{ap, sym, ◌∙◌}
+use Rattle.std.specs.List.{list_any}
+use Rattle.cluster_defs.specs.Dependencies.{apart}
+use Rattle.task_table.specs.Waiting.{settled_in}
+use Rattle.task_table.proofs.Scattered.{scattered_by_first, scattered_none}
+use Rattle.task_table.proofs.following.is_scattered.Goals as goal
+
+pub returns-in-Some : goal.returns-in-Some
+returns-in-Some c =
+    let s = settled_in c.args.table.now in
+    let ids = c.args.ids.now in
+    c.any_apart.ensures ∙ ap (λ o. list_any (λ j. apart o (s j)) ids) c.settled_in.ensures ∙ scattered_by_first s ids c.in-Some.first.now (sym c.in-Some.ensures)
+
+pub returns-in-None : goal.returns-in-None
+returns-in-None c = sym (scattered_none (settled_in c.args.table.now) c.args.ids.now (sym c.in-None.ensures))

@@ -1,0 +1,5 @@
+use Rattle.task_table.specs.Marking.{Marked}
+use Rattle.task_table.proofs.tidying.tidy_waiting_all.Given as goal
+
+abbrev pub invariant-loop-place : goal.invariant-loop-place
+invariant-loop-place l = Marked l.table l.marks

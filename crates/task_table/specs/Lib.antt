@@ -1,0 +1,9 @@
+pub mod Fitting
+pub mod Live
+pub mod Loading
+pub mod Marking
+pub mod Places
+pub mod Seen
+pub mod Standing
+pub mod Tallying
+pub mod Waiting

@@ -1,0 +1,56 @@
+-- Tasks that wait for others: how these were settled, and where those are that list an id.
+use Rattle.std.specs.Prelude.{◌≡◌, ℕ, nat_le, List, Option, Some, None, Bool, true, false, not, ◌&&◌, ◌||◌}
+use Rattle.std.specs.Ordering.{nat_cmp}
+use Rattle.std.specs.List.{list_any}
+use Rattle.std.specs.BTreeMap.{is_at}
+use Rattle.std.specs.Option.{option_and_then}
+use Rattle.place_sets.specs.Sets.{holds_at}
+use Rattle.task_graph.specs.Listing.{Lists, waiting_for}
+use Rattle.cluster_defs.specs.Words.{Id, is_listed}
+use Rattle.cluster_defs.specs.declared.settled.Settled.{Settled}
+use Rattle.cluster_defs.specs.Tasks.{Task}
+use Rattle.cluster_defs.specs.Dependencies.{met}
+use Rattle.cluster_defs.specs.Requests.{Request, is_direct}
+use Rattle.cluster_defs.specs.Scheduling.{rests}
+use Rattle.task_table.specs.Seen.{Seen, seen_in}
+use Rattle.task_table.specs.Standing.{alone}
+
+-- how the ids of a table were settled
+abbrev pub settled_in : List Seen → Id → Option Settled
+settled_in ts id = option_and_then (λ t. t.settled) (seen_in ts id)
+
+-- a Submit that waits, with attempts left and what it waits for met
+abbrev pub ready_as : (Id → Option Settled) → Task → Option Request → Bool
+ready_as settled a None = false
+ready_as settled a (Some r) = not (is_direct r) && nat_le a.spent r.retries && met r.after settled
+
+abbrev pub ready : List Seen → Seen → Bool
+ready ts t = rests (alone t) t.row.id && ready_as (settled_in ts) t.attempts t.request
+
+-- the ids on which it hangs whether and where a task runs
+abbrev pub awaits_as : Id → Option Request → Bool
+awaits_as id None = false
+awaits_as id (Some r) = is_listed id r.after.ids || is_listed id r.follow.ids
+
+abbrev pub awaits : Id → Seen → Bool
+awaits id t = awaits_as id t.request
+
+-- a list of places has a place
+abbrev pub is_among : ℕ → List ℕ → Bool
+is_among i places = list_any (is_at (nat_cmp i)) places
+
+-- some places have all tasks that wait for an id, and maybe more
+abbrev pub Awaited : Id → List Seen → List ℕ → Type 0
+Awaited id ts places = (i : ℕ) → holds_at (awaits id) ts i ≡ true → is_among i places ≡ true
+
+-- each id has the places of all tasks that wait for it, and maybe more
+abbrev pub Indexed : List Seen → Lists → Type 0
+Indexed ts waits = (id : Id) → Awaited id ts (waiting_for waits id)
+
+-- a place stands with each of some ids
+abbrev pub IsNoted : List Id → ℕ → Lists → Type 0
+IsNoted ids place waits = (id : Id) → is_listed id ids ≡ true → is_among place (waiting_for waits id) ≡ true
+
+-- each id has all places that it had
+abbrev pub WaitsGrow : Lists → Lists → Type 0
+WaitsGrow old new = (id : Id) (i : ℕ) → is_among i (waiting_for old id) ≡ true → is_among i (waiting_for new id) ≡ true

@@ -1,0 +1,435 @@
+//! All tasks, with what is kept beside them.
+
+ghost use Rattle.std.specs.Prelude.{◌≡◌, ◌++◌, ◌∷◌, [], length, map, slice_get, Some, None, IfOk, IfSome, OnOk, OnErr};
+ghost use Rattle.std.specs.List.Sorted.{IsStrictlySortedBy};
+ghost use Rattle.std.specs.Option.{option_copied, option_and_then};
+ghost use Rattle.std.specs.Ordering.{nat_cmp};
+ghost use Rattle.place_sets.specs.Sets.{at_place};
+ghost use Rattle.task_table.specs.Seen.{handed_to, ended_on, lost_all, replied_with, settled_with, purged_out, seen_in, place_in, changed, on_unsettled};
+ghost use Rattle.task_table.specs.Marking.{Marked};
+ghost use Rattle.task_table.specs.Loading.{Counts, CountedAnew};
+ghost use Rattle.task_table.specs.Tallying.{AllTold};
+ghost use Rattle.task_table.specs.Places.{Alike, asking};
+ghost use Rattle.task_table.specs.Waiting.{Awaited, IsNoted, WaitsGrow};
+
+use crate::loads::tallied;
+use crate::marks::{Marks, mark, mark_all, no_marks, wake_all};
+use crate::table::Table;
+use crate::tallies::{Tallies, classes_at, classes_of, follow, no_classes, set_aside, take_back};
+use crate::task::Task;
+use crate::tidying::{tidy, tidy_all, tidy_waiting_all};
+use cluster_defs::attempt::Ending;
+use cluster_defs::settled::Settled;
+use cluster_types::message::Ids;
+use cluster_types::shared_message::SharedMessage;
+use cluster_types::text::Text;
+use dense_numbers::flags::set;
+use std::alloc::{AllocError, Global};
+use std::collections::BTreeSet;
+use std::marker::Model;
+use task_graph::waiters::Waiters;
+
+/// All tasks in order of number, which contracts see as a list. A task is found by its id without a search, and those of
+/// which something may be due without a look at the others. After a change that answers want of memory they are let go with
+/// the state, since a change of many may have been made of some.
+pub struct Tasks {
+    table: Table,
+    /// Places of those of which something may be due.
+    marks: Marks,
+    /// Places of those that wait for an id.
+    waiters: Waiters,
+    /// How many run, finished or wait, by engine.
+    tallies: Tallies,
+}
+
+// Written out, so that what lets one go is proved over one call, and not case by case.
+impl Drop for Tasks {
+    fn drop(self) {
+        let Tasks {
+            table,
+            marks,
+            waiters,
+            tallies,
+        } = self;
+        drop(table);
+        drop(marks);
+        drop(waiters);
+        drop(tallies);
+    }
+}
+
+impl Model for Tasks {
+    ghost use Rattle.std.specs.Prelude.{List};
+    ghost use Rattle.task_table.specs.Seen.{Seen};
+    ghost use Rattle.task_table.specs.Places.{Beside};
+
+    ghost Value = { List Seen };
+
+    ghost view = { λ t. t.table };
+
+    ghost invariant = { λ t. Beside t.table t.marks t.waiters t.tallies };
+}
+
+// Each change of a task: its place is put into all sets, the task is changed, and its place is taken out of the sets that
+// aren't for it any more. So the sets have all that they are for whatever the change, and where it fails too.
+
+fn hand_in(
+    table: &mut Table,
+    marks: &mut Marks,
+    place: usize,
+    engine: u32,
+) -> Result<(), AllocError>
+    requires { Marked table.old marks.old }
+    ensures ok { OnOk result (table.new ≡ at_place (handed_to engine) place table.old) }
+    ensures same { Alike table.old table.new }
+    ensures marked { Marked table.new marks.new }
+{
+    mark(marks, place)?;
+    table.hand_at(place, engine);
+    tidy(table, marks, place);
+    Ok(())
+}
+
+/// Settles the task of an id, with the places of all tasks that wait for it: what is due of these may change.
+fn settle_in(
+    table: &mut Table,
+    marks: &mut Marks,
+    id: &Text,
+    place: usize,
+    waiting: &[usize],
+    settled: Settled,
+    outcome: Option<SharedMessage>,
+) -> Result<(), AllocError>
+    requires marked { Marked table.old marks.old }
+    requires place { place_in id.now table.old ≡ Some place }
+    requires waiting { Awaited id.now table.old waiting.now }
+    ensures ok { OnOk result (table.new ≡ at_place (settled_with settled outcome) place table.old) }
+    ensures requests { map asking table.new ≡ map asking table.old }
+    ensures marked { Marked table.new marks.new }
+{
+    mark(marks, place)?;
+    wake_all(marks, waiting)?;
+    table.settle_at(place, settled, outcome);
+    tidy(table, marks, place);
+    tidy_waiting_all(table, marks, waiting);
+    Ok(())
+}
+
+fn purge_in(table: &mut Table, marks: &mut Marks, place: usize) -> Result<(), AllocError>
+    requires { Marked table.old marks.old }
+    ensures ok { OnOk result (table.new ≡ at_place purged_out place table.old) }
+    ensures same { Alike table.old table.new }
+    ensures marked { Marked table.new marks.new }
+{
+    mark(marks, place)?;
+    table.purge_at(place);
+    tidy(table, marks, place);
+    Ok(())
+}
+
+fn take_reply_in(
+    table: &mut Table,
+    marks: &mut Marks,
+    place: usize,
+    header: &Text,
+    how: Ending,
+    reply: SharedMessage,
+) -> Result<(), AllocError>
+    requires { Marked table.old marks.old }
+    ensures ok { OnOk result (table.new ≡ at_place (replied_with header.now how reply) place table.old) }
+    ensures same { Alike table.old table.new }
+    ensures marked { Marked table.new marks.new }
+{
+    mark(marks, place)?;
+    table.take_reply_at(place, header, how, reply)?;
+    tidy(table, marks, place);
+    Ok(())
+}
+
+/// The places in a set.
+pub fn places_in(alloc: Global, set: &BTreeSet<usize>) -> Result<Vec<usize>, AllocError>
+    ensures places { IfOk result (λ v. v.items ≡ set.now.keys) }
+    ensures sorted { OnOk result (IsStrictlySortedBy nat_cmp set.now.keys) }
+{
+    let _many = set.len();
+    set.iter().copied().collect(alloc)
+}
+
+/// Has the places of tasks that were watched by an engine that ended watched by others, where there are any.
+fn watch_anew(table: &Table, marks: &mut Marks, engine: u32) -> Result<(), AllocError>
+    requires { Marked table.now marks.old }
+    ensures { Marked table.now marks.new }
+{
+    let _ = set(&mut marks.ended, engine);
+    let places = marks.watches.places(table.allocator(), u64::from(engine))?;
+    wake_all(marks, &places)?;
+    tidy_waiting_all(table, marks, &places);
+    Ok(())
+}
+
+/// Ends the attempts of unsettled tasks on an engine.
+fn end_in(table: &mut Table, marks: &mut Marks, engine: u32) -> Result<(), AllocError>
+    requires { Marked table.old marks.old }
+    ensures ok { OnOk result (table.new ≡ map (on_unsettled (ended_on engine)) table.old) }
+    ensures same { Alike table.old table.new }
+    ensures marked { Marked table.new marks.new }
+{
+    let places = places_in(table.allocator(), &marks.running)?;
+    mark_all(marks, &places)?;
+    table.end_all(&places, engine)?;
+    tidy_all(table, marks, &places);
+    watch_anew(table, marks, engine)
+}
+
+/// Ends the attempts of all unsettled tasks, by an Open.
+fn lose_in(table: &mut Table, marks: &mut Marks) -> Result<(), AllocError>
+    requires { Marked table.old marks.old }
+    ensures ok { OnOk result (table.new ≡ map (on_unsettled lost_all) table.old) }
+    ensures same { Alike table.old table.new }
+    ensures marked { Marked table.new marks.new }
+{
+    let places = places_in(table.allocator(), &marks.running)?;
+    mark_all(marks, &places)?;
+    table.lose_each(&places)?;
+    tidy_all(table, marks, &places);
+    Ok(())
+}
+
+/// Counts the Submits that run on each engine.
+fn counted_in(table: &Table, marks: &Marks) -> Result<Option<Vec<u32>>, AllocError>
+    requires { Marked table.now marks.now }
+    ensures { IfOk result (λ counts. CountedAnew table.now counts) }
+{
+    let alloc = table.allocator();
+    let places = places_in(alloc, &marks.running)?;
+    tallied(alloc, table, &places)
+}
+
+/// Notes that the task at a place waits for some ids.
+fn note_waits(waiters: &mut Waiters, ids: &Ids, place: usize) -> Result<(), AllocError>
+    ensures there { OnOk result (IsNoted ids.now place waiters.new) }
+    ensures grow { WaitsGrow waiters.old waiters.new }
+{
+    for id in ids.as_slice() {
+        waiters.add(id, place)?;
+    }
+    Ok(())
+}
+
+fn push_onto(table: &mut Table, marks: &mut Marks, task: Task) -> Result<(), AllocError>
+    requires marked { Marked table.old marks.old }
+    requires unsettled { task.settled ≡ None }
+    ensures ok { OnOk result (table.new ≡ table.old ++ task ∷ []) }
+    ensures err { OnErr result (table.new ≡ table.old) }
+    ensures marked { Marked table.new marks.new }
+{
+    let place = table.len();
+    mark(marks, place)?;
+    table.push(task)?;
+    tidy(table, marks, place);
+    Ok(())
+}
+
+impl Tasks {
+    /// No tasks. It takes no memory.
+    pub fn new(alloc: Global) -> Tasks
+        ensures { result ≡ [] }
+    {
+        Tasks {
+            table: Table::new(alloc),
+            marks: no_marks(alloc),
+            waiters: Waiters::new(alloc),
+            tallies: Tallies::new(alloc),
+        }
+    }
+
+    /// How many there are.
+    pub fn len(&self) -> usize
+        ensures { result ≡ length self.now }
+    {
+        self.table.len()
+    }
+
+    /// All of them, in order of number.
+    pub fn as_slice(&self) -> &[Task]
+        ensures { result.now ≡ self.now }
+    {
+        self.table.as_slice()
+    }
+
+    /// All of them, by place and by id.
+    pub fn table(&self) -> &Table
+        ensures { result.now ≡ self.now }
+    {
+        &self.table
+    }
+
+    /// Places of those of which something may be due.
+    pub fn marks(&self) -> &Marks
+        ensures { Marked self.now result.now }
+    {
+        &self.marks
+    }
+
+    /// The task at a place.
+    pub fn at(&self, place: Option<usize>) -> Option<&Task>
+        ensures { option_copied result ≡ option_and_then (slice_get self.now) place }
+    {
+        self.table.at(place)
+    }
+
+    /// The task of an id.
+    pub fn find(&self, id: &Text) -> Option<&Task>
+        ensures { option_copied result ≡ seen_in self.now id.now }
+    {
+        self.table.find(id)
+    }
+
+    /// Adds a task, which isn't settled.
+    pub fn push(&mut self, task: Task) -> Result<(), AllocError>
+        requires { task.settled ≡ None }
+        ensures { OnOk result (self.new ≡ self.old ++ task ∷ []) }
+    {
+        let place = self.table.len();
+        let after = classes_of(&task);
+        let kept = self.tallies.take();
+        note_waits(&mut self.waiters, &task.request().after.ids, place)?;
+        note_waits(&mut self.waiters, &task.request().follow.ids, place)?;
+        push_onto(&mut self.table, &mut self.marks, task)?;
+        follow(&mut self.tallies, kept, no_classes(), after)
+    }
+
+    /// Begins an attempt of a task on an engine.
+    pub fn hand(&mut self, id: &Text, engine: u32) -> Result<(), AllocError>
+        ensures { OnOk result (self.new ≡ changed id.now (handed_to engine) self.old) }
+    {
+        if let Some(place) = self.table.place_of(id) {
+            let before = classes_at(&self.table, place);
+            let kept = self.tallies.take();
+            hand_in(&mut self.table, &mut self.marks, place, engine)?;
+            follow(
+                &mut self.tallies,
+                kept,
+                before,
+                classes_at(&self.table, place),
+            )?;
+        }
+        Ok(())
+    }
+
+    /// Takes a valid reply to a task, with its header id.
+    pub fn take_reply(
+        &mut self,
+        id: &Text,
+        header: &Text,
+        how: Ending,
+        reply: SharedMessage,
+    ) -> Result<(), AllocError>
+        ensures { OnOk result (self.new ≡ changed id.now (replied_with header.now how reply) self.old) }
+    {
+        if let Some(place) = self.table.place_of(id) {
+            let before = classes_at(&self.table, place);
+            let kept = self.tallies.take();
+            take_reply_in(&mut self.table, &mut self.marks, place, header, how, reply)?;
+            follow(
+                &mut self.tallies,
+                kept,
+                before,
+                classes_at(&self.table, place),
+            )?;
+        }
+        Ok(())
+    }
+
+    /// Settles a task.
+    pub fn settle(
+        &mut self,
+        id: &Text,
+        settled: Settled,
+        outcome: Option<SharedMessage>,
+    ) -> Result<(), AllocError>
+        ensures { OnOk result (self.new ≡ changed id.now (settled_with settled outcome) self.old) }
+    {
+        if let Some(place) = self.table.place_of(id) {
+            let before = classes_at(&self.table, place);
+            let kept = self.tallies.take();
+            let waiting = self.waiters.of(id);
+            settle_in(
+                &mut self.table,
+                &mut self.marks,
+                id,
+                place,
+                waiting,
+                settled,
+                outcome,
+            )?;
+            follow(
+                &mut self.tallies,
+                kept,
+                before,
+                classes_at(&self.table, place),
+            )?;
+        }
+        Ok(())
+    }
+
+    /// Lets the outcome of a task go.
+    pub fn purge(&mut self, id: &Text) -> Result<(), AllocError>
+        ensures { OnOk result (self.new ≡ changed id.now purged_out self.old) }
+    {
+        if let Some(place) = self.table.place_of(id) {
+            let before = classes_at(&self.table, place);
+            let kept = self.tallies.take();
+            purge_in(&mut self.table, &mut self.marks, place)?;
+            follow(
+                &mut self.tallies,
+                kept,
+                before,
+                classes_at(&self.table, place),
+            )?;
+        }
+        Ok(())
+    }
+
+    /// Ends the attempts of unsettled tasks on an engine.
+    pub fn end_on(&mut self, engine: u32) -> Result<(), AllocError>
+        ensures { OnOk result (self.new ≡ map (on_unsettled (ended_on engine)) self.old) }
+    {
+        let places = places_in(self.table.allocator(), &self.marks.running)?;
+        let rest = set_aside(&mut self.tallies, &self.table, &places)?;
+        end_in(&mut self.table, &mut self.marks, engine)?;
+        take_back(&mut self.tallies, rest, &self.table, &places)
+    }
+
+    /// Ends the attempts of all unsettled tasks, by an Open.
+    pub fn lose_all(&mut self) -> Result<(), AllocError>
+        ensures { OnOk result (self.new ≡ map (on_unsettled lost_all) self.old) }
+    {
+        let places = places_in(self.table.allocator(), &self.marks.running)?;
+        let rest = set_aside(&mut self.tallies, &self.table, &places)?;
+        lose_in(&mut self.table, &mut self.marks)?;
+        take_back(&mut self.tallies, rest, &self.table, &places)
+    }
+
+    /// How many Submits run on each engine, where that was kept.
+    pub fn counts(&self) -> Option<&Vec<u32>>
+        ensures { IfSome result (λ counts. Counts self.now counts.now.items) }
+    {
+        self.tallies.loads.as_ref()
+    }
+
+    /// How many run, finished or wait, by engine.
+    pub fn tallies(&self) -> &Tallies
+        ensures { AllTold self.now result.now }
+    {
+        &self.tallies
+    }
+
+    /// How many Submits run on each engine, counted anew. There is no answer only where a load is past the end of its
+    /// 32 bits.
+    pub fn counted(&self) -> Result<Option<Vec<u32>>, AllocError>
+        ensures { IfOk result (λ counts. CountedAnew self.now counts) }
+    {
+        counted_in(&self.table, &self.marks)
+    }
+}
