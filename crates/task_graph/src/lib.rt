@@ -1,4 +1,5 @@
 //! Which tasks wait for an id.
 #![tactic(auto)]
 
+pub mod steps;
 pub mod waiters;

@@ -2,7 +2,7 @@
 
 ghost use Rattle.std.specs.Prelude.{◌≡◌, ◌++◌, ◌∷◌, [], List, ℕ, None, is_some, true, false, OnOk, OnErr, IfOk, bytes_eq, if◌then◌else◌};
 ghost use Rattle.std.specs.HashMap.{get_by_text};
-ghost use Rattle.task_graph.specs.Listing.{waiting_for};
+ghost use Rattle.task_graph.specs.Listing.{waiting_for, without_last, AllAdded, AllTaken, SameLists};
 
 use cluster_types::text::Text;
 use std::alloc::{AllocError, Global};
@@ -71,6 +71,22 @@ fn begin(
     Ok(())
 }
 
+/// Takes the last place out of a list, where it has one.
+fn drop_last(list: &mut Vec<usize>)
+    ensures { list.new.items ≡ without_last 1 list.old.items }
+{
+    let _ = list.pop();
+}
+
+/// Takes the last place out of an id's list, where it has one.
+fn shorten(lists: &mut HashMap<String, Vec<usize>>, id: &Text)
+    ensures { (j : List ℕ) → waiting_for lists.new.entries j ≡ (if bytes_eq id.now j then without_last 1 (waiting_for lists.old.entries j) else waiting_for lists.old.entries j) }
+{
+    if let Some(list) = lists.get_mut(id.as_str()) {
+        drop_last(list);
+    }
+}
+
 impl Waiters {
     /// No tasks. It takes no memory.
     pub fn new(alloc: Global) -> Waiters
@@ -101,5 +117,29 @@ impl Waiters {
             begin(&mut self.lists, self.alloc, id, place)?;
         }
         Ok(())
+    }
+
+    /// Puts a place at the end of the list of each of some ids, once for each time that they list it. Where memory is wanting
+    /// each id has what it had.
+    pub fn add_all(&mut self, ids: &[Text], place: usize) -> Result<(), AllocError>
+        ensures ok { OnOk result (AllAdded ids.now place self.old self.new) }
+        ensures err { OnErr result (SameLists self.old self.new) }
+    {
+        for added in 0..ids.len() {
+            if let Err(error) = self.add(&ids[added], place) {
+                self.take_back(&ids[..added]);
+                return Err(error);
+            }
+        }
+        Ok(())
+    }
+
+    /// Takes the last place out of the list of each of some ids, once for each time that they list it.
+    pub fn take_back(&mut self, ids: &[Text])
+        ensures { AllTaken ids.now self.old self.new }
+    {
+        for id in ids {
+            shorten(&mut self.lists, id);
+        }
     }
 }
