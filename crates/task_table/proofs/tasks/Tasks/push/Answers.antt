@@ -1,6 +1,7 @@
 use Rattle.std.proofs.Common.{◌≡◌, true, subst, sym, length}
 use Rattle.cluster_defs.specs.Words.{Id}
-use Rattle.task_table.specs.Waiting.{awaits, is_among, Indexed}
+use Rattle.cluster_defs.specs.Requests.{WholeRequest}
+use Rattle.task_table.specs.Waiting.{awaits, is_among, Indexed, IsNoted}
 use Rattle.task_graph.specs.Listing.{waiting_for}
 use Rattle.task_table.proofs.Waiting.{indexed_grown, indexed_more, noted_both}
 use Rattle.task_table.proofs.Tallying.{counted_pushed}
@@ -15,7 +16,8 @@ invariant_of-self-2 c =
     let noted : (id : Id) → awaits id t ≡ true → is_among (length ts) (waiting_for waits id) ≡ true =
     λ id on. subst (λ n. is_among n (waiting_for waits id) ≡ true) c.len-place.ensures
     (noted_both id t.request c.request.result.now.request c.request-2.result.now.request c.len-place.result c.note_waits.new.waiters waits c.request.ensures.value c.request-2.ensures.value
-    c.in_ok-note_waits.ensures.there c.in_ok-note_waits-2.ensures.there c.note_waits-2.ensures.grow on) in
+    (subst (λ (w : WholeRequest). IsNoted w.request.after.ids c.len-place.result c.note_waits.new.waiters) c.behind-task.view_is c.in_ok-note_waits.ensures.there)
+    (subst (λ (w : WholeRequest). IsNoted w.request.follow.ids c.len-place.result waits) c.behind-task-2.view_is c.in_ok-note_waits-2.ensures.there) c.note_waits-2.ensures.grow on) in
     let grown : Indexed ts waits = indexed_grown ts c.note_waits.new.waiters waits (indexed_grown ts c.self.inside.waiters c.note_waits.new.waiters c.self.invariant.indexed c.note_waits.ensures.grow) c.note_waits-2.ensures.grow in
     record {
       marked = c.push_onto.ensures.marked;
