@@ -3,6 +3,7 @@ pub mod Lists
 pub mod Loading
 pub mod Marking
 pub mod Places
+pub mod Pushing
 pub mod Scattered
 pub mod Tallying
 pub mod Waiting

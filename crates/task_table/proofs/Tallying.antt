@@ -20,7 +20,7 @@ use Rattle.task_table.specs.Tallying.{direct_class, finished_class, waiting_clas
 use Rattle.task_table.specs.Marking.{Marked}
 use Rattle.task_table.specs.Places.{asking, Beside}
 use Rattle.task_table.proofs.Loading.{loads_hits}
-use Rattle.task_table.proofs.Waiting.{indexed_same}
+use Rattle.task_table.proofs.Waiting.{indexed_same, within_same}
 
 at_there : (f : Seen → Seen) (p : ℕ) (ts : List Seen) (t : Seen) → slice_get ts p ≡ Some t → slice_get (at_place f p ts) p ≡ Some (f t)
 at_there f p [] t is = cc
@@ -228,14 +228,14 @@ all_more_more ts ps p old mid new before after rose one two moved =
 
 -- after a change that leaves the requests: where the counts are lost, and where they are right
 pub beside_lost : (ts us : List Seen) (m n : Marks) (waits : Lists) (o : Tallies) → Beside ts m waits o → map asking us ≡ map asking ts → Marked us n → Beside us n waits no_tallies
-beside_lost ts us m n waits o b same marked = record { marked = marked; indexed = indexed_same ts us waits b.indexed same; counted = none_told us }
+beside_lost ts us m n waits o b same marked = record { marked = marked; indexed = indexed_same ts us waits b.indexed same; within = within_same ts us waits b.within same; counted = none_told us }
 
 pub beside_counted : (ts us : List Seen) (m n : Marks) (waits : Lists) (o p : Tallies) → Beside ts m waits o → map asking us ≡ map asking ts → Marked us n → AllTold us p → Beside us n waits p
-beside_counted ts us m n waits o p b same marked counted = record { marked = marked; indexed = indexed_same ts us waits b.indexed same; counted = counted }
+beside_counted ts us m n waits o p b same marked counted = record { marked = marked; indexed = indexed_same ts us waits b.indexed same; within = within_same ts us waits b.within same; counted = counted }
 
 -- where the counts are taken out
 pub beside_out : (ts : List Seen) (m : Marks) (waits : Lists) (o p : Tallies) → Beside ts m waits o → p ≡ no_tallies → Beside ts m waits p
-beside_out ts m waits o p b out = record { marked = b.marked; indexed = b.indexed; counted = subst (λ q. AllTold ts q) (sym out) (none_told ts) }
+beside_out ts m waits o p b out = record { marked = b.marked; indexed = b.indexed; within = b.within; counted = subst (λ q. AllTold ts q) (sym out) (none_told ts) }
 
 -- after a change at a place, where the counts follow it
 pub beside_moved : (f : Seen → Seen) (p : ℕ) (ts us : List Seen) (m n : Marks) (waits : Lists) (o kept new : Tallies) (before after : Classes) → Beside ts m waits o → kept ≡ o → map asking us ≡ map asking ts → Marked us n

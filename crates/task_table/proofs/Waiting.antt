@@ -1,9 +1,12 @@
 -- A task that is settled changes what is so of the tasks that wait for it alone.
-use Rattle.std.proofs.Common.{◌≡◌, ℕ, zero, suc, length, arith, List, [], ◌∷◌, ◌++◌, map, Bool, true, false, not, ◌&&◌, ◌||◌, cond, refl, sym, ap, ◌∙◌, subst, Option, Some, None, bytes_eq, ◌⊎◌, inl}
+use Rattle.std.proofs.Common.{◌≡◌, ◌≤◌, ◌<◌, ◌+◌, ℕ, zero, suc, length, replicate, arith, List, [], ◌∷◌, ◌++◌, map, Bool, true, false, not, ◌&&◌, ◌||◌, cond, refl, sym, ap, ◌∙◌, subst, Option, Some, None, bytes_eq, ◌⊎◌, inl}
 use Rattle.std.specs.Prelude.{⊤, slice_get, ◌==◌, option_map}
 use Rattle.std.specs.Ordering.{nat_cmp}
 use Rattle.std.specs.BTreeMap.{is_at}
-use Rattle.std.specs.List.{list_any, list_all}
+use Rattle.std.specs.List.{list_any, list_all, sum_by}
+use Rattle.std.proofs.lemmas.List.{length-append, length-replicate}
+use Rattle.std.proofs.lemmas.List.Folds.{list_any-append}
+use Rattle.std.proofs.lemmas.List.Sums.{sum_by-cons, sum_by_push}
 use Rattle.std.specs.Option.{option_and_then}
 use Rattle.std.specs.BTreeSet.{BTreeSet}
 use Rattle.place_sets.specs.Sets.{has, holds, holds_at, Apart}
@@ -16,9 +19,9 @@ use Rattle.cluster_defs.specs.Requests.{Request}
 use Rattle.cluster_defs.proofs.Options.{same_id, id_self}
 use Rattle.task_table.specs.Seen.{Seen, seen_in, place_in}
 use Rattle.task_table.specs.Places.{name, settling, asking, Alike}
-use Rattle.task_graph.specs.Listing.{Lists, waiting_for}
+use Rattle.task_graph.specs.Listing.{Lists, waiting_for, times_listed, AllAdded, SameLists}
 use Rattle.std.proofs.lemmas.Bool.{both_ways, eqb-true, eq-eqb}
-use Rattle.task_table.specs.Waiting.{settled_in, awaits_as, awaits, is_among, Awaited, Indexed, IsNoted, WaitsGrow}
+use Rattle.task_table.specs.Waiting.{settled_in, awaits_as, awaits, is_among, Awaited, Indexed, ids_of, listings, Within}
 use Rattle.task_table.proofs.Places.{same_place, found_seen}
 
 -- WHAT HANGS ON LISTED IDS ALONE
@@ -194,9 +197,6 @@ by_requests id (t ∷ ts) (suc i) = by_requests id ts i
 pub indexed_same : (ts us : List Seen) (waits : Lists) → Indexed ts waits → map asking us ≡ map asking ts → Indexed us waits
 indexed_same ts us waits is same = λ id i on. is id i (by_requests id ts i ∙ ap (λ os. waits_in id (slice_get os i)) (sym same) ∙ sym (by_requests id us i) ∙ on)
 
-pub indexed_grown : (ts : List Seen) (old new : Lists) → Indexed ts old → WaitsGrow old new → Indexed ts new
-indexed_grown ts old new is grow = λ id i on. grow id i (is id i on)
-
 -- a task more, whose place stands with each id that it waits for
 pub indexed_more : (ts : List Seen) (t : Seen) (waits : Lists) → Indexed ts waits → ((id : Id) → awaits id t ≡ true → is_among (length ts) (waiting_for waits id) ≡ true) → Indexed (ts ++ t ∷ []) waits
 indexed_more ts t waits is noted = λ id i on.
@@ -208,52 +208,64 @@ indexed_more ts t waits is noted = λ id i on.
       | false ↦ λ off. is id i (ap (holds (awaits id)) (sym (get_more ts t i (λ e. both_ways (i == length ts) off (eq-eqb i (length ts) e)))) ∙ on)
     ] refl
 
--- A PLACE MORE WITH AN ID
+-- A TASK MORE, NOTED WITH THE IDS THAT IT LISTS
 
-among_before : (xs : List ℕ) (p i : ℕ) → is_among i xs ≡ true → is_among i (xs ++ p ∷ []) ≡ true
-among_before [] p i on = cc
-among_before (x ∷ xs) p i on =
-    first_or_later (is_at (nat_cmp i) x) (is_among i xs) on (λ same. or_left (is_at (nat_cmp i) x) (is_among i (xs ++ p ∷ [])) same) (λ later. or_right (is_at (nat_cmp i) x) (is_among i (xs ++ p ∷ [])) (among_before xs p i later))
+among_left : (xs ys : List ℕ) (i : ℕ) → is_among i xs ≡ true → is_among i (xs ++ ys) ≡ true
+among_left xs ys i on = list_any-append (is_at (nat_cmp i)) xs ys ∙ or_left (is_among i xs) (is_among i ys) on
 
-among_last : (xs : List ℕ) (p : ℕ) → is_among p (xs ++ p ∷ []) ≡ true
-among_last [] p = let same : is_at (nat_cmp p) p ≡ true = grind (arith) in rw same refl
-among_last (x ∷ xs) p = or_right (is_at (nat_cmp p) x) (is_among p (xs ++ p ∷ [])) (among_last xs p)
+among_right : (xs ys : List ℕ) (i : ℕ) → is_among i ys ≡ true → is_among i (xs ++ ys) ≡ true
+among_right xs ys i on = list_any-append (is_at (nat_cmp i)) xs ys ∙ or_right (is_among i xs) (is_among i ys) on
 
-put_before : (b : Bool) (xs : List ℕ) (p i : ℕ) → is_among i xs ≡ true → is_among i (cond b (xs ++ p ∷ []) xs) ≡ true
-put_before true xs p i on = among_before xs p i on
-put_before false xs p i on = on
+among_times : (n p : ℕ) → 0 < n → is_among p (replicate n p) ≡ true
+among_times zero p some = absurd (omega (arith, some))
+among_times (suc n) p some = let same : is_at (nat_cmp p) p ≡ true = grind (arith) in or_left (is_at (nat_cmp p) p) (is_among p (replicate n p)) same
 
-put_there : (b : Bool) (xs : List ℕ) (p : ℕ) → b ≡ true → is_among p (cond b (xs ++ p ∷ []) xs) ≡ true
-put_there true xs p on = among_last xs p
-put_there false xs p on = cc
+some_times : (id : Id) (ids : List Id) → is_listed id ids ≡ true → 0 < times_listed id ids
+some_times id [] on = cc
+some_times id (i ∷ ids) on =
+    let one : times_listed id (i ∷ ids) ≡ cond (bytes_eq i id) 1 0 + times_listed id ids = sum_by-cons (λ j. cond (bytes_eq j id) 1 0) i ids in
+    first_or_later (bytes_eq i id) (is_listed id ids) on
+    (λ here. let first : ◌≡◌ {A = ℕ} (cond (bytes_eq i id) 1 0) 1 = ap (λ b. cond b 1 0) here in omega (arith, one, first))
+    (λ later. let rest : 0 < times_listed id ids = some_times id ids later in omega (arith, one, rest))
 
--- the lists, once a place stands with an id
-abbrev pub Added : Id → ℕ → Lists → Lists → Type 0
-Added id p old new = (j : Id) → waiting_for new j ≡ cond (bytes_eq id j) (waiting_for old j ++ p ∷ []) (waiting_for old j)
+awaits_listed : (id : Id) (o : Option Request) → awaits_as id o ≡ true → is_listed id (ids_of o) ≡ true
+awaits_listed id None on = cc
+awaits_listed id (Some r) on = list_any-append (λ i. bytes_eq i id) r.after.ids r.follow.ids ∙ on
 
-pub added_grow : (l old new : Lists) (id : Id) (p : ℕ) → WaitsGrow l old → Added id p old new → WaitsGrow l new
-added_grow l old new id p grow added = λ j i on.
-    subst (λ xs. is_among i xs ≡ true) (sym (added j)) (put_before (bytes_eq id j) (waiting_for old j) p i (grow j i on))
+module _ (ts : List Seen) (t : Seen) (old new : Lists) where
+  pub indexed_noted : Indexed ts old → AllAdded (ids_of t.request) (length ts) old new → Indexed (ts ++ t ∷ []) new
+  indexed_noted is added = indexed_more ts t new
+      (λ id i on. subst (λ xs. is_among i xs ≡ true) (sym (added id)) (among_left (waiting_for old id) (replicate (times_listed id (ids_of t.request)) (length ts)) i (is id i on)))
+      (λ id on. subst (λ xs. is_among (length ts) xs ≡ true) (sym (added id)) (among_right (waiting_for old id) (replicate (times_listed id (ids_of t.request)) (length ts)) (length ts)
+      (among_times (times_listed id (ids_of t.request)) (length ts) (some_times id (ids_of t.request) (awaits_listed id t.request on)))))
 
-pub same_grow : (l old new : Lists) → WaitsGrow l old → ((j : Id) → waiting_for new j ≡ waiting_for old j) → WaitsGrow l new
-same_grow l old new grow same = λ j i on. subst (λ xs. is_among i xs ≡ true) (sym (same j)) (grow j i on)
+  pub within_noted : Within ts old → AllAdded (ids_of t.request) (length ts) old new → Within (ts ++ t ∷ []) new
+  within_noted is added = λ id.
+      let n = times_listed id (ids_of t.request) in
+      let long : length (waiting_for new id) ≡ length (waiting_for old id) + n = ap length (added id) ∙ length-append (waiting_for old id) (replicate n (length ts)) ∙ ap (λ m. length (waiting_for old id) + m) (length-replicate n (length ts)) in
+      let more : listings id (ts ++ t ∷ []) ≡ listings id ts + n = sum_by_push (λ u. times_listed id (ids_of u.request)) ts t in
+      let before : length (waiting_for old id) ≤ listings id ts = is id in
+      omega (arith, long, more, before)
 
-listed_end : (ids : List Id) (id j : Id) {P : Type 0} → is_listed j (ids ++ id ∷ []) ≡ true → (is_listed j ids ≡ true → P) → (bytes_eq id j ≡ true → P) → P
-listed_end [] id j on before here = first_or_later (bytes_eq id j) false on here (λ off. cc)
-listed_end (i ∷ ids) id j on before here =
-    first_or_later (bytes_eq i j) (is_listed j (ids ++ id ∷ [])) on (λ same. before (or_left (bytes_eq i j) (is_listed j ids) same))
-    (λ later. listed_end ids id j later (λ h. before (or_right (bytes_eq i j) (is_listed j ids) h)) here)
+-- NO MORE PLACES THAN ARE LISTED
 
-pub added_noted : (ids : List Id) (id : Id) (p : ℕ) (old new : Lists) → IsNoted ids p old → Added id p old new → IsNoted (ids ++ id ∷ []) p new
-added_noted ids id p old new noted added = λ j on.
-    subst (λ xs. is_among p xs ≡ true) (sym (added j)) (listed_end ids id j on
-    (λ before. put_before (bytes_eq id j) (waiting_for old j) p p (noted j before))
-    (λ here. put_there (bytes_eq id j) (waiting_for old j) p here))
+by_asking : (id : Id) (ts : List Seen) → listings id ts ≡ sum_by (λ o. times_listed id (ids_of o)) (map asking ts)
+by_asking id [] = refl
+by_asking id (t ∷ ts) =
+    sum_by-cons (λ u. times_listed id (ids_of u.request)) t ts ∙ ap (λ n. times_listed id (ids_of t.request) + n) (by_asking id ts)
+    ∙ sym (sum_by-cons (λ o. times_listed id (ids_of o)) (asking t) (map asking ts))
 
--- a place that stands with each id that a request waits for, and then with each that it follows
-pub noted_both : (id : Id) (o : Option Request) (r q : Request) (p : ℕ) (one two : Lists) → o ≡ Some r → o ≡ Some q → IsNoted r.after.ids p one → IsNoted q.follow.ids p two → WaitsGrow one two → awaits_as id o ≡ true → is_among p (waiting_for two id) ≡ true
-noted_both id o r q p one two is so after follow grow on =
-    let same : Some r ≡ Some q = sym is ∙ so in
-    let said : r ≡ q = cc in
-    first_or_later (is_listed id r.after.ids) (is_listed id r.follow.ids) (sym (ap (awaits_as id) is) ∙ on)
-    (λ here. grow id p (after id here)) (λ here. follow id (subst (λ x. is_listed id x.follow.ids ≡ true) said here))
+-- it hangs on the requests alone
+pub within_same : (ts us : List Seen) (waits : Lists) → Within ts waits → map asking us ≡ map asking ts → Within us waits
+within_same ts us waits is same = λ id.
+    let listed : listings id us ≡ listings id ts = by_asking id us ∙ ap (sum_by (λ o. times_listed id (ids_of o))) same ∙ sym (by_asking id ts) in
+    let before : length (waiting_for waits id) ≤ listings id ts = is id in
+    omega (arith, listed, before)
+
+-- THE SAME PLACES
+
+pub indexed_kept : (ts : List Seen) (old new : Lists) → Indexed ts old → SameLists old new → Indexed ts new
+indexed_kept ts old new is same = λ id i on. subst (λ xs. is_among i xs ≡ true) (sym (same id)) (is id i on)
+
+pub within_kept : (ts : List Seen) (old new : Lists) → Within ts old → SameLists old new → Within ts new
+within_kept ts old new is same = λ id. subst (λ xs. length xs ≤ listings id ts) (sym (same id)) (is id)

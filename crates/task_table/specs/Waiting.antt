@@ -1,11 +1,11 @@
 -- Tasks that wait for others: how these were settled, and where those are that list an id.
-use Rattle.std.specs.Prelude.{◌≡◌, ℕ, nat_le, List, Option, Some, None, Bool, true, false, not, ◌&&◌, ◌||◌}
+use Rattle.std.specs.Prelude.{◌≡◌, ◌≤◌, ℕ, nat_le, List, [], ◌++◌, length, Option, Some, None, Bool, true, false, not, ◌&&◌, ◌||◌}
 use Rattle.std.specs.Ordering.{nat_cmp}
-use Rattle.std.specs.List.{list_any}
+use Rattle.std.specs.List.{list_any, sum_by}
 use Rattle.std.specs.BTreeMap.{is_at}
 use Rattle.std.specs.Option.{option_and_then}
 use Rattle.place_sets.specs.Sets.{holds_at}
-use Rattle.task_graph.specs.Listing.{Lists, waiting_for}
+use Rattle.task_graph.specs.Listing.{Lists, waiting_for, times_listed}
 use Rattle.cluster_defs.specs.Words.{Id, is_listed}
 use Rattle.cluster_defs.specs.declared.settled.Settled.{Settled}
 use Rattle.cluster_defs.specs.Tasks.{Task}
@@ -47,10 +47,15 @@ Awaited id ts places = (i : ℕ) → holds_at (awaits id) ts i ≡ true → is_a
 abbrev pub Indexed : List Seen → Lists → Type 0
 Indexed ts waits = (id : Id) → Awaited id ts (waiting_for waits id)
 
--- a place stands with each of some ids
-abbrev pub IsNoted : List Id → ℕ → Lists → Type 0
-IsNoted ids place waits = (id : Id) → is_listed id ids ≡ true → is_among place (waiting_for waits id) ≡ true
+-- the ids that a task lists: those of `after`, then those of `follow`
+abbrev pub ids_of : Option Request → List Id
+ids_of None = []
+ids_of (Some r) = r.after.ids ++ r.follow.ids
 
--- each id has all places that it had
-abbrev pub WaitsGrow : Lists → Lists → Type 0
-WaitsGrow old new = (id : Id) (i : ℕ) → is_among i (waiting_for old id) ≡ true → is_among i (waiting_for new id) ≡ true
+-- how often the tasks list an id
+abbrev pub listings : Id → List Seen → ℕ
+listings id ts = sum_by (λ t. times_listed id (ids_of t.request)) ts
+
+-- no id has more places than the tasks list it
+abbrev pub Within : List Seen → Lists → Type 0
+Within ts waits = (id : Id) → length (waiting_for waits id) ≤ listings id ts

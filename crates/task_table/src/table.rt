@@ -1,6 +1,6 @@
 //! Tasks by place and by id.
 
-ghost use Rattle.std.specs.Prelude.{◌≡◌, ◌++◌, ◌∷◌, ◌<◌, ℕ, [], length, map, slice_get, Some, None, OnOk, OnErr, List, bytes_eq, if◌then◌else◌};
+ghost use Rattle.std.specs.Prelude.{◌≡◌, ◌++◌, ◌∷◌, ◌<◌, ℕ, [], length, map, slice_get, Some, None, OnOk, OnErr, IfErr, List, bytes_eq, if◌then◌else◌};
 ghost use Rattle.std.specs.HashMap.{get_by_text};
 ghost use Rattle.std.specs.Option.{option_copied, option_and_then};
 ghost use Rattle.std.specs.Vec.{vec_len, vec_capacity};
@@ -250,14 +250,19 @@ impl Table {
         self.at(self.place_of(id))
     }
 
-    /// Adds a task at the end.
-    pub fn push(&mut self, task: Task) -> Result<(), AllocError>
+    /// Adds a task at the end, or gives it back where memory is wanting.
+    pub fn push(&mut self, task: Task) -> Result<(), Task>
         ensures ok { OnOk result (self.new ≡ self.old ++ task ∷ []) }
         ensures err { OnErr result (self.new ≡ self.old) }
+        ensures back { IfErr result (λ t. t ≡ task) }
     {
-        make_room(&mut self.tasks, &mut self.places, task.id())?;
-        self.tasks.push_reserved(task);
-        Ok(())
+        match make_room(&mut self.tasks, &mut self.places, task.id()) {
+            Ok(()) => {
+                self.tasks.push_reserved(task);
+                Ok(())
+            }
+            Err(_) => Err(task),
+        }
     }
 
     /// Begins an attempt of the task at a place on an engine.

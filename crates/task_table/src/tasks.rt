@@ -1,6 +1,6 @@
 //! All tasks, with what is kept beside them.
 
-ghost use Rattle.std.specs.Prelude.{◌≡◌, ◌++◌, ◌∷◌, [], length, map, slice_get, Some, None, IfOk, IfSome, OnOk, OnErr};
+ghost use Rattle.std.specs.Prelude.{◌≡◌, ◌<◌, ◌≤◌, ◌+◌, ◌*◌, ◌++◌, ◌∷◌, [], length, map, slice_get, Some, None, IfOk, IfErr, IfSome, OnOk, OnErr};
 ghost use Rattle.std.specs.List.Sorted.{IsStrictlySortedBy};
 ghost use Rattle.std.specs.Option.{option_copied, option_and_then};
 ghost use Rattle.std.specs.Ordering.{nat_cmp};
@@ -10,7 +10,8 @@ ghost use Rattle.task_table.specs.Marking.{Marked};
 ghost use Rattle.task_table.specs.Loading.{Counts, CountedAnew};
 ghost use Rattle.task_table.specs.Tallying.{AllTold};
 ghost use Rattle.task_table.specs.Places.{Alike, asking};
-ghost use Rattle.task_table.specs.Waiting.{Awaited, IsNoted, WaitsGrow};
+ghost use Rattle.task_table.specs.Waiting.{Awaited, ids_of, listings};
+ghost use Rattle.task_graph.specs.Listing.{AllAdded, AllTaken, SameLists};
 
 use crate::loads::tallied;
 use crate::marks::{Marks, mark, mark_all, no_marks, wake_all};
@@ -20,13 +21,14 @@ use crate::task::Task;
 use crate::tidying::{tidy, tidy_all, tidy_waiting_all};
 use cluster_defs::attempt::Ending;
 use cluster_defs::settled::Settled;
-use cluster_types::message::Ids;
 use cluster_types::shared_message::SharedMessage;
 use cluster_types::text::Text;
 use dense_numbers::flags::set;
 use std::alloc::{AllocError, Global};
 use std::collections::BTreeSet;
-use std::marker::Model;
+use std::marker::{Brand, Model};
+use std::sync::ledger::{Blank, Ledger};
+use task_graph::steps::Steps;
 use task_graph::waiters::Waiters;
 
 /// All tasks in order of number, which contracts see as a list. A task is found by its id without a search, and those of
@@ -90,8 +92,9 @@ fn hand_in(
     Ok(())
 }
 
-/// Settles the task of an id, with the places of all tasks that wait for it: what is due of these may change.
-fn settle_in(
+/// Settles the task of an id, with the places of all tasks that wait for it: what is due of these may change. Its own place
+/// is touched twice, and so is each of those.
+fn settle_in<L: Ledger>(
     table: &mut Table,
     marks: &mut Marks,
     id: &Text,
@@ -99,6 +102,7 @@ fn settle_in(
     waiting: &[usize],
     settled: Settled,
     outcome: Option<SharedMessage>,
+    steps: &mut Steps<L>,
 ) -> Result<(), AllocError>
     requires marked { Marked table.old marks.old }
     requires place { place_in id.now table.old ≡ Some place }
@@ -106,12 +110,15 @@ fn settle_in(
     ensures ok { OnOk result (table.new ≡ at_place (settled_with settled outcome) place table.old) }
     ensures requests { map asking table.new ≡ map asking table.old }
     ensures marked { Marked table.new marks.new }
+    ensures cost { steps.new ≤ steps.old + 2 * (1 + length waiting.now) }
 {
+    steps.tick();
     mark(marks, place)?;
-    wake_all(marks, waiting)?;
+    wake_all(marks, waiting, steps)?;
     table.settle_at(place, settled, outcome);
+    steps.tick();
     tidy(table, marks, place);
-    tidy_waiting_all(table, marks, waiting);
+    tidy_waiting_all(table, marks, waiting, steps);
     Ok(())
 }
 
@@ -156,14 +163,23 @@ pub fn places_in(alloc: Global, set: &BTreeSet<usize>) -> Result<Vec<usize>, All
 }
 
 /// Has the places of tasks that were watched by an engine that ended watched by others, where there are any.
-fn watch_anew(table: &Table, marks: &mut Marks, engine: u32) -> Result<(), AllocError>
-    requires { Marked table.now marks.old }
+fn watch_anew<L: Ledger>(
+    table: &Table,
+    marks: &mut Marks,
+    engine: u32,
+    blank: Blank,
+) -> Result<(), AllocError>
+    requires name { blank.name ≡ L.name }
+    requires parts { blank.parts ≡ L.parts }
+    requires some { 0 < blank.parts }
+    requires marked { Marked table.now marks.old }
     ensures { Marked table.now marks.new }
 {
+    let mut steps = Steps::<L>::new(blank);
     let _ = set(&mut marks.ended, engine);
     let places = marks.watches.places(table.allocator(), u64::from(engine))?;
-    wake_all(marks, &places)?;
-    tidy_waiting_all(table, marks, &places);
+    wake_all(marks, &places, &mut steps)?;
+    tidy_waiting_all(table, marks, &places, &mut steps);
     Ok(())
 }
 
@@ -178,7 +194,7 @@ fn end_in(table: &mut Table, marks: &mut Marks, engine: u32) -> Result<(), Alloc
     mark_all(marks, &places)?;
     table.end_all(&places, engine)?;
     tidy_all(table, marks, &places);
-    watch_anew(table, marks, engine)
+    watch_anew::<Brand>(table, marks, engine, Blank::new(1))
 }
 
 /// Ends the attempts of all unsettled tasks, by an Open.
@@ -205,29 +221,73 @@ fn counted_in(table: &Table, marks: &Marks) -> Result<Option<Vec<u32>>, AllocErr
     tallied(alloc, table, &places)
 }
 
-/// Notes that the task at a place waits for some ids.
-fn note_waits(waiters: &mut Waiters, ids: &Ids, place: usize) -> Result<(), AllocError>
-    ensures there { OnOk result (IsNoted ids.now place waiters.new) }
-    ensures grow { WaitsGrow waiters.old waiters.new }
+/// Notes that a task, which has a place, waits for the ids that it lists. Where memory is wanting nothing is noted.
+fn note_waits(waiters: &mut Waiters, task: &Task, place: usize) -> Result<(), AllocError>
+    ensures ok { OnOk result (AllAdded (ids_of task.now.request) place waiters.old waiters.new) }
+    ensures err { OnErr result (SameLists waiters.old waiters.new) }
 {
-    for id in ids.as_slice() {
-        waiters.add(id, place)?;
+    let request = task.request();
+    let after = request.after.ids.as_slice();
+    let follow = request.follow.ids.as_slice();
+    waiters.add_all(after, place)?;
+    if let Err(error) = waiters.add_all(follow, place) {
+        waiters.take_back(after);
+        return Err(error);
     }
     Ok(())
 }
 
-fn push_onto(table: &mut Table, marks: &mut Marks, task: Task) -> Result<(), AllocError>
+/// Takes out again what was noted last, of a task.
+fn forget_waits(waiters: &mut Waiters, task: &Task)
+    ensures { AllTaken (ids_of task.now.request) waiters.old waiters.new }
+{
+    let request = task.request();
+    waiters.take_back(request.follow.ids.as_slice());
+    waiters.take_back(request.after.ids.as_slice());
+}
+
+/// Puts a task at the end, or gives it back where memory is wanting.
+fn push_onto(table: &mut Table, marks: &mut Marks, task: Task) -> Result<(), Task>
+    requires marked { Marked table.old marks.old }
+    requires unsettled { task.settled ≡ None }
+    ensures ok { OnOk result (table.new ≡ table.old ++ task ∷ []) }
+    ensures err { OnErr result (table.new ≡ table.old) }
+    ensures back { IfErr result (λ t. t ≡ task) }
+    ensures marked { Marked table.new marks.new }
+{
+    let place = table.len();
+    match mark(marks, place) {
+        Ok(()) => {
+            table.push(task)?;
+            tidy(table, marks, place);
+            Ok(())
+        }
+        Err(_) => Err(task),
+    }
+}
+
+/// Puts a task at the end that was noted with the ids that it lists. Where memory is wanting that is taken back.
+fn push_noted(
+    table: &mut Table,
+    marks: &mut Marks,
+    waiters: &mut Waiters,
+    task: Task,
+) -> Result<(), AllocError>
     requires marked { Marked table.old marks.old }
     requires unsettled { task.settled ≡ None }
     ensures ok { OnOk result (table.new ≡ table.old ++ task ∷ []) }
     ensures err { OnErr result (table.new ≡ table.old) }
     ensures marked { Marked table.new marks.new }
+    ensures noted { OnOk result (waiters.new ≡ waiters.old) }
+    ensures forgotten { OnErr result (AllTaken (ids_of task.request) waiters.old waiters.new) }
 {
-    let place = table.len();
-    mark(marks, place)?;
-    table.push(task)?;
-    tidy(table, marks, place);
-    Ok(())
+    match push_onto(table, marks, task) {
+        Ok(()) => Ok(()),
+        Err(task) => {
+            forget_waits(waiters, &task);
+            Err(AllocError)
+        }
+    }
 }
 
 impl Tasks {
@@ -293,9 +353,8 @@ impl Tasks {
         let place = self.table.len();
         let after = classes_of(&task);
         let kept = self.tallies.take();
-        note_waits(&mut self.waiters, &task.request().after.ids, place)?;
-        note_waits(&mut self.waiters, &task.request().follow.ids, place)?;
-        push_onto(&mut self.table, &mut self.marks, task)?;
+        note_waits(&mut self.waiters, &task, place)?;
+        push_noted(&mut self.table, &mut self.marks, &mut self.waiters, task)?;
         follow(&mut self.tallies, kept, no_classes(), after)
     }
 
@@ -341,14 +400,17 @@ impl Tasks {
         Ok(())
     }
 
-    /// Settles a task.
-    pub fn settle(
+    /// Settles a task, and counts the touches of places of tasks: at most two of its own, and two for each time that a task
+    /// lists it.
+    pub fn settle_counted<L: Ledger>(
         &mut self,
         id: &Text,
         settled: Settled,
         outcome: Option<SharedMessage>,
+        steps: &mut Steps<L>,
     ) -> Result<(), AllocError>
-        ensures { OnOk result (self.new ≡ changed id.now (settled_with settled outcome) self.old) }
+        ensures ok { OnOk result (self.new ≡ changed id.now (settled_with settled outcome) self.old) }
+        ensures cost { steps.new ≤ steps.old + 2 * (1 + listings id.now self.old) }
     {
         if let Some(place) = self.table.place_of(id) {
             let before = classes_at(&self.table, place);
@@ -362,6 +424,7 @@ impl Tasks {
                 waiting,
                 settled,
                 outcome,
+                steps,
             )?;
             follow(
                 &mut self.tallies,
@@ -371,6 +434,35 @@ impl Tasks {
             )?;
         }
         Ok(())
+    }
+
+    /// Settles a task, with a count of its own that nobody reads.
+    fn settle_anew<L: Ledger>(
+        &mut self,
+        id: &Text,
+        settled: Settled,
+        outcome: Option<SharedMessage>,
+        blank: Blank,
+    ) -> Result<(), AllocError>
+        requires name { blank.name ≡ L.name }
+        requires parts { blank.parts ≡ L.parts }
+        requires some { 0 < blank.parts }
+        ensures { OnOk result (self.new ≡ changed id.now (settled_with settled outcome) self.old) }
+    {
+        let mut steps = Steps::<L>::new(blank);
+        self.settle_counted(id, settled, outcome, &mut steps)
+    }
+
+    /// Settles a task.
+    pub fn settle(
+        &mut self,
+        id: &Text,
+        settled: Settled,
+        outcome: Option<SharedMessage>,
+    ) -> Result<(), AllocError>
+        ensures { OnOk result (self.new ≡ changed id.now (settled_with settled outcome) self.old) }
+    {
+        self.settle_anew::<Brand>(id, settled, outcome, Blank::new(1))
     }
 
     /// Lets the outcome of a task go.

@@ -1,7 +1,7 @@
 //! What is taken out of the sets of places after a change: each place of a task that a set isn't for. A place stays where
 //! memory is wanting to put it into a lane.
 
-ghost use Rattle.std.specs.Prelude.{◌≡◌};
+ghost use Rattle.std.specs.Prelude.{◌≡◌, ◌+◌, length};
 ghost use Rattle.place_sets.specs.Sets.{Covers};
 ghost use Rattle.task_table.specs.Standing.{final_at, direct_at, runs_open};
 ghost use Rattle.task_table.specs.Marking.{Marked};
@@ -12,6 +12,8 @@ use crate::standing::{is_direct_at, is_final_at, runs_open_at};
 use crate::table::Table;
 use place_sets::places::{has, leave_out};
 use std::collections::BTreeSet;
+use std::sync::ledger::Ledger;
+use task_graph::steps::Steps;
 
 #[tactic(auto, using(place_sets::proofs::Covering::covers_without))]
 fn tidy_finals(table: &Table, set: &mut BTreeSet<usize>, place: usize)
@@ -69,22 +71,30 @@ fn tidy_doubtful(table: &Table, marks: &mut Marks, place: usize)
     }
 }
 
-/// Takes a place out of the sets that hang on how other tasks were settled, where they aren't for it.
-fn tidy_waiting(table: &Table, marks: &mut Marks, place: usize)
+/// Takes a place out of the sets that hang on how other tasks were settled, where they aren't for it. It is a step.
+fn tidy_waiting<L: Ledger>(table: &Table, marks: &mut Marks, place: usize, steps: &mut Steps<L>)
     requires { Marked table.now marks.old }
-    ensures { Marked table.now marks.new }
+    ensures marked { Marked table.now marks.new }
+    ensures cost { steps.new ≡ steps.old + 1 }
 {
+    steps.tick();
     tidy_free(table, marks, place);
     tidy_doubtful(table, marks, place);
 }
 
-/// Takes some places out of them.
-pub fn tidy_waiting_all(table: &Table, marks: &mut Marks, places: &[usize])
+/// Takes some places out of them. Each is a step.
+pub fn tidy_waiting_all<L: Ledger>(
+    table: &Table,
+    marks: &mut Marks,
+    places: &[usize],
+    steps: &mut Steps<L>,
+)
     requires { Marked table.now marks.old }
-    ensures { Marked table.now marks.new }
+    ensures marked { Marked table.now marks.new }
+    ensures cost { steps.new ≡ steps.old + length places.now }
 {
     for place in places {
-        tidy_waiting(table, marks, *place);
+        tidy_waiting(table, marks, *place, steps);
     }
 }
 
@@ -96,7 +106,8 @@ pub fn tidy(table: &Table, marks: &mut Marks, place: usize)
     tidy_finals(table, &mut marks.finals, place);
     tidy_directs(table, &mut marks.directs, place);
     tidy_running(table, &mut marks.running, place);
-    tidy_waiting(table, marks, place);
+    tidy_free(table, marks, place);
+    tidy_doubtful(table, marks, place);
 }
 
 /// Takes some places out of the sets that aren't for them.

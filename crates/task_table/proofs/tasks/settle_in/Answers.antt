@@ -2,7 +2,7 @@ use Rattle.task_table.proofs.Marking.{marked_grown, marked_settled, has_grown}
 use Rattle.task_table.proofs.tasks.settle_in.Goals as goal
 
 pub tidy-requires : goal.tidy-requires
-tidy-requires c =
+tidy-requires g c =
     let ts = c.args.table.now in
     let m = c.mark.new.marks in
     let n = c.wake_all.new.marks in
