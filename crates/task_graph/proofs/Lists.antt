@@ -4,8 +4,8 @@ use Rattle.std.specs.Option.{is_some}
 use Rattle.std.specs.Prelude.{Result, Ok, Err, OnErr}
 use Rattle.std.specs.Global.{Vec}
 use Rattle.std.proofs.lemmas.Slice.Eq.{bytes_eq-Decides}
-use Rattle.std.proofs.lemmas.List.{take_at, length-replicate, replicate_more, length-take-le, take-take, append_assoc, length-append}
-use Rattle.std.proofs.lemmas.List.Sums.{sum_by_push}
+use Rattle.std.proofs.lemmas.List.{take_at, length-replicate, replicate_more, replicate-append-replicate, length-take-le, take-take, append_assoc, length-append}
+use Rattle.std.proofs.lemmas.List.Sums.{sum_by_push, sum_by-append}
 use Rattle.task_graph.specs.Listing.{Lists, places_in, waiting_for, times_listed, without_last, AllAdded, AllTaken, SameLists}
 
 same_id : (i j : List ℕ) → bytes_eq i j ≡ true → i ≡ j
@@ -55,12 +55,15 @@ added_more ids id place old mid new added one = λ j.
     one j ∙ ap (λ xs. cond (bytes_eq id j) (xs ++ place ∷ []) xs) (added j) ∙ add_step (bytes_eq id j) (times_listed j ids) place (waiting_for old j)
     ∙ ap (λ n. waiting_for old j ++ replicate n place) (sym (times_more j ids id))
 
-take_step : (b : Bool) (n : ℕ) (xs : List ℕ) → cond b (without_last 1 (without_last n xs)) (without_last n xs) ≡ without_last (n + cond b 1 0) xs
-take_step true n xs =
+without_more : (m n : ℕ) (xs : List ℕ) → without_last m (without_last n xs) ≡ without_last (n + m) xs
+without_more m n xs =
     let long : length (without_last n xs) ≡ length xs - n = length-take-le (length xs - n) xs (omega arith) in
-    let fewer : length (without_last n xs) - 1 ≤ length xs - n = omega (arith, long) in
-    let same : length (without_last n xs) - 1 ≡ length xs - (n + 1) = omega (arith, long) in
-    take-take (length (without_last n xs) - 1) (length xs - n) xs fewer ∙ ap (λ m. take m xs) same
+    let fewer : length (without_last n xs) - m ≤ length xs - n = omega (arith, long) in
+    let same : length (without_last n xs) - m ≡ length xs - (n + m) = omega (arith, long) in
+    take-take (length (without_last n xs) - m) (length xs - n) xs fewer ∙ ap (λ k. take k xs) same
+
+take_step : (b : Bool) (n : ℕ) (xs : List ℕ) → cond b (without_last 1 (without_last n xs)) (without_last n xs) ≡ without_last (n + cond b 1 0) xs
+take_step true n xs = without_more 1 n xs
 take_step false n xs = let none : n ≡ n + 0 = omega arith in ap (λ m. without_last m xs) none
 
 -- the last place of each of some ids taken out, and that of one more
@@ -78,3 +81,22 @@ without_added n place xs =
 pub taken_back : (ids : List (List ℕ)) (place : ℕ) (old mid new : Lists) → AllAdded ids place old mid → AllTaken ids mid new → SameLists old new
 taken_back ids place old mid new added taken = λ j.
     taken j ∙ ap (without_last (times_listed j ids)) (added j) ∙ without_added (times_listed j ids) place (waiting_for old j)
+
+-- TWO LISTS OF IDS
+
+times_both : (j : List ℕ) (xs ys : List (List ℕ)) → times_listed j (xs ++ ys) ≡ times_listed j xs + times_listed j ys
+times_both j xs ys = sum_by-append (λ i. cond (bytes_eq i j) 1 0) xs ys
+
+pub added_both : (xs ys : List (List ℕ)) (place : ℕ) (old mid new : Lists) → AllAdded xs place old mid → AllAdded ys place mid new → AllAdded (xs ++ ys) place old new
+added_both xs ys place old mid new one two = λ j.
+    let m = times_listed j xs in
+    let n = times_listed j ys in
+    two j ∙ ap (λ ps. ps ++ replicate n place) (one j) ∙ append_assoc (waiting_for old j) (replicate m place) (replicate n place)
+    ∙ ap (λ ps. waiting_for old j ++ ps) (replicate-append-replicate m n place) ∙ ap (λ k. waiting_for old j ++ replicate k place) (sym (times_both j xs ys))
+
+pub taken_both : (xs ys : List (List ℕ)) (old mid new : Lists) → AllTaken ys old mid → AllTaken xs mid new → AllTaken (xs ++ ys) old new
+taken_both xs ys old mid new one two = λ j.
+    let m = times_listed j xs in
+    let n = times_listed j ys in
+    let swap : n + m ≡ times_listed j (xs ++ ys) = (let both : times_listed j (xs ++ ys) ≡ m + n = times_both j xs ys in omega (arith, both)) in
+    two j ∙ ap (without_last m) (one j) ∙ without_more m n (waiting_for old j) ∙ ap (λ k. without_last k (waiting_for old j)) swap

@@ -1,5 +1,5 @@
 -- What is kept beside the tasks once one was added, and where that failed.
-use Rattle.std.proofs.Common.{◌≡◌, ℕ, List, [], ◌∷◌, ◌++◌, length, sym, subst}
+use Rattle.std.proofs.Common.{◌≡◌, List, [], ◌∷◌, ◌++◌, length, sym, subst}
 use Rattle.task_graph.specs.Listing.{Lists, AllAdded, SameLists}
 use Rattle.task_table.specs.declared.marks.Marks.{Marks}
 use Rattle.task_table.specs.declared.tallies.Tallies.{Tallies}

@@ -1,4 +1,4 @@
-use Rattle.std.proofs.Common.{sym, subst, ◌∙◌, length}
+use Rattle.std.proofs.Common.{sym, subst, length}
 use Rattle.task_graph.specs.Listing.{AllAdded}
 use Rattle.task_graph.proofs.Lists.{taken_back}
 use Rattle.task_table.specs.Waiting.{ids_of}
