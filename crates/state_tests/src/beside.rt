@@ -34,6 +34,24 @@ fn the_places_of_an_id_are_kept(rt: HostRuntime) {
     assert!(rt; awaited(&rt, alloc, &waiters, "z", &[]));
 }
 
+#[test]
+fn places_are_taken_back(rt: HostRuntime) {
+    let alloc = rt.alloc();
+    let mut waiters = Waiters::new(alloc);
+    waits(&rt, alloc, &mut waiters, "x", 3);
+    let ids = [
+        text(&rt, alloc, "x"),
+        text(&rt, alloc, "y"),
+        text(&rt, alloc, "x"),
+    ];
+    waiters.add_all(&ids, 5).expect(&rt, "memory is ample");
+    assert!(rt; awaited(&rt, alloc, &waiters, "x", &[3, 5, 5]));
+    assert!(rt; awaited(&rt, alloc, &waiters, "y", &[5]));
+    waiters.take_back(&ids);
+    assert!(rt; awaited(&rt, alloc, &waiters, "x", &[3]));
+    assert!(rt; awaited(&rt, alloc, &waiters, "y", &[]));
+}
+
 /// The counts, once one goes and one comes.
 fn step<R: Abort>(
     rt: &R,

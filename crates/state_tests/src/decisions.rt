@@ -20,7 +20,10 @@ use load_schemes::chooser::{Choose, Chooser};
 use load_schemes::place::place_of;
 use place_sets::lanes::Lanes;
 use std::alloc::Global;
+use std::marker::Brand;
 use std::process::Abort;
+use std::sync::ledger::{Blank, Ledger};
+use task_graph::steps::Steps;
 use task_table::task::Task;
 use task_table::tasks::Tasks;
 
@@ -135,6 +138,16 @@ fn add<R: Abort>(rt: &R, alloc: Global, tasks: &mut Tasks, id: &str, request: Wh
     push(rt, tasks, task_of(rt, alloc, &id, request));
 }
 
+/// Settled by a reply of an engine.
+fn by_reply(verdict: Verdict, engine: u32) -> Settled {
+    Settled {
+        verdict,
+        cause: Cause::Reply,
+        engine: Some(engine),
+        moment: 0,
+    }
+}
+
 /// Settles a task on an engine.
 fn finish<R: Abort>(
     rt: &R,
@@ -145,14 +158,25 @@ fn finish<R: Abort>(
     engine: u32,
 ) {
     let id = text(rt, alloc, id);
-    let settled = Settled {
-        verdict,
-        cause: Cause::Reply,
-        engine: Some(engine),
-        moment: 0,
-    };
     tasks
-        .settle(&id, settled, None)
+        .settle(&id, by_reply(verdict, engine), None)
+        .expect(rt, "memory is ample");
+}
+
+/// Settles `x`, and counts the steps.
+fn finish_counted<L: Ledger, R: Abort>(rt: &R, alloc: Global, tasks: &mut Tasks, blank: Blank)
+    requires name { blank.name ≡ L.name }
+    requires parts { blank.parts ≡ L.parts }
+    requires some { 0 < blank.parts }
+{
+    let mut steps = Steps::<L>::new(blank);
+    tasks
+        .settle_counted(
+            &text(rt, alloc, "x"),
+            by_reply(Verdict::Completed, 0),
+            None,
+            &mut steps,
+        )
         .expect(rt, "memory is ample");
 }
 
@@ -294,6 +318,17 @@ fn new_chooser<R: Abort>(rt: &R, alloc: Global) -> Chooser {
 fn decides<R: Abort>(rt: &R, chooser: &Chooser, state: State, name: &str, outcome: Outcome) {
     let alloc = state.allocator();
     assert_eq!(rt; decided(rt, alloc, chooser, &state, name), outcome);
+}
+
+#[test]
+fn a_counted_settle_settles(rt: HostRuntime) {
+    let alloc = rt.alloc();
+    let mut tasks = Tasks::new(alloc);
+    add(&rt, alloc, &mut tasks, "x", plain(&rt, alloc));
+    add(&rt, alloc, &mut tasks, "y", after_both(&rt, alloc, false));
+    finish_counted::<Brand, HostRuntime>(&rt, alloc, &mut tasks, Blank::new(1));
+    let settled = tasks.find(&text(&rt, alloc, "x"));
+    assert!(rt; settled.is_some_and(|task| task.settled().is_some()));
 }
 
 #[test]
