@@ -6,7 +6,6 @@ ghost use Rattle.cluster_defs.specs.Words.{once};
 ghost use Rattle.cluster_defs.specs.Purges.{copies_from};
 ghost use Rattle.thin_history.specs.Notes.{note_as};
 
-use task_table::attempts::one_more;
 use cluster_types::event::Event;
 use cluster_types::message::Ids;
 use cluster_types::sequence::Sequence;
@@ -14,6 +13,7 @@ use cluster_types::text::Text;
 use std::alloc::{AllocError, Global};
 use std::marker::Model;
 use task_lookup::distinct::once;
+use task_table::attempts::one_more;
 
 /// A new id, with the old one whose request it got.
 #[derive(Drop)]
