@@ -4,6 +4,7 @@
 //! octets are missing at least, so that records can be read from a stream that comes in any pieces.
 #![tactic(auto)]
 
+pub mod difference;
 pub mod reading;
 pub mod stop;
 pub mod writing;

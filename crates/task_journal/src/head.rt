@@ -1,27 +1,14 @@
 //! The head of a journal.
 
-ghost use Rattle.std.specs.Prelude.{◌≡◌, ◌≤◌, length, IsErrOf};
+ghost use Rattle.std.specs.Prelude.{◌≤◌, length, IsErrOf};
 ghost use Rattle.cluster_types.specs.Causes.{Rose};
-ghost use Rattle.octet_fields.specs.Difference.{difference};
 ghost use Rattle.task_journal.specs.Reads.{OnlyReads};
 ghost use Rattle.task_journal.specs.Window.{HasHead};
 
 use crate::disk_calls::read_into;
 use crate::fault::OpenFault;
 use disk_model::disk::Disk;
-
-/// The place of the first octet that differs.
-fn difference_of(head: &[u8], octets: &[u8]) -> Option<u64>
-    requires { length head.now ≤ length octets.now }
-    ensures { result ≡ difference 0 head.now octets.now }
-{
-    for (i, x) in head.iter().enumerate() {
-        if *x != octets[i] {
-            return Some(i as u64);
-        }
-    }
-    None
-}
+use octet_fields::difference::difference_of;
 
 /// Whether a disk begins with the head of a journal.
 pub fn check_head<D: Disk>(disk: &mut D) -> Result<(), OpenFault>
@@ -34,7 +21,7 @@ pub fn check_head<D: Disk>(disk: &mut D) -> Result<(), OpenFault>
     read_into(disk, 0, &mut octets)?;
     let head =
         b"IPCJRNL1\x00\x00\x00\x01\x00\x00\x00\x00\x00\x00\x00\x00\x00\x00\x00\x00\x00\x00\x00\x00\x00\x00\x00";
-    match difference_of(head, &octets) {
+    match difference_of(0, head, &octets) {
         Some(place) => Err(OpenFault::NotAJournal(place)),
         None => Ok(()),
     }

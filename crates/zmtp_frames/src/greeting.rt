@@ -1,24 +1,10 @@
 //! The greeting.
 
 ghost use Rattle.std.specs.Prelude.{◌≡◌, ◌≤◌, length, OnOk, IfErr, Some, None};
-ghost use Rattle.octet_fields.specs.Difference.{difference};
 ghost use Rattle.zmtp_frames.specs.Greeting.{greeting_fault, null_mechanism, own_greeting};
 
 use crate::fault::FrameFault;
-
-/// The place of the first octet that differs, where the first one has the place `start`.
-fn difference_of(start: u64, wanted: &[u8], octets: &[u8]) -> Option<u64>
-    requires length { length wanted.now ≤ length octets.now }
-    requires place { start ≤ 1000 }
-    ensures { result ≡ difference start wanted.now octets.now }
-{
-    for (place, x) in wanted.iter().enumerate() {
-        if *x != octets[place] {
-            return Some(start + place as u64);
-        }
-    }
-    None
-}
+use octet_fields::difference::difference_of;
 
 /// The first fault.
 fn fault_of(octets: &[u8]) -> Option<FrameFault>
