@@ -12,3 +12,5 @@ mod lookups;
 mod queries;
 #[cfg(test)]
 mod resubmissions;
+#[cfg(test)]
+mod tables;

@@ -1,6 +1,7 @@
 //! Fields of each kind.
 
 use cluster_types::config::Channel;
+use octet_fields::difference::difference_of;
 use octet_fields::reading::{blob, channel, front, number32, number64, octet, str8};
 use octet_fields::stop::Stop;
 use octet_fields::writing::{put_blob, put_channel, put_number32, put_number64, put_str8};
@@ -50,4 +51,10 @@ fn what_is_missing_is_told(rt: HostRuntime) {
     assert!(rt; front(2, b"abc") == Ok((b"ab".as_slice(), b"c".as_slice())));
     assert!(rt; blob(b"\0\0\0\x02a").err() == Some(Stop::Short(1)));
     assert!(rt; channel(b"\x04").err() == Some(Stop::Bad));
+}
+
+#[test]
+fn the_first_difference_is_found(rt: HostRuntime) {
+    assert!(rt; difference_of(12, b"NULL", b"NUMBER") == Some(14));
+    assert!(rt; difference_of(12, b"NULL", b"NULL\0").is_none());
 }
