@@ -1,33 +1,16 @@
 //! Runs by worked values.
 
-ghost use Rattle.std.specs.Prelude.{◌<◌, ◌≡◌, length};
-ghost use Rattle.cluster_defs.specs.Scheduling.{pick};
-
-use cluster_types::config::Scheme;
+use crate::choosing::new_chooser;
 use disk_model::memory::MemDisk;
 use generated_work::summary::Summary;
-use load_schemes::chooser::Chooser;
-use load_schemes::place::place_of;
-use std::alloc::{AllocError, Global};
+use std::alloc::Global;
 use std::process::Abort;
 use work_drive::fault::WorkError;
 use work_drive::work::work;
 
-/// A chooser of the four schemes.
-fn chooser(alloc: Global) -> Result<Chooser, AllocError> {
-    let choose = Box::new(
-        alloc,
-        |scheme: Scheme, loads: &[u32], word: u64| -> usize
-            requires { 0 < length loads.now }
-            ensures { result ≡ pick scheme loads.now word }
-        { place_of(scheme, loads, word) },
-    )?;
-    Ok(Chooser::new(choose))
-}
-
 /// The lines of the summary of a seed and so many tasks, over an empty disk.
 fn lines<R: Abort>(rt: &R, alloc: Global, seed: u32, tasks: u32) -> String {
-    let chooser = chooser(alloc).expect(rt, "memory is ample");
+    let chooser = new_chooser(alloc).expect(rt, "memory is ample");
     let disk = MemDisk::new(alloc, b"").expect(rt, "memory is ample");
     assert!(rt; seed < 2_147_483_648 && tasks <= 500_000);
     let (answer, _disk) = work(alloc, disk, &chooser, seed, tasks);
@@ -61,7 +44,7 @@ fn summaries(rt: HostRuntime) {
 #[test]
 fn a_disk_that_is_not_empty(rt: HostRuntime) {
     let alloc = rt.alloc();
-    let chooser = chooser(alloc).expect(&rt, "memory is ample");
+    let chooser = new_chooser(alloc).expect(&rt, "memory is ample");
     let disk = MemDisk::new(alloc, b"x").expect(&rt, "memory is ample");
     let (answer, disk) = work(alloc, disk, &chooser, 1, 2);
     assert!(rt; matches!(answer, Err(WorkError::NotEmpty(0))));

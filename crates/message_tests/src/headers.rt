@@ -1,8 +1,8 @@
 //! The readers over worked texts.
 
+use crate::tables::{ids, text};
 use cluster_types::message::Ids;
 use cluster_types::octets::Octets;
-use cluster_types::sequence::Sequence;
 use cluster_types::text::Text;
 use json::Scratch;
 use jupyter_header::contents::{error_content, outcome_content};
@@ -434,10 +434,6 @@ fn reads_requests(rt: HostRuntime) {
     }
 }
 
-fn text<R: Abort>(rt: &R, alloc: Global, name: &str) -> Text {
-    Text::new(alloc, name).expect(rt, "memory is ample")
-}
-
 /// The type of the reply to a request.
 fn replied<R: Abort>(rt: &R, alloc: Global, kind: &Text) -> Text {
     reply_type(alloc, kind).expect(rt, "memory is ample")
@@ -477,15 +473,6 @@ fn written_headers(rt: HostRuntime) {
         again.as_slice(),
         "{\"msg_id\":\"queue_reply\",\"session\":\"a\\\"\\n\\u0001\u{e9}\",\"username\":\"a\\\"\\n\\u0001\u{e9}\",\"date\":\"2023-11-14T22:13:20.000Z\",\"msg_type\":\"queue_request\",\"version\":\"5.3\"}".as_bytes()
     );
-}
-
-fn ids<R: Abort>(rt: &R, alloc: Global, names: &[&str]) -> Ids {
-    let mut list = Sequence::new(alloc);
-    for name in names {
-        let id = text(rt, alloc, name);
-        list.push(id).expect(rt, "memory is ample");
-    }
-    list
 }
 
 /// The content of a refusal that concerns some ids.

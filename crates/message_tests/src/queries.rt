@@ -3,6 +3,7 @@
 ghost use Rattle.std.specs.Prelude.{map};
 ghost use Rattle.hub_queries.specs.Ascending.{Ascends};
 
+use crate::tables::{ids, text};
 use cluster_defs::answer::Answer;
 use cluster_types::config::Channel;
 use cluster_types::event::Query;
@@ -10,7 +11,6 @@ use cluster_types::octets::Octets;
 use cluster_types::record::Record;
 use cluster_types::sequence::Sequence;
 use cluster_types::shared_message::SharedMessage;
-use cluster_types::text::Text;
 use cluster_types::verdict::{Cause, Verdict};
 use hub_queries::answer::answer;
 use hub_queries::engines::LiveEngines;
@@ -18,10 +18,6 @@ use hub_queries::limits::limited;
 use std::alloc::Global;
 use std::process::Abort;
 use task_lookup::list::RecordList;
-
-fn text<R: Abort>(rt: &R, alloc: Global, name: &str) -> Text {
-    Text::new(alloc, name).expect(rt, "memory is ample")
-}
 
 fn octets<R: Abort>(rt: &R, alloc: Global, bytes: &[u8]) -> Octets {
     Octets::new(alloc, bytes).expect(rt, "memory is ample")
@@ -111,7 +107,7 @@ fn asked<R: Abort>(rt: &R, alloc: Global, query: &Query) -> Answer {
 }
 
 /// Whether an answer has this content.
-fn says(answer: &Answer, text: &str) -> bool {
+pub(crate) fn says(answer: &Answer, text: &str) -> bool {
     answer.content.as_slice() == text.as_bytes()
 }
 
@@ -132,11 +128,7 @@ fn queue<R: Abort>(rt: &R, alloc: Global, engine: Option<u32>, verbose: bool) ->
 
 /// A query for results.
 fn result<R: Abort>(rt: &R, alloc: Global, names: &[&str], status_only: bool) -> Query {
-    let mut ids = Sequence::new(alloc);
-    for name in names {
-        let id = text(rt, alloc, name);
-        ids.push(id).expect(rt, "memory is ample");
-    }
+    let ids = ids(rt, alloc, names);
     Query::Result { ids, status_only }
 }
 

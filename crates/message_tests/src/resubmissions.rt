@@ -1,5 +1,6 @@
 //! Plans over a table of three records: `a` is settled, `b` runs and `c` is purged. `z` was never known.
 
+use crate::queries::says;
 use crate::tables::{adds, are, ids, settled, table};
 use cluster_defs::answer::Answer;
 use cluster_types::config::Channel;
@@ -10,11 +11,6 @@ use resubmission::purge::{PurgePlan, plan_purge};
 use std::alloc::Global;
 use std::process::Abort;
 use task_lookup::list::RecordList;
-
-/// Whether an answer has this content.
-fn says(answer: &Answer, text: &str) -> bool {
-    answer.content.as_slice() == text.as_bytes()
-}
 
 /// A refusal of a resubmission: its name, and each of its ids followed by a blank.
 fn is_refusal(refused: &ResubmitRefusal, name: &str, names: &str) -> bool {

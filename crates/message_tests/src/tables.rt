@@ -10,7 +10,7 @@ use std::alloc::Global;
 use std::process::Abort;
 use task_lookup::list::RecordList;
 
-fn text<R: Abort>(rt: &R, alloc: Global, name: &str) -> Text {
+pub(crate) fn text<R: Abort>(rt: &R, alloc: Global, name: &str) -> Text {
     Text::new(alloc, name).expect(rt, "memory is ample")
 }
 

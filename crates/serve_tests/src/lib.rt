@@ -1,4 +1,5 @@
-//! Tests of a controller in threads. They stand in a crate of their own since a crate that has tests is proved twice.
+//! Tests of the sessions of a link, and of a controller in threads. They stand in a crate of their own since a crate
+//! that has tests is proved twice.
 #![tactic(auto)]
 
 #[cfg(test)]
@@ -9,3 +10,5 @@ mod controller;
 mod ends;
 #[cfg(test)]
 mod gate;
+#[cfg(test)]
+mod sessions;

@@ -1,15 +1,11 @@
 //! What is kept beside the tasks: who waits for an id, and counts and marks of engines.
 
-use cluster_types::text::Text;
-use dense_numbers::counts::{count, moved};
+use crate::common::{counts_are, text};
+use dense_numbers::counts::moved;
 use dense_numbers::flags::{has, set};
 use std::alloc::Global;
 use std::process::Abort;
 use task_graph::waiters::Waiters;
-
-fn text<R: Abort>(rt: &R, alloc: Global, name: &str) -> Text {
-    Text::new(alloc, name).expect(rt, "memory is ample")
-}
 
 /// Notes that the task at a place waits for an id.
 fn waits<R: Abort>(rt: &R, alloc: Global, waiters: &mut Waiters, id: &str, place: usize) {
@@ -60,14 +56,6 @@ fn step<R: Abort>(
     after: Option<u32>,
 ) -> Option<Vec<u32>> {
     moved(counts, before, after).expect(rt, "memory is ample")
-}
-
-/// Whether a number has this count.
-fn counts_are(counts: &Option<Vec<u32>>, number: u32, wanted: u32) -> bool {
-    match counts {
-        Some(counts) => count(counts, number) == wanted,
-        None => false,
-    }
 }
 
 #[test]

@@ -1,23 +1,20 @@
 //! Decisions over small clusters.
 
-ghost use Rattle.std.specs.Prelude.{◌≡◌, ◌<◌, length, None};
-ghost use Rattle.cluster_defs.specs.Scheduling.{pick};
+ghost use Rattle.std.specs.Prelude.{◌≡◌, None};
 
+use crate::common::{message, new_chooser, text};
 use cluster_defs::engine::Engine;
 use cluster_defs::request::WholeRequest;
 use cluster_defs::settled::Settled;
 use cluster_state::state::State;
-use cluster_types::config::Scheme;
 use cluster_types::entry::Entry;
 use cluster_types::event::Dep;
 use cluster_types::sequence::Sequence;
-use cluster_types::shared_message::SharedMessage;
 use cluster_types::text::Text;
 use cluster_types::verdict::{Cause, Verdict};
 use dense_numbers::counts::count;
 use due_decisions::due::due;
-use load_schemes::chooser::{Choose, Chooser};
-use load_schemes::place::place_of;
+use load_schemes::chooser::Chooser;
 use place_sets::lanes::Lanes;
 use std::alloc::Global;
 use std::marker::Brand;
@@ -26,10 +23,6 @@ use std::sync::ledger::{Blank, Ledger};
 use task_graph::steps::Steps;
 use task_table::task::Task;
 use task_table::tasks::Tasks;
-
-fn text<R: Abort>(rt: &R, alloc: Global, name: &str) -> Text {
-    Text::new(alloc, name).expect(rt, "memory is ample")
-}
 
 /// A dependency that completed tasks meet, and failed ones if it says so.
 fn dep(alloc: Global, failure: bool) -> Dep {
@@ -54,20 +47,12 @@ fn on_both<R: Abort>(rt: &R, alloc: Global, failure: bool) -> Dep {
     both
 }
 
-fn message<R: Abort>(rt: &R, alloc: Global) -> SharedMessage {
-    let buffers = Sequence::new(alloc);
-    SharedMessage::new(alloc, b"", b"{}", b"{}", b"{}", b"{}", buffers).expect(
-        rt,
-        "memory is ample",
-    )
-}
-
 /// A Submit with these dependencies, accepted at moment 1000.
 fn request<R: Abort>(rt: &R, alloc: Global, after: Dep, follow: Dep) -> WholeRequest {
     WholeRequest {
         owner: None,
         direct_to: None,
-        message: message(rt, alloc),
+        message: message(rt, alloc, b"{}"),
         msg_type: text(rt, alloc, "execute_request"),
         session: text(rt, alloc, ""),
         username: text(rt, alloc, ""),
@@ -299,19 +284,6 @@ fn decided<R: Abort>(
 ) -> Outcome {
     let found = due(alloc, state, chooser).expect(rt, "memory is ample");
     told(&found, name)
-}
-
-/// A chooser that places tasks as a controller does.
-fn new_chooser<R: Abort>(rt: &R, alloc: Global) -> Chooser {
-    let choose: Choose = Box::new(
-        alloc,
-        |scheme: Scheme, loads: &[u32], word: u64| -> usize
-            requires { 0 < length loads.now }
-            ensures { result ≡ pick scheme loads.now word }
-        { place_of(scheme, loads, word) },
-    )
-    .expect(rt, "memory is ample");
-    Chooser::new(choose)
 }
 
 /// Checks what is decided over a state, of a task with this name.

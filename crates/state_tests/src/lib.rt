@@ -5,6 +5,8 @@
 #[cfg(test)]
 mod beside;
 #[cfg(test)]
+mod common;
+#[cfg(test)]
 mod decisions;
 #[cfg(test)]
 mod lanes;

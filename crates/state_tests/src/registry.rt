@@ -1,7 +1,7 @@
 //! Engines in a registry: found, marked, missed and ended.
 
+use crate::common::text;
 use cluster_defs::engine::Engine;
-use cluster_types::text::Text;
 use engine_registry::registry::Registry;
 use std::alloc::Global;
 use std::process::Abort;
@@ -10,7 +10,7 @@ fn engine<R: Abort>(rt: &R, alloc: Global, number: u32, conn: u32, uuid: &str) -
     Engine {
         number,
         conn,
-        uuid: Text::new(alloc, uuid).expect(rt, "memory is ample"),
+        uuid: text(rt, alloc, uuid),
         mark: 0,
     }
 }

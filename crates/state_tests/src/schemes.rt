@@ -1,11 +1,7 @@
 //! The places over three loads, by each scheme.
 
-ghost use Rattle.std.specs.Prelude.{◌≡◌, ◌<◌, length};
-ghost use Rattle.cluster_defs.specs.Scheduling.{pick};
-
+use crate::common::new_chooser;
 use cluster_types::config::Scheme;
-use load_schemes::chooser::{Choose, Chooser};
-use load_schemes::place::place_of;
 
 /// Schemes, loads and words, and the place that each comes to. The halves of the word 8,589,934,593 are 1 and 2.
 const ROWS: [(Scheme, [u32; 3], u64, usize); 7] = [
@@ -20,15 +16,7 @@ const ROWS: [(Scheme, [u32; 3], u64, usize); 7] = [
 
 #[test]
 fn places_over_three_loads(rt: HostRuntime) {
-    let choose: Choose = Box::new(
-        rt.alloc(),
-        |scheme: Scheme, loads: &[u32], word: u64| -> usize
-            requires { 0 < length loads.now }
-            ensures { result ≡ pick scheme loads.now word }
-        { place_of(scheme, loads, word) },
-    )
-    .expect(&rt, "memory is ample");
-    let chooser = Chooser::new(choose);
+    let chooser = new_chooser(&rt, rt.alloc());
     for (scheme, loads, word, place) in ROWS {
         assert_eq!(rt; chooser.choose(scheme, &loads, word), place, "at {word}");
     }

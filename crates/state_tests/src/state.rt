@@ -6,6 +6,7 @@ ghost use Rattle.cluster_state.specs.Plain.{InTime};
 ghost use Rattle.cluster_state.specs.Ruled.{IsRuled};
 ghost use Rattle.cluster_state.specs.Stands.{plain};
 
+use crate::common::{counts_are, message, text};
 use cluster_defs::acceptance::Acceptance;
 use cluster_defs::attempt::Ending;
 use cluster_defs::engine::{Engine, Joining};
@@ -29,18 +30,6 @@ use resubmission::purge::PurgePlan;
 use std::alloc::Global;
 use std::process::Abort;
 use task_table::attempts::{Attempts, engine_of, is_never, one_more, runs, runs_at};
-
-fn text<R: Abort>(rt: &R, alloc: Global, name: &str) -> Text {
-    Text::new(alloc, name).expect(rt, "memory is ample")
-}
-
-fn message<R: Abort>(rt: &R, alloc: Global, header: &[u8]) -> SharedMessage {
-    let buffers = Sequence::new(alloc);
-    SharedMessage::new(alloc, b"", header, b"{}", b"{}", b"{}", buffers).expect(
-        rt,
-        "memory is ample",
-    )
-}
 
 fn ids<R: Abort>(rt: &R, alloc: Global, names: &[&str]) -> Ids {
     let mut list = Ids::new(alloc);
@@ -489,14 +478,6 @@ fn loads_follow_the_tasks(rt: HostRuntime) {
     assert!(rt; load_of(&state, 0) == Some(1) && load_of(&state, 1) == Some(0));
     assert!(rt; reply(&rt, alloc, &mut state, "r"));
     assert!(rt; load_of(&state, 0) == Some(0));
-}
-
-/// Whether a number has this count.
-fn counts_are(counts: &Option<Vec<u32>>, number: u32, wanted: u32) -> bool {
-    match counts {
-        Some(counts) => count(counts, number) == wanted,
-        None => false,
-    }
 }
 
 /// Whether so many Submits wait, so many Submits and Directs run on engine 0, and so many tasks finished there.

@@ -1,5 +1,6 @@
 //! The frames of one out of each kind, under the key `k`, as the Python model gives them.
 
+use crate::common::{is_frame, key};
 use cluster_outgo::frames_of;
 use cluster_types::octets::Octets;
 use cluster_types::out::Out;
@@ -7,14 +8,8 @@ use cluster_types::sequence::Sequence;
 use cluster_types::shared_message::SharedMessage;
 use cluster_types::text::Text;
 use edges::frames::Frames;
-use hmac_sign::Key;
 use std::alloc::Global;
 use std::process::Abort;
-
-/// The key `k`.
-fn key<R: Abort>(rt: &R, alloc: Global) -> Key {
-    Key::new(alloc, b"k").expect(rt, "a key")
-}
 
 fn text<R: Abort>(rt: &R, alloc: Global, from: &str) -> Text {
     Text::new(alloc, from).expect(rt, "memory is ample")
@@ -40,14 +35,6 @@ fn frames_made<R: Abort>(rt: &R, alloc: Global) -> Frames {
         buffers,
     };
     frames_of(alloc, &made, &key(rt, alloc)).expect(rt, "memory is ample")
-}
-
-/// Whether this frame stands at this place.
-fn is_frame(frames: &Frames, place: usize, body: &[u8]) -> bool {
-    match frames.get(place) {
-        Some(found) => found == body,
-        None => false,
-    }
 }
 
 #[test]

@@ -1,11 +1,11 @@
 //! Frames that are read and written.
 
+use crate::common::{is_frame, key};
 use cluster_types::message::Buffers;
 use cluster_types::octets::Octets;
 use cluster_types::sequence::Sequence;
 use cluster_types::shared_message::SharedMessage;
 use edges::frames::Frames;
-use hmac_sign::Key;
 use jupyter_parts::fault::PartsError;
 use jupyter_parts::read::read_parts;
 use jupyter_parts::write::write_parts;
@@ -36,11 +36,6 @@ fn frames_of<R: Abort>(rt: &R, alloc: Global, bodies: &[&str]) -> Frames {
     frames
 }
 
-/// The key `k`.
-fn key<R: Abort>(rt: &R, alloc: Global) -> Key {
-    Key::new(alloc, b"k").expect(rt, "a key")
-}
-
 /// The error that frames with these bodies are refused with.
 fn refusal_of<R: Abort>(rt: &R, alloc: Global, bodies: &[&str]) -> PartsError {
     let key = key(rt, alloc);
@@ -48,14 +43,6 @@ fn refusal_of<R: Abort>(rt: &R, alloc: Global, bodies: &[&str]) -> PartsError {
     read_parts(alloc, &frames, &key)
         .err()
         .expect(rt, "a refusal")
-}
-
-/// Whether this frame stands at this place.
-fn is_frame(frames: &Frames, place: usize, body: &[u8]) -> bool {
-    match frames.get(place) {
-        Some(found) => found == body,
-        None => false,
-    }
 }
 
 /// The tag that was refused.

@@ -1,5 +1,6 @@
 //! Known dates, frames, and streams that fail half-way.
 
+use crate::common::is_frame;
 use edges::date::{Moment, date_text};
 use edges::frames::Frames;
 use edges::memory::{MemSink, MemSource, SureSink, SureSource};
@@ -46,14 +47,6 @@ fn dates(rt: HostRuntime) {
     for (millis, want) in rows {
         let text = date_text(rt.alloc(), Moment { millis }).expect(&rt, "memory is ample");
         assert_eq!(rt; text.as_str(), want);
-    }
-}
-
-/// Whether this frame stands at this place.
-fn is_frame(frames: &Frames, place: usize, body: &[u8]) -> bool {
-    match frames.get(place) {
-        Some(found) => found == body,
-        None => false,
     }
 }
 
