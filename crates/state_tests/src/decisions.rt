@@ -1,6 +1,6 @@
 //! Decisions over small clusters.
 
-ghost use Rattle.std.specs.Prelude.{◌≡◌, None};
+ghost use Rattle.std.specs.Prelude.{◌≡◌, ◌<◌, None};
 
 use crate::common::{message, new_chooser, text};
 use cluster_defs::engine::Engine;

@@ -517,6 +517,7 @@ fn numbers_follow_attempts(rt: HostRuntime) {
     assert!(rt; numbers_are(&state, 0, 1, 1, 0));
     ends_engine(&rt, &mut state);
     assert!(rt; numbers_are(&state, 1, 0, 0, 0));
+    assert!(rt; state.tasks.marks().running.is_empty());
 }
 
 #[test]
