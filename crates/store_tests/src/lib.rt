@@ -1,7 +1,9 @@
-//! Tests of disks, journals and the store. They stand in a crate of their own since a crate that has tests is proved
-//! twice.
+//! Tests of the core, of what messages are answered with, of histories without what purges let go, and of disks, journals
+//! and the store. They stand in a crate of their own since a crate that has tests is proved twice.
 #![tactic(auto)]
 
+#[cfg(test)]
+mod answers;
 #[cfg(test)]
 mod choosing;
 #[cfg(test)]
@@ -13,4 +15,8 @@ mod disks;
 #[cfg(test)]
 mod journals;
 #[cfg(test)]
+mod steps;
+#[cfg(test)]
 mod stores;
+#[cfg(test)]
+mod thinning;

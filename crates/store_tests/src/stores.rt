@@ -259,7 +259,7 @@ fn left_of<R: Abort>(
 #[test]
 fn stores(rt: HostRuntime) {
     let alloc = rt.alloc();
-    let chooser = new_chooser(alloc).expect(&rt, "memory is ample");
+    let chooser = new_chooser(&rt, alloc);
     for (call, acts, left) in PLAYED {
         assert_eq!(rt; left_of(&rt, alloc, &chooser, *call, acts), *left);
     }
@@ -345,7 +345,7 @@ fn plays<R: Abort>(rt: &R, alloc: Global, chooser: &Chooser, call: u64) -> (bool
 #[test]
 fn each_call_may_fail(rt: HostRuntime) {
     let alloc = rt.alloc();
-    let chooser = new_chooser(alloc).expect(&rt, "memory is ample");
+    let chooser = new_chooser(&rt, alloc);
     for call in 1..24 {
         assert_eq!(rt; plays(&rt, alloc, &chooser, call), (call < 23, true));
     }
@@ -445,7 +445,7 @@ const JOINED: &[(u64, u64, (Served, Served, Behind))] = &[
 #[test]
 fn steps_that_are_served(rt: HostRuntime) {
     let alloc = rt.alloc();
-    let chooser = new_chooser(alloc).expect(&rt, "memory is ample");
+    let chooser = new_chooser(&rt, alloc);
     for (call, entries, wanted) in JOINED {
         assert_eq!(rt; joined(&rt, alloc, &chooser, *call, *entries), *wanted);
     }

@@ -1,5 +1,5 @@
-//! Tests of octets on their way: frames, streams of peers, signed parts, tapes, records of entries, and what they stand
-//! on. They stand in a crate of their own since a crate that has tests is proved twice.
+//! Tests of octets on their way: frames, streams of peers, signed parts, tapes, records of entries, links, and what they
+//! and the threads at a lock stand on. They stand in a crate of their own since a crate that has tests is proved twice.
 #![tactic(auto)]
 
 #[cfg(test)]
@@ -8,6 +8,10 @@ mod common;
 mod fields;
 #[cfg(test)]
 mod frames;
+#[cfg(test)]
+mod links;
+#[cfg(test)]
+mod locks;
 #[cfg(test)]
 mod outgo;
 #[cfg(test)]

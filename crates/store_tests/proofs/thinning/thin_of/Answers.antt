@@ -6,7 +6,7 @@ use Rattle.cluster_defs.specs.Histories.{Legal}
 use Rattle.cluster_state.specs.Plain.{InTime}
 use Rattle.cluster_core.specs.Steps.{AllInTime}
 use Rattle.cluster_core.proofs.Plans.{time_at}
-use Rattle.core_tests.proofs.thinning.thin_of.Goals as goal
+use Rattle.store_tests.proofs.thinning.thin_of.Goals as goal
 
 in_time : (xs : List Entry) → AllInTime (reverse xs) → All InTime xs
 in_time xs time = λ k d lt. time_at xs k (get_or xs k d) lt (get_or_default xs k d (get_or xs k d) lt) time
