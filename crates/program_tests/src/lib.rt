@@ -1,5 +1,12 @@
-//! Tests of the top call. They stand in a crate of their own since a crate that has tests is proved twice.
+//! Tests of drives, of generated work that is served, and of the top call. They stand in a crate of their own since a
+//! crate that has tests is proved twice.
 #![tactic(auto)]
 
 #[cfg(test)]
+mod choosing;
+#[cfg(test)]
 mod program;
+#[cfg(test)]
+mod tapes;
+#[cfg(test)]
+mod works;

@@ -1,23 +1,18 @@
 //! Tests of the top call.
 
-ghost use Rattle.std.specs.Prelude.{◌≡◌, ◌<◌, length};
-ghost use Rattle.cluster_defs.specs.Scheduling.{pick};
-
 mod crashes;
 mod one_task;
 mod rows;
 
-use cluster_types::config::Scheme;
+use crate::choosing::new_chooser;
 use cluster_types::message::WordList;
 use cluster_types::text::Text;
 use disk_model::fuse::FuseDisk;
 use disk_model::memory::MemDisk;
 use edges::memory::{MemSink, MemSource, SureSource};
 use edges::source::{Got, Source};
-use load_schemes::chooser::{Choose, Chooser};
-use load_schemes::place::place_of;
 use quick_commands::quick::quick;
-use std::alloc::{AllocError, Global};
+use std::alloc::Global;
 use std::process::Abort;
 
 /// An Up of connection 1 on channel engine, bare, with the identity `c`.
@@ -80,18 +75,6 @@ fn disk_of<R: Abort>(rt: &R, alloc: Global, content: &[u8], call: u64) -> FuseDi
     FuseDisk::new(disk, call)
 }
 
-/// A chooser that places tasks as a controller does.
-fn new_chooser(alloc: Global) -> Result<Chooser, AllocError> {
-    let choose: Choose = Box::new(
-        alloc,
-        |scheme: Scheme, loads: &[u32], word: u64| -> usize
-            requires { 0 < length loads.now }
-            ensures { result ≡ pick scheme loads.now word }
-        { place_of(scheme, loads, word) },
-    )?;
-    Ok(Chooser::new(choose))
-}
-
 /// Does what these words ask for, on what a source gives, over a disk.
 fn run_from<R: Abort, S: Source>(
     rt: &R,
@@ -104,7 +87,7 @@ fn run_from<R: Abort, S: Source>(
     let words = words(rt, alloc, texts);
     let mut output = MemSink::new(alloc, failing.writes).expect(rt, "memory is ample");
     let mut errors = MemSink::new(alloc, failing.lines).expect(rt, "memory is ample");
-    let chooser = new_chooser(alloc).expect(rt, "memory is ample");
+    let chooser = new_chooser(rt, alloc);
     let (status, disk) = quick(
         alloc,
         &words,

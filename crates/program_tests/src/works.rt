@@ -10,7 +10,7 @@ use work_drive::work::work;
 
 /// The lines of the summary of a seed and so many tasks, over an empty disk.
 fn lines<R: Abort>(rt: &R, alloc: Global, seed: u32, tasks: u32) -> String {
-    let chooser = new_chooser(alloc).expect(rt, "memory is ample");
+    let chooser = new_chooser(rt, alloc);
     let disk = MemDisk::new(alloc, b"").expect(rt, "memory is ample");
     assert!(rt; seed < 2_147_483_648 && tasks <= 500_000);
     let (answer, _disk) = work(alloc, disk, &chooser, seed, tasks);
@@ -44,7 +44,7 @@ fn summaries(rt: HostRuntime) {
 #[test]
 fn a_disk_that_is_not_empty(rt: HostRuntime) {
     let alloc = rt.alloc();
-    let chooser = new_chooser(alloc).expect(&rt, "memory is ample");
+    let chooser = new_chooser(&rt, alloc);
     let disk = MemDisk::new(alloc, b"x").expect(&rt, "memory is ample");
     let (answer, disk) = work(alloc, disk, &chooser, 1, 2);
     assert!(rt; matches!(answer, Err(WorkError::NotEmpty(0))));

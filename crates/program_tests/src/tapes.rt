@@ -539,7 +539,7 @@ fn wanted(call: u64) -> Outcome {
 #[test]
 fn streams(rt: HostRuntime) {
     let alloc = rt.alloc();
-    let chooser = new_chooser(alloc).expect(&rt, "memory is ample");
+    let chooser = new_chooser(&rt, alloc);
     let key = Key::new(alloc, b"k").expect(&rt, "a key");
     assert!(rt; answers(&rt, alloc, &chooser, &key, REQ, OWN_ERROR));
     assert!(rt; refuses_at_once(&rt, alloc, &chooser, &key));
@@ -560,7 +560,7 @@ const RULES: &[(u8, &[u8], Option<u64>)] = &[
 #[test]
 fn rules(rt: HostRuntime) {
     let alloc = rt.alloc();
-    let chooser = new_chooser(alloc).expect(&rt, "memory is ample");
+    let chooser = new_chooser(&rt, alloc);
     let key = Key::new(alloc, b"k").expect(&rt, "a key");
     for (kind, behind, place) in RULES {
         let tape = twice(&rt, alloc, *kind, behind);
@@ -573,7 +573,7 @@ fn rules(rt: HostRuntime) {
 #[test]
 fn a_full_history(rt: HostRuntime) {
     let alloc = rt.alloc();
-    let chooser = new_chooser(alloc).expect(&rt, "memory is ample");
+    let chooser = new_chooser(&rt, alloc);
     let key = Key::new(alloc, b"k").expect(&rt, "a key");
     let full = Some(Stop::HistoryFull(HistorySize {
         entries: 3,
@@ -590,7 +590,7 @@ fn a_full_history(rt: HostRuntime) {
 #[test]
 fn each_call_of_the_opening_may_fail(rt: HostRuntime) {
     let alloc = rt.alloc();
-    let chooser = new_chooser(alloc).expect(&rt, "memory is ample");
+    let chooser = new_chooser(&rt, alloc);
     let key = Key::new(alloc, b"k").expect(&rt, "a key");
     for call in 1..11 {
         let kept = if call == 10 { 1 } else { 0 };
@@ -603,7 +603,7 @@ fn each_call_of_the_opening_may_fail(rt: HostRuntime) {
 #[test]
 fn each_call_may_fail(rt: HostRuntime) {
     let alloc = rt.alloc();
-    let chooser = new_chooser(alloc).expect(&rt, "memory is ample");
+    let chooser = new_chooser(&rt, alloc);
     let key = Key::new(alloc, b"k").expect(&rt, "a key");
     let whole = whole_answer(&rt, alloc, &chooser, &key);
     for call in 11..32 {
@@ -641,7 +641,7 @@ fn handed_out<R: Abort>(
 #[test]
 fn a_long_task_is_handed_out(rt: HostRuntime) {
     let alloc = rt.alloc();
-    let chooser = new_chooser(alloc).expect(&rt, "memory is ample");
+    let chooser = new_chooser(&rt, alloc);
     let key = Key::new(alloc, b"k").expect(&rt, "a key");
     let mut content = Vec::new(alloc);
     content.resize(70_000, b'1').expect(&rt, "memory is ample");
