@@ -54,6 +54,21 @@ impl Outcome {
             && errors.starts_with(said)
             && errors.is_empty() == said.is_empty()
     }
+
+    /// Whether it shows its ports.
+    pub fn has_ports(&self) -> bool {
+        matches!(self.shown, Shown::Seen { ports: Some(_), .. })
+    }
+
+    /// Whether it shows a link.
+    pub fn has_link(&self) -> bool {
+        matches!(self.shown, Shown::Link { .. })
+    }
+
+    /// Whether it shows a disk alone.
+    pub fn has_disk(&self) -> bool {
+        matches!(self.shown, Shown::Disk(_))
+    }
 }
 
 /// Words, parted by blanks.

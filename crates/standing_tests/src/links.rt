@@ -1,7 +1,6 @@
 //! The commands over a link to a controller.
 
 use crate::fixture::{Outcome, disk_of, ports_of, stood};
-use standing_commands::shown::Shown;
 use std::alloc::Global;
 use std::process::Abort;
 use std::sync::Wait;
@@ -37,29 +36,35 @@ fn over_link<R: Wait + Threads + Clock + Abort + Drop + Copy + Send + Sync + 'st
     )
 }
 
+/// Whether a client over a link that gives these octets ends with this status, printed this and said what begins so, and
+/// shows its link, where it had one.
+fn is_client_end<R: Wait + Threads + Clock + Abort + Drop + Copy + Send + Sync + 'static>(
+    rt: R,
+    alloc: Global,
+    octets: &[u8],
+    status: u8,
+    printed: &[u8],
+    said: &[u8],
+) -> bool {
+    let end = over_link(rt, alloc, "client h 5000 run 6*7 --key k", octets);
+    end.is(status, printed, said) && end.has_link() == !octets.is_empty()
+}
+
 #[test]
 fn a_client_prints_its_answer(rt: HostRuntime) {
     let alloc = rt.alloc();
-    let cases: [(&[u8], u8, &[u8], &[u8]); 4] = [
-        (ANSWERED, 0, b"{\"status\":\"ok\"}\n", b""),
-        (REFUSED, 1, b"{\"status\":\"error\"}\n", b""),
-        (&ANSWERED[..94], 13, b"", b"ipcluster: link fault\n"),
-        (b"", 13, b"", b"ipcluster: link fault\n"),
-    ];
-    for (octets, status, printed, said) in cases {
-        let end = over_link(rt, alloc, "client h 5000 run 6*7 --key k", octets);
-        assert!(rt; end.is(status, printed, said));
-        let has_link = matches!(end.shown, Shown::Link { .. });
-        assert_eq!(rt; has_link, !octets.is_empty());
-    }
+    assert!(rt; is_client_end(rt, alloc, ANSWERED, 0, b"{\"status\":\"ok\"}\n", b""));
+    assert!(rt; is_client_end(rt, alloc, REFUSED, 1, b"{\"status\":\"error\"}\n", b""));
+    let front = &ANSWERED[..94];
+    assert!(rt; is_client_end(rt, alloc, front, 13, b"", b"ipcluster: link fault\n"));
+    assert!(rt; is_client_end(rt, alloc, b"", 13, b"", b"ipcluster: link fault\n"));
 }
 
 #[test]
 fn an_engine_works_to_the_end_of_its_link(rt: HostRuntime) {
     let alloc = rt.alloc();
     let end = over_link(rt, alloc, "engine h 5000 e0 --key k", ANSWERED);
-    assert!(rt; end.is(0, b"", b""));
-    assert!(rt; matches!(end.shown, Shown::Link { .. }));
+    assert!(rt; end.is(0, b"", b"") && end.has_link());
 }
 
 #[test]
@@ -71,7 +76,7 @@ fn words_without_a_reading_are_told_so(rt: HostRuntime) {
         "replay db --key k",
     ] {
         let end = over_link(rt, alloc, line, ANSWERED);
-        assert!(rt; end.is(2, b"", b"ipcluster: the command line has no reading\n"));
-        assert!(rt; matches!(end.shown, Shown::Disk(_)));
+        let said = b"ipcluster: the command line has no reading\n";
+        assert!(rt; end.is(2, b"", said) && end.has_disk());
     }
 }

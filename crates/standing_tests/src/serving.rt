@@ -1,7 +1,6 @@
 //! A controller over ports in memory.
 
 use crate::fixture::{Outcome, disk_of, ports_of, stood};
-use standing_commands::shown::Shown;
 use std::alloc::Global;
 use std::process::Abort;
 use std::sync::Wait;
@@ -35,35 +34,33 @@ fn a_controller_ends_with_its_ports_and_links(rt: HostRuntime) {
     let alloc = rt.alloc();
     for octets in [OWN, &OWN[..64]] {
         let end = served(rt, alloc, SERVE, octets, &[], b"");
-        assert!(rt; end.is(0, b"", b""));
-        assert!(rt; matches!(end.shown, Shown::Seen { ports: Some(_), .. }));
+        assert!(rt; end.is(0, b"", b"") && end.has_ports());
     }
+}
+
+/// Whether a controller over a whole link ends with this status, printed nothing and said what begins so.
+fn is_end<R: Wait + Threads + Clock + Abort + Drop + Copy + Send + Sync + 'static>(
+    rt: R,
+    alloc: Global,
+    line: &str,
+    failing: &[u64],
+    database: &[u8],
+    status: u8,
+    said: &[u8],
+) -> bool {
+    served(rt, alloc, line, OWN, failing, database).is(status, b"", said)
 }
 
 #[test]
 fn a_controller_says_why_it_ends(rt: HostRuntime) {
     let alloc = rt.alloc();
-    let cases: [(&str, &[u64], &[u8], u8, &[u8]); 3] = [
-        (SERVE, &[1], b"", 11, b"ipcluster: listener fault\n"),
-        (
-            SERVE,
-            &[],
-            &[0; 33],
-            7,
-            b"ipcluster: damaged database at 0\n",
-        ),
-        (
-            "serve h 5000 db --key k --entries 1",
-            &[],
-            b"",
-            9,
-            b"ipcluster: history full at 2 entries and ",
-        ),
-    ];
-    for (line, failing, database, status, said) in cases {
-        let end = served(rt, alloc, line, OWN, failing, database);
-        assert!(rt; end.is(status, b"", said));
-    }
+    let said = b"ipcluster: listener fault\n";
+    assert!(rt; is_end(rt, alloc, SERVE, &[1], b"", 11, said));
+    let said = b"ipcluster: damaged database at 0\n";
+    assert!(rt; is_end(rt, alloc, SERVE, &[], &[0; 33], 7, said));
+    let line = "serve h 5000 db --key k --entries 1";
+    let said = b"ipcluster: history full at 2 entries and ";
+    assert!(rt; is_end(rt, alloc, line, &[], b"", 9, said));
 }
 
 #[test]
