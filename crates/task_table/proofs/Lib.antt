@@ -1,10 +1,8 @@
 pub mod Fits
-pub mod Lists
 pub mod Loading
 pub mod Marking
 pub mod Places
 pub mod Pushing
-pub mod Scattered
 pub mod Tallying
 pub mod Waiting
 pub mod Watching

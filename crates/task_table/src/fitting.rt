@@ -6,8 +6,6 @@ ghost use Rattle.cluster_defs.specs.Words.{is_empty};
 ghost use Rattle.task_table.specs.Waiting.{settled_in};
 ghost use Rattle.task_table.specs.Fitting.{takes, fits, is_tied, tied};
 
-use crate::dependencies::{is_empty, settled_in};
-use crate::following::is_met_on;
 use crate::readiness::is_ready;
 use crate::table::Table;
 use crate::task::Task;
@@ -15,6 +13,9 @@ use crate::viability::{is_bound, is_excluded, is_target};
 use cluster_defs::request::WholeRequest;
 use cluster_types::message::Ids;
 use cluster_types::text::Text;
+use dependency_sets::dependencies::is_empty;
+use dependency_sets::finished::Finished;
+use dependency_sets::following::is_met_on;
 use std::alloc::{AllocError, Global};
 
 /// Whether a task may run on an engine, as far as the two go together.
@@ -44,7 +45,7 @@ pub fn is_tied(request: &WholeRequest) -> bool
 fn engine_of(table: &Table, id: &Text) -> Option<u32>
     ensures { result ≡ option_and_then (λ s. s.engine) (settled_in table.now id.now) }
 {
-    match settled_in(table, id) {
+    match table.settled(id) {
         Some(settled) => settled.engine,
         None => None,
     }

@@ -1,10 +1,8 @@
 //! Tasks by place and id, with what is kept beside them, so that what is due of some is found without a look at the others.
 #![tactic(auto)]
 
-pub mod attempts;
-pub mod dependencies;
+mod finished;
 pub mod fitting;
-pub mod following;
 pub mod laning;
 pub mod live;
 pub mod loads;

@@ -3,10 +3,10 @@
 ghost use Rattle.std.specs.Prelude.{◌≡◌};
 ghost use Rattle.task_table.specs.Waiting.{ready};
 
-use crate::dependencies::is_met;
 use crate::standing::rests;
 use crate::table::Table;
 use crate::task::Task;
+use dependency_sets::dependencies::is_met;
 
 /// Whether a task is a Submit that waits, with attempts left and what it waits for met.
 pub fn is_ready(table: &Table, task: &Task) -> bool

@@ -9,9 +9,6 @@ ghost use Rattle.task_table.specs.Live.{live_of};
 ghost use Rattle.task_table.specs.Waiting.{settled_in};
 ghost use Rattle.task_table.specs.Fitting.{among, hopeless_as, hopeless, late_as, late};
 
-use crate::attempts::Attempts;
-use crate::dependencies::{is_asked, is_empty, is_unreachable, settled_in};
-use crate::following::is_scattered;
 use crate::live::{Live, is_live};
 use crate::standing::rests;
 use crate::table::Table;
@@ -19,6 +16,10 @@ use crate::task::Task;
 use cluster_defs::request::WholeRequest;
 use cluster_defs::settled::Settled;
 use cluster_types::text::Text;
+use dependency_sets::dependencies::{is_asked, is_empty, is_unreachable};
+use dependency_sets::finished::Finished;
+use dependency_sets::following::is_scattered;
+use task_attempts::attempts::Attempts;
 
 /// Whether an engine declined the task of these attempts.
 pub fn is_excluded(attempts: &Attempts, engine: u32) -> bool
@@ -114,7 +115,7 @@ fn spoils_for(
 ) -> bool
     ensures { result ≡ spoils (among [] (live_of live.entry) 0 attempts.now) [] request.now.request (settled_in table.now id.now) }
 {
-    spoils(live, attempts, request, settled_in(table, id))
+    spoils(live, attempts, request, table.settled(id))
 }
 
 /// Whether an id that is followed did so.

@@ -12,8 +12,8 @@ use cluster_types::sequence::Sequence;
 use cluster_types::text::Text;
 use std::alloc::{AllocError, Global};
 use std::marker::Model;
+use task_attempts::attempts::one_more;
 use task_lookup::distinct::once;
-use task_table::attempts::one_more;
 
 /// A new id, with the old one whose request it got.
 #[derive(Drop)]

@@ -1,12 +1,11 @@
-//! Dependencies, over how the tasks of a table were settled.
+//! Dependencies that are met, and that can't be met any more.
 
 ghost use Rattle.std.specs.Prelude.{◌≡◌, ◌&&◌, not, option_map};
 ghost use Rattle.std.specs.List.{list_any, list_all};
 ghost use Rattle.cluster_defs.specs.Words.{is_empty};
 ghost use Rattle.cluster_defs.specs.Dependencies.{asked, other_kind, met, unreachable};
-ghost use Rattle.task_table.specs.Waiting.{settled_in};
 
-use crate::table::Table;
+use crate::finished::Finished;
 use cluster_defs::settled::Settled;
 use cluster_types::event::Dep;
 use cluster_types::message::Ids;
@@ -18,16 +17,6 @@ pub fn is_empty(ids: &Ids) -> bool
     ensures { result ≡ is_empty ids.now }
 {
     ids.is_empty()
-}
-
-/// How an id was settled, where it was.
-pub fn settled_in(table: &Table, id: &Text) -> Option<Settled>
-    ensures { result ≡ settled_in table.now id.now }
-{
-    match table.find(id) {
-        Some(task) => task.settled(),
-        None => None,
-    }
 }
 
 /// Whether it finished in a kind that is asked for.
@@ -54,81 +43,81 @@ fn is_other_kind(dep: &Dep, settled: Option<Settled>) -> bool
 }
 
 /// Whether an id finished in a kind that is asked for.
-fn is_asked_of(dep: &Dep, table: &Table, id: &Text) -> bool
-    ensures { result ≡ asked dep.now (settled_in table.now id.now) }
+fn is_asked_of<F: Finished>(dep: &Dep, finished: &F, id: &Text) -> bool
+    ensures { result ≡ asked dep.now (F.finished finished.now id.now) }
 {
-    is_asked(dep, settled_in(table, id))
+    is_asked(dep, finished.settled(id))
 }
 
 /// Whether each listed id did so.
-fn all_asked(dep: &Dep, table: &Table) -> bool
-    ensures { result ≡ list_all (λ i. asked dep.now (settled_in table.now i)) dep.now.ids }
+fn all_asked<F: Finished>(dep: &Dep, finished: &F) -> bool
+    ensures { result ≡ list_all (λ i. asked dep.now (F.finished finished.now i)) dep.now.ids }
 {
     dep.ids
         .as_slice()
         .iter()
-        .all(|id| is_asked_of(dep, table, id))
+        .all(|id| is_asked_of(dep, finished, id))
 }
 
 /// Whether a listed id did so.
-fn any_asked(dep: &Dep, table: &Table) -> bool
-    ensures { result ≡ list_any (λ i. asked dep.now (settled_in table.now i)) dep.now.ids }
+fn any_asked<F: Finished>(dep: &Dep, finished: &F) -> bool
+    ensures { result ≡ list_any (λ i. asked dep.now (F.finished finished.now i)) dep.now.ids }
 {
     dep.ids
         .as_slice()
         .iter()
-        .any(|id| is_asked_of(dep, table, id))
+        .any(|id| is_asked_of(dep, finished, id))
 }
 
 /// Whether a dependency is met.
-pub fn is_met(dep: &Dep, table: &Table) -> bool
-    ensures { result ≡ met dep.now (settled_in table.now) }
+pub fn is_met<F: Finished>(dep: &Dep, finished: &F) -> bool
+    ensures { result ≡ met dep.now (F.finished finished.now) }
 {
     if is_empty(&dep.ids) {
         true
     } else if dep.all {
-        all_asked(dep, table)
+        all_asked(dep, finished)
     } else {
-        any_asked(dep, table)
+        any_asked(dep, finished)
     }
 }
 
 /// Whether an id finished in a kind that isn't asked for.
-fn is_other_kind_of(dep: &Dep, table: &Table, id: &Text) -> bool
-    ensures { result ≡ other_kind dep.now (settled_in table.now id.now) }
+fn is_other_kind_of<F: Finished>(dep: &Dep, finished: &F, id: &Text) -> bool
+    ensures { result ≡ other_kind dep.now (F.finished finished.now id.now) }
 {
-    is_other_kind(dep, settled_in(table, id))
+    is_other_kind(dep, finished.settled(id))
 }
 
 /// Whether each listed id did so.
-fn all_other_kind(dep: &Dep, table: &Table) -> bool
-    ensures { result ≡ list_all (λ i. other_kind dep.now (settled_in table.now i)) dep.now.ids }
+fn all_other_kind<F: Finished>(dep: &Dep, finished: &F) -> bool
+    ensures { result ≡ list_all (λ i. other_kind dep.now (F.finished finished.now i)) dep.now.ids }
 {
     dep.ids
         .as_slice()
         .iter()
-        .all(|id| is_other_kind_of(dep, table, id))
+        .all(|id| is_other_kind_of(dep, finished, id))
 }
 
 /// Whether a listed id did so.
-fn any_other_kind(dep: &Dep, table: &Table) -> bool
-    ensures { result ≡ list_any (λ i. other_kind dep.now (settled_in table.now i)) dep.now.ids }
+fn any_other_kind<F: Finished>(dep: &Dep, finished: &F) -> bool
+    ensures { result ≡ list_any (λ i. other_kind dep.now (F.finished finished.now i)) dep.now.ids }
 {
     dep.ids
         .as_slice()
         .iter()
-        .any(|id| is_other_kind_of(dep, table, id))
+        .any(|id| is_other_kind_of(dep, finished, id))
 }
 
 /// Whether a dependency can't be met any more.
-pub fn is_unreachable(dep: &Dep, table: &Table) -> bool
-    ensures { result ≡ unreachable dep.now (settled_in table.now) }
+pub fn is_unreachable<F: Finished>(dep: &Dep, finished: &F) -> bool
+    ensures { result ≡ unreachable dep.now (F.finished finished.now) }
 {
     if is_empty(&dep.ids) {
         false
     } else if dep.all {
-        any_other_kind(dep, table)
+        any_other_kind(dep, finished)
     } else {
-        all_other_kind(dep, table)
+        all_other_kind(dep, finished)
     }
 }

@@ -1,0 +1,6 @@
+//! Dependencies over how other tasks were settled.
+#![tactic(auto)]
+
+pub mod dependencies;
+pub mod finished;
+pub mod following;

@@ -1,0 +1,4 @@
+//! The attempts of a task.
+#![tactic(auto)]
+
+pub mod attempts;
