@@ -1,7 +1,10 @@
 //! The ports, threads, clock and random words of a cluster, over the system.
 
-use crate::choosing::new_chooser;
+ghost use Rattle.std.specs.Prelude.{◌≡◌, ◌<◌, length};
+ghost use Rattle.cluster_defs.specs.Scheduling.{pick};
+
 use crate::database::open_for_changes;
+use cluster_types::config::Scheme;
 use cluster_types::message::WordList;
 use command_words::ending::{Ending, StandingEnding};
 use command_words::standing::StandingCommand;
@@ -11,8 +14,10 @@ use disk_model::file::FileDisk;
 use disk_model::memory::MemDisk;
 use edges::sink::Sink;
 use edges::standard::StdSink;
+use load_schemes::chooser::Chooser;
+use load_schemes::place::place_of;
 use standing_commands::standing::standing;
-use std::alloc::{AllocError, Global};
+use std::alloc::AllocError;
 use std::net::TcpListener;
 use std::sync::{Arc, Wait};
 use std::thread::Threads;
@@ -56,15 +61,6 @@ fn still_ports(rt: &HostRuntime) -> Result<Ports<MemListener>, AllocError> {
     })
 }
 
-/// A gate over the words of the system.
-fn new_gate(rt: HostRuntime) -> Result<Arc<EventGate<HostRuntime>, Global>, AllocError> {
-    let gate = EventGate::new(rt.alloc(), rt)?;
-    match Arc::new(rt.alloc(), gate) {
-        Ok(gate) => Ok(gate),
-        Err(_) => Err(AllocError),
-    }
-}
-
 /// Does what the words ask for, with a thread for each job, over ports and a disk.
 fn stand<
     H: Threads + Wait + Drop + Copy + Send + Sync + 'static,
@@ -80,8 +76,18 @@ fn stand<
     errors: &mut E,
 ) -> Result<u8, AllocError> {
     let alloc = rt.alloc();
-    let chooser = new_chooser(alloc)?;
-    let gate = new_gate(rt)?;
+    let Ok(choose) = Box::new(
+        alloc,
+        |scheme: Scheme, loads: &[u32], word: u64| -> usize
+            requires { 0 < length loads.now }
+            ensures { result ≡ pick scheme loads.now word }
+        { place_of(scheme, loads, word) },
+    ) else {
+        return Err(AllocError);
+    };
+    let Ok(gate) = Arc::new(alloc, EventGate::new(alloc, rt)?) else {
+        return Err(AllocError);
+    };
     let (status, _shown) = standing(
         handle,
         alloc,
@@ -95,41 +101,9 @@ fn stand<
         gate,
         &mut StdSink::new(rt.stdout()),
         errors,
-        chooser,
+        Chooser::new(choose),
     );
     Ok(status)
-}
-
-/// Serves a cluster at four ports over a file.
-fn serve_at<H: Threads + Wait + Drop + Copy + Send + Sync + 'static, E: Sink>(
-    handles: (HostRuntime, H),
-    words: &WordList,
-    at: (&str, u16),
-    database: &str,
-    errors: &mut E,
-) -> Result<u8, StandingEnding> {
-    let (rt, _) = handles;
-    let Ok(file) = open_for_changes(&rt, database) else {
-        return Err(StandingEnding::Plain(Ending::DiskFault));
-    };
-    let ports = open_ports(&rt, at.0, at.1)?;
-    match stand(handles, words, at, ports, FileDisk::new(file), errors) {
-        Ok(status) => Ok(status),
-        Err(AllocError) => Err(StandingEnding::Plain(Ending::OutOfMemory)),
-    }
-}
-
-/// Is an engine or a client of a cluster at its ports.
-fn dial_at<H: Threads + Wait + Drop + Copy + Send + Sync + 'static, E: Sink>(
-    handles: (HostRuntime, H),
-    words: &WordList,
-    at: (&str, u16),
-    errors: &mut E,
-) -> Result<u8, AllocError> {
-    let (rt, _) = handles;
-    let ports = still_ports(&rt)?;
-    let disk = MemDisk::new(rt.alloc(), b"")?;
-    stand(handles, words, at, ports, disk, errors)
 }
 
 /// Does what a command asks for that is about a cluster at its ports.
@@ -140,24 +114,30 @@ pub fn run_cluster<H: Threads + Wait + Drop + Copy + Send + Sync + 'static, E: S
     command: &StandingCommand,
     errors: &mut E,
 ) -> Result<u8, StandingEnding> {
-    match command {
+    let status = match command {
         StandingCommand::Serve {
             host,
             port,
             database,
             ..
-        } => serve_at(
-            (rt, handle),
-            words,
-            (host.as_str(), *port),
-            database.as_str(),
-            errors,
-        ),
-        StandingCommand::Engine { host, port, .. } | StandingCommand::Client { host, port, .. } => {
-            match dial_at((rt, handle), words, (host.as_str(), *port), errors) {
-                Ok(status) => Ok(status),
-                Err(AllocError) => Err(StandingEnding::Plain(Ending::OutOfMemory)),
-            }
+        } => {
+            let Ok(file) = open_for_changes(&rt, database.as_str()) else {
+                return Err(StandingEnding::Plain(Ending::DiskFault));
+            };
+            let ports = open_ports(&rt, host.as_str(), *port)?;
+            let at = (host.as_str(), *port);
+            stand((rt, handle), words, at, ports, FileDisk::new(file), errors)
         }
+        StandingCommand::Engine { host, port, .. } | StandingCommand::Client { host, port, .. } => {
+            let (Ok(ports), Ok(disk)) = (still_ports(&rt), MemDisk::new(rt.alloc(), b"")) else {
+                return Err(StandingEnding::Plain(Ending::OutOfMemory));
+            };
+            let at = (host.as_str(), *port);
+            stand((rt, handle), words, at, ports, disk, errors)
+        }
+    };
+    match status {
+        Ok(status) => Ok(status),
+        Err(AllocError) => Err(StandingEnding::Plain(Ending::OutOfMemory)),
     }
 }

@@ -1,12 +1,14 @@
 //! A cluster controller: it serves the engines and clients of a cluster over a database, or tapes of recorded connections.
 #![tactic(auto)]
 
-mod choosing;
 mod cluster;
 mod database;
 
-use choosing::new_chooser;
+ghost use Rattle.std.specs.Prelude.{◌≡◌, ◌<◌, length};
+ghost use Rattle.cluster_defs.specs.Scheduling.{pick};
+
 use cluster::run_cluster;
+use cluster_types::config::Scheme;
 use cluster_types::message::WordList;
 use cluster_types::text::Text;
 use command_words::command::{Command, CommandError, command_of};
@@ -18,6 +20,8 @@ use disk_model::file::FileDisk;
 use disk_model::memory::MemDisk;
 use edges::sink::Sink;
 use edges::standard::{StdSink, StdSource};
+use load_schemes::chooser::Chooser;
+use load_schemes::place::place_of;
 use quick_commands::quick::quick;
 use standing_commands::errors::tell;
 use std::alloc::AllocError;
@@ -82,7 +86,13 @@ fn run_over<E: Sink, D: Disk + Drop>(
     errors: &mut E,
     disk: D,
 ) -> Result<u8, Ending> {
-    let Ok(chooser) = new_chooser(rt.alloc()) else {
+    let Ok(choose) = Box::new(
+        rt.alloc(),
+        |scheme: Scheme, loads: &[u32], word: u64| -> usize
+            requires { 0 < length loads.now }
+            ensures { result ≡ pick scheme loads.now word }
+        { place_of(scheme, loads, word) },
+    ) else {
         return Err(Ending::OutOfMemory);
     };
     let mut input = StdSource::new(rt.stdin());
@@ -94,7 +104,7 @@ fn run_over<E: Sink, D: Disk + Drop>(
         &mut output,
         errors,
         disk,
-        chooser,
+        Chooser::new(choose),
     );
     Ok(status)
 }
