@@ -14,13 +14,13 @@ use Rattle.cluster_core.specs.Size.{size_since, is_past}
 use Rattle.record_codec.specs.Records.{spellings}
 use Rattle.cluster_store.specs.declared.fault.StepError.{StepError}
 use Rattle.cluster_store.specs.declared.fault.StepError.TheVariants.{Reopen, HistoryFull, BatchFull, OutOfMemory}
-use Rattle.cluster_store.specs.declared.waiting.Waiting.{Waiting}
-use Rattle.cluster_store.specs.Queues.{waits, need_after}
+use Rattle.out_queues.specs.declared.waiting.Waiting.{Waiting}
+use Rattle.out_queues.specs.Queues.{waits}
 use Rattle.cluster_store.specs.Stores.{up_to, written, IsRefused, IsRefusedFor, IsTooLong}
 use Rattle.disk_model.specs.Crashes.{LeavesOnly}
 use Rattle.task_journal.specs.Journal.{StandsFor}
 use Rattle.task_journal.specs.Settled.{Outcome}
-use Rattle.cluster_store.specs.Held.{judged, judged_by, IsHeld, told_of}
+use Rattle.cluster_store.specs.Held.{judged, judged_by, IsHeld, told_of, need_after}
 use Rattle.cluster_store.proofs.Holding.{Grown, held_after, held_flushed, batch_completes, flush_moment, none_left}
 use Rattle.cluster_store.proofs.Stepping.{step_of, step_keeps, whole_front}
 use Rattle.cluster_store.proofs.Waits.{left_before}

@@ -1,5 +1,5 @@
 -- What a store keeps to.
-use Rattle.std.specs.Prelude.{◌≡◌, ◌≤◌, ℕ, ◌-◌, nat_le, List, length, drop, map, None, Bool, true}
+use Rattle.std.specs.Prelude.{◌≡◌, ◌≤◌, ℕ, ◌-◌, nat_le, List, [], ◌∷◌, length, drop, map, None, Bool, true}
 use Rattle.std.specs.List.{list_all}
 use Rattle.cluster_types.specs.declared.out.Out.{Out}
 use Rattle.cluster_types.specs.declared.entry.Entry.{Entry}
@@ -7,7 +7,7 @@ use Rattle.cluster_defs.specs.Scheduling.{due}
 use Rattle.cluster_defs.specs.Histories.{History, facts, Legal}
 use Rattle.cluster_defs.specs.Lives.{Sending, kept_end, sendings_to}
 use Rattle.cluster_core.specs.Steps.{kept_from}
-use Rattle.cluster_store.specs.declared.waiting.Waiting.{Waiting}
+use Rattle.out_queues.specs.declared.waiting.Waiting.{Waiting}
 use Rattle.cluster_store.specs.Stores.{up_to}
 
 -- an out with whether it may be handed out: as it waits, and by the history
@@ -16,6 +16,11 @@ judged mark w = (w.out, nat_le w.need mark)
 
 abbrev pub judged_by : ℕ → Sending → Out × Bool
 judged_by mark s = (s.1, nat_le (kept_end s.0) mark)
+
+-- how many entries are to be safe for what a step sends: all up to its end where it keeps some, and else as many as before
+abbrev pub need_after : ℕ → List Entry → ℕ → ℕ
+need_after need [] size = need
+need_after need (e ∷ es) size = size
 
 -- how many outs to a connection were taken, where these are left
 abbrev pub told_of : (ℕ → List Waiting) → History → ℕ → ℕ

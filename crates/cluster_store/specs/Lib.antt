@@ -1,6 +1,5 @@
 pub mod Held
 pub mod Openings
-pub mod Queues
 pub mod Records
 pub mod Remaking
 pub mod Stores

@@ -5,7 +5,7 @@ use Rattle.cluster_defs.specs.Connections.{channel_on}
 use Rattle.cluster_defs.specs.Histories.{History, facts, kept}
 use Rattle.cluster_defs.specs.Lives.{Sending, World, kept_end, sendings_to}
 use Rattle.cluster_core.specs.Steps.{kept_from}
-use Rattle.cluster_store.specs.Queues.{Lines, left_at}
+use Rattle.out_queues.specs.Queues.{Lines, left_at}
 use Rattle.cluster_store.specs.declared.fault.StepError.{StepError}
 use Rattle.cluster_store.specs.declared.fault.ServeError.{ServeError}
 use Rattle.cluster_store.specs.declared.fault.ServeError.TheVariants.{Step, DiskFault}
@@ -17,8 +17,8 @@ use Rattle.cluster_core.specs.Size.{size_since, is_past}
 use Rattle.task_journal.specs.declared.fault.ExtendFault.{ExtendFault}
 use Rattle.task_journal.specs.declared.fault.ExtendFault.TheVariants as extends
 use Rattle.record_codec.specs.Records.{spellings}
-use Rattle.cluster_store.specs.declared.taken.Taken.{Taken}
-use Rattle.cluster_store.specs.declared.taken.Taken.TheVariants.{Out as Hands, NothingYet, Closed}
+use Rattle.out_queues.specs.declared.taken.Taken.{Taken}
+use Rattle.out_queues.specs.declared.taken.Taken.TheVariants.{Out as Hands, NothingYet, Closed}
 
 -- the disk; the history, the newest entry first; how much may come after its last Open; how many of its entries are safe
 -- on the disk; the outs that wait, by connection; whether a call of the disk failed; and how many steps the limits refused
@@ -61,12 +61,6 @@ is_live history conn = is_some (channel_on (facts history).connections conn)
 abbrev pub answer : Bool → ℕ → Option Sending → Taken
 answer live mark (Some s) = if nat_le (kept_end s.0) mark then Hands s.1 else NothingYet
 answer live mark None = if live then NothingYet else Closed
-
--- a take answers anything but that there is none yet
-abbrev pub is_news : Taken → Bool
-is_news (Hands out) = true
-is_news NothingYet = false
-is_news Closed = true
 
 abbrev pub one_more : Taken → ℕ → ℕ
 one_more (Hands out) told = suc told

@@ -4,8 +4,5 @@
 pub mod fault;
 pub mod laws;
 pub mod opening;
-pub mod queues;
 mod remaking;
 pub mod store;
-pub mod taken;
-pub mod waiting;

@@ -20,13 +20,13 @@ use cluster_core::meaning::Meaning;
 use cluster_intake::understood::Understood;
 use cluster_store::fault::StepError;
 use cluster_store::store::Store;
-use cluster_store::taken::Taken;
 use cluster_types::config::Channel;
 use cluster_types::entry::Input;
 use cluster_types::octets::Octets;
 use cluster_types::shared_message::SharedMessage;
 use disk_model::disk::Disk;
 use load_schemes::chooser::Chooser;
+use out_queues::taken::Taken;
 use std::alloc::{AllocError, Global};
 use task_journal::fault::AppendFault;
 

@@ -16,12 +16,12 @@ use crate::lent::{
 };
 use crate::reading::Reading;
 use cluster_store::store::Store;
-use cluster_store::taken::Taken;
 use cluster_types::config::Channel;
 use cluster_types::entry::Input;
 use disk_model::disk::Disk;
 use history_lock::known::Keeps;
 use load_schemes::chooser::Chooser;
+use out_queues::taken::Taken;
 use std::alloc::{AllocError, Global};
 use std::marker::Model;
 use task_journal::fault::AppendFault;

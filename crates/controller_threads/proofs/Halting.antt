@@ -23,8 +23,8 @@ use Rattle.history_lock.specs.History.{is_open_entry, Extends}
 use Rattle.history_lock.specs.Rule.{without_turn}
 use Rattle.task_journal.specs.declared.fault.AppendFault.{AppendFault}
 use Rattle.task_journal.specs.declared.fault.AppendFault.TheVariants as appends
-use Rattle.session_threads.specs.declared.end.SessionEnd.{SessionEnd}
-use Rattle.session_threads.specs.declared.end.SessionEnd.TheVariants as ends
+use Rattle.link_greeting.specs.declared.end.SessionEnd.{SessionEnd}
+use Rattle.link_greeting.specs.declared.end.SessionEnd.TheVariants as ends
 use Rattle.session_threads.specs.Ends.{HasDeskCause}
 use Rattle.session_threads.specs.Passes.{fulls_seen}
 use Rattle.session_threads.proofs.Causes.{cause_since, refused_cause}

@@ -9,8 +9,8 @@ use Rattle.history_lock.specs.declared.known.Content.{Content}
 use Rattle.history_lock.specs.Names.{LockId, known}
 use Rattle.session_threads.specs.declared.admission.AdmitEnd.{AdmitEnd}
 use Rattle.session_threads.specs.declared.admission.AdmitEnd.TheVariants.{NoPass, Act}
-use Rattle.session_threads.specs.declared.end.SessionEnd.{SessionEnd}
-use Rattle.session_threads.specs.declared.end.SessionEnd.TheVariants as sessions
+use Rattle.link_greeting.specs.declared.end.SessionEnd.{SessionEnd}
+use Rattle.link_greeting.specs.declared.end.SessionEnd.TheVariants as sessions
 use Rattle.session_threads.specs.Passes.{fulls_seen, limits_seen}
 use Rattle.controller_threads.specs.declared.end.Halt.{Halt}
 use Rattle.controller_threads.specs.declared.end.Halt.TheVariants as halts

@@ -6,7 +6,7 @@ use crate::port::Port;
 use crate::shared::Shared;
 use controller_desk::locked::Locked;
 use disk_model::disk::Disk;
-use session_threads::greeting::greet;
+use link_greeting::greeting::greet;
 use std::alloc::Global;
 use std::sync::{Arc, Wait};
 use thread_edges::clock::Clock;

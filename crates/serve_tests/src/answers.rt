@@ -10,7 +10,6 @@ use crate::controller::{
     new_gate, new_key, port_of,
 };
 use crate::gate::{CountGate, Step};
-use cluster_store::taken::Taken;
 use cluster_types::config::Channel;
 use cluster_types::out::Out;
 use cluster_types::sequence::Sequence;
@@ -21,6 +20,7 @@ use controller_threads::end::ServeEnd;
 use controller_threads::ports::Ports;
 use controller_threads::serving::serve;
 use history_lock::lock::Pass;
+use out_queues::taken::Taken;
 use std::alloc::Global;
 use std::process::Abort;
 use std::sync::{Arc, Wait};

@@ -14,8 +14,8 @@ use Rattle.controller_desk.specs.declared.fault.ActError.TheVariants as refusals
 use Rattle.controller_desk.specs.Calls.{IsRefusedAs}
 use Rattle.controller_desk.specs.Contents.{flag}
 use Rattle.controller_desk.specs.Turns.{InTurn}
-use Rattle.session_threads.specs.declared.end.SessionEnd.{SessionEnd}
-use Rattle.session_threads.specs.declared.end.SessionEnd.TheVariants as ends
+use Rattle.link_greeting.specs.declared.end.SessionEnd.{SessionEnd}
+use Rattle.link_greeting.specs.declared.end.SessionEnd.TheVariants as ends
 use Rattle.session_threads.specs.Ends.{IsEndOf, HasDeskCause}
 use Rattle.session_threads.specs.Passes.{fulls_seen, failed_seen, limits_seen}
 

@@ -1,6 +1,6 @@
 -- Messages that are entered, one after another.
 use Rattle.std.proofs.Common.{◌≡◌, ◌≢◌, ℕ, suc, ◌+◌, ◌<◌, List, [], ◌∷◌, ◌++◌, length, take, drop, get_or, false, Option, Some, None, Result, Ok, Err, refl, sym, ap, ◌∙◌, subst, arith, append_assoc, take-suc}
-use Rattle.std.specs.Prelude.{OnOk, OnErr, option_map}
+use Rattle.std.specs.Prelude.{option_map}
 use Rattle.std.specs.Option.{is_some}
 use Rattle.std.proofs.lemmas.List.{append-nil, take-append-drop}
 use Rattle.cluster_types.specs.declared.message.Message.{Message}
@@ -25,8 +25,8 @@ use Rattle.controller_desk.specs.Contents.{content_of}
 use Rattle.controller_desk.specs.Readings.{heard}
 use Rattle.controller_desk.specs.Turns.{InTurn}
 use Rattle.jupyter_parts.specs.Signed.{read_parts}
-use Rattle.session_threads.specs.declared.end.SessionEnd.{SessionEnd}
-use Rattle.session_threads.specs.declared.end.SessionEnd.TheVariants as ends
+use Rattle.link_greeting.specs.declared.end.SessionEnd.{SessionEnd}
+use Rattle.link_greeting.specs.declared.end.SessionEnd.TheVariants as ends
 use Rattle.session_threads.specs.Ends.{IsEndOf, EndsHearing}
 use Rattle.session_threads.specs.Passes.{AddsBehind, inputs_among}
 use Rattle.session_threads.specs.Reading.{signed, IsEnteredAs, IsEntered, HearsAs, HearAll, Entered, EnteredFront}
@@ -143,16 +143,6 @@ front_here key conn u v w messages i a b = record {
 
 pub front_none : (key : List ℕ) (conn : ℕ) (v : View) (messages : List (List (List ℕ))) → EnteredFront key conn messages v v
 front_none key conn v messages = record { first = []; others = messages; parts = refl; entered = none_entered key conn v }
-
--- RESULTS
-
-pub at_err : {T E Q : Type 0} (r : Result T E) → Q → OnErr r Q
-at_err (Ok x) q = tt
-at_err (Err e) q = q
-
-pub at_ok : {T E Q : Type 0} (r : Result T E) → Q → OnOk r Q
-at_ok (Ok x) q = q
-at_ok (Err e) q = tt
 
 -- WHAT A CALL OF THE DESK SAYS
 

@@ -1,11 +1,9 @@
 pub mod Causes
 pub mod Down
-pub mod Early
 pub mod Entering
 pub mod Finishing
 pub mod Going
 pub mod Sending
-pub mod Shaking
 pub mod Short
 pub mod Taking
 pub mod Turns

@@ -2,9 +2,9 @@
 use Rattle.std.proofs.Common.{ℕ, List, [], ◌++◌, Option, subst}
 use Rattle.edges.specs.Streams.{Added}
 use Rattle.history_lock.specs.declared.known.View.{View}
-use Rattle.session_threads.specs.Greeting.{AddedFront}
+use Rattle.link_greeting.specs.Greeting.{AddedFront}
 use Rattle.session_threads.specs.Writing.{Took, WritesFront, WritesWhole}
-use Rattle.session_threads.proofs.Shaking.{added_more, added_none, front_behind, front_whole}
+use Rattle.link_greeting.proofs.Shaking.{added_more, added_none, front_behind, front_whole}
 use Rattle.session_threads.proofs.Taking.{took_none, took_more, took_outs}
 
 -- all that was taken was written

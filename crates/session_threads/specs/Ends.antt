@@ -1,4 +1,4 @@
--- How greetings and sessions end.
+-- How sessions end.
 use Rattle.std.specs.Prelude.{◌≡◌, ◌≤◌, ⊤, true}
 use Rattle.cluster_types.specs.Causes.{Rose}
 use Rattle.cluster_core.specs.Size.{is_past}
@@ -6,24 +6,9 @@ use Rattle.controller_desk.specs.declared.fault.ActError.{ActError}
 use Rattle.controller_desk.specs.declared.fault.ActError.TheVariants.{TooManyConnections}
 use Rattle.controller_desk.specs.declared.fault.ActError.TheVariants as refusals
 use Rattle.history_lock.specs.declared.known.View.{View}
-use Rattle.session_threads.specs.declared.end.SessionEnd.{SessionEnd}
-use Rattle.session_threads.specs.declared.end.SessionEnd.TheVariants.{Ended, Closed, LinkFault, ZmtpFault, HistoryFull, Reopen, OutOfMemory}
+use Rattle.link_greeting.specs.declared.end.SessionEnd.{SessionEnd}
+use Rattle.link_greeting.specs.declared.end.SessionEnd.TheVariants.{Ended, Closed, LinkFault, ZmtpFault, HistoryFull, Reopen, OutOfMemory}
 use Rattle.session_threads.specs.Passes.{fulls_seen, failed_seen, limits_seen}
-
--- the ends of a greeting
-abbrev pub EndsGreeting : SessionEnd → Type 0
-EndsGreeting Ended = ⊤
-EndsGreeting LinkFault = ⊤
-EndsGreeting (ZmtpFault fault) = ⊤
-EndsGreeting OutOfMemory = ⊤
-EndsGreeting _ = ⊥
-
--- its ends at a piece that was read
-abbrev pub EndsPiece : SessionEnd → Type 0
-EndsPiece LinkFault = ⊤
-EndsPiece (ZmtpFault fault) = ⊤
-EndsPiece OutOfMemory = ⊤
-EndsPiece _ = ⊥
 
 -- the ends of a writing session
 abbrev pub EndsWriting : SessionEnd → Type 0

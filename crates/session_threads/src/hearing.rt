@@ -11,7 +11,6 @@ ghost use Rattle.session_threads.specs.Reading.{signed, Entered, EnteredFront};
 ghost use Rattle.jupyter_parts.specs.Signed.{read_parts};
 
 use crate::connection::Connection;
-use crate::end::SessionEnd;
 use cluster_types::shared_message::SharedMessage;
 use controller_desk::acted::Acted;
 use controller_desk::desk::Desk;
@@ -24,6 +23,7 @@ use history_lock::lock::Pass;
 use hmac_sign::Key;
 use jupyter_parts::fault::PartsError;
 use jupyter_parts::read::read_parts;
+use link_greeting::end::SessionEnd;
 use load_schemes::chooser::Chooser;
 use std::alloc::{AllocError, Global};
 use std::sync::Wait;

@@ -1,13 +1,10 @@
-//! The greeting and the two sessions of a link to a controller, and the admission of a link: each runs in a thread of its
-//! own, over one desk.
+//! The two sessions of a link to a controller, each of which runs in a thread of its own over one desk, and the admission
+//! of a link.
 #![tactic(auto)]
 
 pub mod admission;
 pub mod connection;
-pub mod end;
-pub mod greeting;
 mod hearing;
-mod link;
 mod outgoing;
 pub mod reading;
 pub mod writing;

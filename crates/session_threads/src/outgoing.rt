@@ -7,7 +7,6 @@ ghost use Rattle.session_threads.specs.Passes.{Rests};
 ghost use Rattle.session_threads.specs.Writing.{dated, octets_of, Took, TookSome, HasNoMore};
 
 use cluster_outgo::frames_of;
-use cluster_store::taken::Taken;
 use cluster_types::limits::LAST_MOMENT;
 use cluster_types::out::Out;
 use controller_desk::desk::Desk;
@@ -15,6 +14,7 @@ use controller_desk::locked::Locked;
 use disk_model::disk::Disk;
 use history_lock::lock::Pass;
 use hmac_sign::Key;
+use out_queues::taken::Taken;
 use std::alloc::{AllocError, Global};
 use std::sync::Wait;
 use thread_edges::clock::Clock;

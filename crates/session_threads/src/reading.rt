@@ -14,7 +14,6 @@ ghost use Rattle.session_threads.specs.Passes.{Rests};
 ghost use Rattle.session_threads.specs.Reading.{Entered, EnteredFront, TakesDown, HeardFront, HeardWith, ReadsFront, ReadsWhole};
 
 use crate::connection::Connection;
-use crate::end::SessionEnd;
 use crate::hearing::{end_of, hear_all};
 use controller_desk::desk::Desk;
 use controller_desk::fault::ActError;
@@ -23,6 +22,7 @@ use disk_model::disk::Disk;
 use edges::source::{Got, Source};
 use history_lock::lock::Pass;
 use hmac_sign::Key;
+use link_greeting::end::SessionEnd;
 use load_schemes::chooser::Chooser;
 use std::alloc::Global;
 use std::sync::Wait;

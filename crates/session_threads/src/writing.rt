@@ -7,8 +7,6 @@ ghost use Rattle.session_threads.specs.Ends.{EndsWriting};
 ghost use Rattle.session_threads.specs.Passes.{Rests};
 ghost use Rattle.session_threads.specs.Writing.{HasNoMore, WritesFront, WritesWhole};
 
-use crate::end::SessionEnd;
-use crate::link::write;
 use crate::outgoing::{BatchEnd, take_batch};
 use controller_desk::desk::Desk;
 use controller_desk::locked::Locked;
@@ -16,6 +14,8 @@ use disk_model::disk::Disk;
 use edges::sink::Sink;
 use history_lock::lock::Pass;
 use hmac_sign::Key;
+use link_greeting::end::SessionEnd;
+use link_greeting::link::write;
 use std::alloc::{AllocError, Global};
 use std::sync::Wait;
 use thread_edges::clock::Clock;

@@ -1,5 +1,5 @@
-//! Tests of the core, of what messages are answered with, of histories without what purges let go, and of disks, journals
-//! and the store. They stand in a crate of their own since a crate that has tests is proved twice.
+//! Tests of the core, of what messages are answered with, of histories without what purges let go, and of disks, journals,
+//! queues and the store. They stand in a crate of their own since a crate that has tests is proved twice.
 #![tactic(auto)]
 
 #[cfg(test)]
@@ -14,6 +14,8 @@ mod cursors;
 mod disks;
 #[cfg(test)]
 mod journals;
+#[cfg(test)]
+mod queues;
 #[cfg(test)]
 mod steps;
 #[cfg(test)]

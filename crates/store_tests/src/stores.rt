@@ -10,7 +10,6 @@ use crate::choosing::new_chooser;
 use cluster_store::fault::{ServeError, StepError};
 use cluster_store::opening::read_list;
 use cluster_store::store::Store;
-use cluster_store::taken::Taken;
 use cluster_types::config::{Channel, Config, Scheme};
 use cluster_types::entry::Input;
 use cluster_types::octets::Octets;
@@ -19,6 +18,7 @@ use cluster_types::shared_message::SharedMessage;
 use disk_model::fuse::FuseDisk;
 use disk_model::memory::MemDisk;
 use load_schemes::chooser::Chooser;
+use out_queues::taken::Taken;
 use std::alloc::Global;
 use std::process::Abort;
 use task_journal::fault::AppendFault;
@@ -27,7 +27,7 @@ use task_journal::reading::read_journal;
 
 /// What a take is to answer.
 #[derive(Clone, Copy, Debug, PartialEq, Eq)]
-enum Answer {
+pub enum Answer {
     Out,
     NothingYet,
     Closed,
@@ -156,7 +156,7 @@ fn enter<R: Abort>(rt: &R, store: &mut Store<FuseDisk>, chooser: &Chooser, input
     true
 }
 
-fn is_answer(taken: &Taken, answer: Answer) -> bool {
+pub fn is_answer(taken: &Taken, answer: Answer) -> bool {
     match taken {
         Taken::Out(_) => answer == Answer::Out,
         Taken::NothingYet => answer == Answer::NothingYet,

@@ -2,7 +2,8 @@ use Rattle.std.proofs.Common.{◌∙◌, Some, Result, Ok, sym, ap, subst}
 use Rattle.controller_desk.specs.declared.acted.Acted.{Acted}
 use Rattle.controller_desk.specs.declared.fault.ActError.{ActError}
 use Rattle.controller_desk.specs.Calls.{HasActed}
-use Rattle.session_threads.proofs.Entering.{at_err, none_entered, passed_over, entered_step, entered_junk, entered_still, refused_adds, acted_gone, gone_adds}
+use Rattle.link_greeting.proofs.Results.{at_err}
+use Rattle.session_threads.proofs.Entering.{none_entered, passed_over, entered_step, entered_junk, entered_still, refused_adds, acted_gone, gone_adds}
 use Rattle.session_threads.proofs.Short.{signed_short}
 use Rattle.session_threads.proofs.hearing.hear.Goals as goal
 

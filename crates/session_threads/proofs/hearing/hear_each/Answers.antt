@@ -1,5 +1,6 @@
 use Rattle.std.proofs.Common.{◌∙◌, refl, arith}
-use Rattle.session_threads.proofs.Entering.{at_err, none_entered, entered_next, front_here}
+use Rattle.link_greeting.proofs.Results.{at_err}
+use Rattle.session_threads.proofs.Entering.{none_entered, entered_next, front_here}
 use Rattle.session_threads.proofs.hearing.hear_each.Goals as goal
 
 pub loop-frames-init : goal.loop-frames-init

@@ -1,9 +1,9 @@
 use Rattle.std.proofs.Common.{◌∙◌, List, ℕ, sym, subst, arith}
 use Rattle.history_lock.specs.Names.{known}
-use Rattle.cluster_store.specs.declared.taken.Taken.{Taken}
+use Rattle.out_queues.specs.declared.taken.Taken.{Taken}
 use Rattle.controller_desk.specs.Calls.{HasTaken}
 use Rattle.session_threads.specs.Writing.{Took, TookSome}
-use Rattle.session_threads.proofs.Entering.{at_err}
+use Rattle.link_greeting.proofs.Results.{at_err}
 use Rattle.session_threads.proofs.Taking.{took_turn, took_nothing, no_more}
 use Rattle.session_threads.proofs.outgoing.take_batch.Goals as goal
 

@@ -3,7 +3,8 @@ use Rattle.std.specs.Prelude.{All}
 use Rattle.history_lock.specs.Names.{known}
 use Rattle.zmtp_peer.specs.Limits.{IsShortMessage}
 use Rattle.session_threads.specs.Reading.{Entered, EnteredFront}
-use Rattle.session_threads.proofs.Entering.{at_err, front_none}
+use Rattle.link_greeting.proofs.Results.{at_err}
+use Rattle.session_threads.proofs.Entering.{front_none}
 use Rattle.session_threads.proofs.reading.take_piece.Goals as goal
 
 pub returns-in_err-fed-clause-err : goal.returns-in_err-fed-clause-err

@@ -1,8 +1,8 @@
 use Rattle.std.proofs.Common.{◌∙◌, List, ℕ, refl, subst, arith, le_refl}
 use Rattle.edges.specs.Streams.{Added}
-use Rattle.session_threads.specs.Greeting.{AddedFront}
+use Rattle.link_greeting.specs.Greeting.{AddedFront}
 use Rattle.session_threads.proofs.Sending.{sent_none, sent_more, whole, front_now, front_more}
-use Rattle.session_threads.proofs.Shaking.{front_none}
+use Rattle.link_greeting.proofs.Shaking.{front_none}
 use Rattle.session_threads.proofs.writing.write_session.Goals as goal
 
 pub loop-init : goal.loop-init

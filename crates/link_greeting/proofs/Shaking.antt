@@ -7,8 +7,8 @@ use Rattle.zmtp_frames.specs.Greeting.{own_greeting}
 use Rattle.zmtp_peer.specs.declared.fault.PeerFault.{PeerFault}
 use Rattle.zmtp_peer.specs.PeerStream.{Talk, begins, talked, sent, identity, or_later, messages, fault_of}
 use Rattle.zmtp_peer.proofs.Pieces.{talked_append, sent_append, identity_append, messages_append}
-use Rattle.session_threads.specs.Greeting.{AddedFront, IsGreeted, IsRefused, IsGreetedInPart, IsHandshake}
-use Rattle.session_threads.proofs.Early.{without_identity}
+use Rattle.link_greeting.specs.Greeting.{AddedFront, IsGreeted, IsRefused, IsGreetedInPart, IsHandshake}
+use Rattle.link_greeting.proofs.Early.{without_identity}
 
 took_none : (x : Option (List ℕ)) → Took [] x x
 took_none None = refl

@@ -2,8 +2,7 @@
 
 ghost use Rattle.std.specs.Prelude.{◌≡◌, ◌≤◌, ◌<◌, ◌+◌, ◌==◌, ℕ, [], ◌∷◌, ◌++◌, length, not, if◌then◌else◌, OnOk};
 ghost use Rattle.cluster_defs.specs.Outs.{conn_of, outs_on};
-ghost use Rattle.cluster_store.specs.Queues.{left_at, room_at, released, after, handed, waits, is_none_left};
-ghost use Rattle.cluster_store.specs.Stores.{is_news};
+ghost use Rattle.out_queues.specs.Queues.{left_at, room_at, released, after, handed, is_news, waits, is_none_left};
 
 use crate::taken::Taken;
 use crate::waiting::{Line, Waiting};
@@ -20,7 +19,7 @@ pub struct Queues {
 }
 
 impl Model for Queues {
-    ghost use Rattle.cluster_store.specs.Queues.{Lines};
+    ghost use Rattle.out_queues.specs.Queues.{Lines};
 
     ghost Value = { Lines };
 
@@ -39,7 +38,7 @@ impl Queues {
     }
 
     /// Makes room for one more out to a connection.
-    pub fn make_room(&mut self, conn: u32) -> Result<(), AllocError>
+    fn make_room(&mut self, conn: u32) -> Result<(), AllocError>
         ensures left { (c : ℕ) → left_at self.new c ≡ left_at self.old c }
         ensures stays { (c : ℕ) → room_at self.old c ≤ room_at self.new c }
         ensures room { OnOk result (room_at self.old conn + 1 ≤ room_at self.new conn) }
@@ -56,7 +55,7 @@ impl Queues {
     }
 
     /// Appends an out to a connection, into the room that is there.
-    pub fn push(&mut self, conn: u32, waiting: Waiting)
+    fn push(&mut self, conn: u32, waiting: Waiting)
         requires { 0 < room_at self.old conn }
         ensures left { (c : ℕ) → left_at self.new c ≡ (if conn == c then left_at self.old c ++ waiting ∷ [] else left_at self.old c) }
         ensures room { (c : ℕ) → room_at self.old c ≤ room_at self.new c + (if conn == c then 1 else 0) }
@@ -67,7 +66,7 @@ impl Queues {
     }
 
     /// Takes the first out to a connection, where it may be handed out with so many entries safe.
-    pub fn take(&mut self, conn: u32, mark: u64) -> Option<Out>
+    fn take(&mut self, conn: u32, mark: u64) -> Option<Out>
         ensures out { result ≡ released mark (left_at self.old conn) }
         ensures left { (c : ℕ) → left_at self.new c ≡ (if conn == c then after mark (left_at self.old c) else left_at self.old c) }
     {
@@ -78,7 +77,7 @@ impl Queues {
     }
 
     /// Whether no outs to a connection wait.
-    pub fn is_empty(&self, conn: u32) -> bool
+    fn is_empty(&self, conn: u32) -> bool
         ensures { result ≡ is_none_left (left_at self.now conn) }
     {
         match self.lines.get(&conn) {

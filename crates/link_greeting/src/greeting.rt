@@ -6,8 +6,8 @@ ghost use Rattle.edges.specs.Streams.{Added, IsAtEnd};
 ghost use Rattle.zmtp_peer.specs.declared.fault.PeerFault.{PeerFault as Fault};
 ghost use Rattle.zmtp_peer.specs.Limits.{IsShortMessage, IsShortIdentity};
 ghost use Rattle.zmtp_peer.specs.PeerStream.{talked, sent, identity, fault_of};
-ghost use Rattle.session_threads.specs.Ends.{EndsGreeting, EndsPiece};
-ghost use Rattle.session_threads.specs.Greeting.{AddedFront, IsGreeted, IsRefused, IsGreetedInPart, IsHandshake};
+ghost use Rattle.link_greeting.specs.Ends.{EndsGreeting, EndsPiece};
+ghost use Rattle.link_greeting.specs.Greeting.{AddedFront, IsGreeted, IsRefused, IsGreetedInPart, IsHandshake};
 
 use crate::end::SessionEnd;
 use crate::link::write;

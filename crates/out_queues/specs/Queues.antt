@@ -2,10 +2,9 @@
 use Rattle.std.specs.Prelude.{ℕ, nat_le, nat_eq, List, [], ◌∷◌, map, Option, Some, None, Bool, true, false, ◌||◌, not, if◌then◌else◌}
 use Rattle.std.specs.Map.{lookup}
 use Rattle.cluster_types.specs.declared.out.Out.{Out}
-use Rattle.cluster_types.specs.declared.entry.Entry.{Entry}
-use Rattle.cluster_store.specs.declared.waiting.Waiting.{Waiting}
-use Rattle.cluster_store.specs.declared.taken.Taken.{Taken}
-use Rattle.cluster_store.specs.declared.taken.Taken.TheVariants.{Out as Hands, NothingYet, Closed}
+use Rattle.out_queues.specs.declared.waiting.Waiting.{Waiting}
+use Rattle.out_queues.specs.declared.taken.Taken.{Taken}
+use Rattle.out_queues.specs.declared.taken.Taken.TheVariants.{Out as Hands, NothingYet, Closed}
 
 -- the outs that wait for one connection, and for how many more there is room
 pub record LineView : Type 0 where
@@ -50,14 +49,15 @@ abbrev pub handed : Bool → Bool → Option Out → Taken
 handed live none (Some out) = Hands out
 handed live none None = if live || not none then NothingYet else Closed
 
+-- a take answers anything but that there is none yet
+abbrev pub is_news : Taken → Bool
+is_news (Hands out) = true
+is_news NothingYet = false
+is_news Closed = true
+
 -- outs that need so many entries to be safe
 abbrev pub waiting_of : ℕ → Out → Waiting
 waiting_of need out = record { out = out; need = need }
 
 abbrev pub waits : ℕ → List Out → List Waiting
 waits need outs = map (waiting_of need) outs
-
--- how many entries are to be safe for what a step sends: all up to its end where it keeps some, and else as many as before
-abbrev pub need_after : ℕ → List Entry → ℕ → ℕ
-need_after need [] size = need
-need_after need (e ∷ es) size = size

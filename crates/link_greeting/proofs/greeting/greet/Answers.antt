@@ -1,10 +1,10 @@
 use Rattle.std.proofs.Common.{◌≡◌, ◌∙◌, List, ℕ, Some, Ok, Err, sym, ap, subst, arith}
 use Rattle.zmtp_peer.specs.PeerStream.{Talk, fault_of}
-use Rattle.session_threads.specs.declared.end.SessionEnd.TheVariants.{ZmtpFault}
-use Rattle.session_threads.specs.Greeting.{AddedFront}
-use Rattle.session_threads.proofs.Entering.{at_err}
-use Rattle.session_threads.proofs.Shaking.{Shaking, greeting_front, shaking_on, shaking_front, shaking_refused, shaking_done}
-use Rattle.session_threads.proofs.greeting.greet.Goals as goal
+use Rattle.link_greeting.specs.declared.end.SessionEnd.TheVariants.{ZmtpFault}
+use Rattle.link_greeting.specs.Greeting.{AddedFront}
+use Rattle.link_greeting.proofs.Results.{at_err}
+use Rattle.link_greeting.proofs.Shaking.{Shaking, greeting_front, shaking_on, shaking_front, shaking_refused, shaking_done}
+use Rattle.link_greeting.proofs.greeting.greet.Goals as goal
 
 pub returns-in_err-write-clause-front : goal.returns-in_err-write-clause-front
 returns-in_err-write-clause-front g c =
