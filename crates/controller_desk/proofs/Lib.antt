@@ -2,5 +2,6 @@ pub mod Acting
 pub mod Extending
 pub mod Named
 pub mod Numbers
+pub mod Seen
 pub mod Short
 pub mod Taking

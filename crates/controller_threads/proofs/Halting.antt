@@ -26,7 +26,7 @@ use Rattle.task_journal.specs.declared.fault.AppendFault.TheVariants as appends
 use Rattle.link_greeting.specs.declared.end.SessionEnd.{SessionEnd}
 use Rattle.link_greeting.specs.declared.end.SessionEnd.TheVariants as ends
 use Rattle.session_threads.specs.Ends.{HasDeskCause}
-use Rattle.session_threads.specs.Passes.{fulls_seen}
+use Rattle.controller_desk.specs.Contents.{fulls_seen}
 use Rattle.session_threads.proofs.Causes.{cause_since, refused_cause}
 use Rattle.controller_threads.specs.declared.end.Halt.{Halt}
 use Rattle.controller_threads.specs.declared.end.Halt.TheVariants as halts

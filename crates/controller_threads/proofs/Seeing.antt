@@ -9,7 +9,7 @@ use Rattle.history_lock.specs.declared.lock.Pass.{Pass}
 use Rattle.history_lock.specs.History.{is_open_entry, Extends}
 use Rattle.history_lock.specs.Names.{LockId, known, lock_id, IsIdle}
 use Rattle.history_lock.proofs.Growing.{extends_self, extends_on}
-use Rattle.session_threads.specs.Passes.{Rests}
+use Rattle.controller_desk.specs.Contents.{Rests}
 use Rattle.controller_threads.specs.Passes.{IsLater, IsSince, IsRested}
 
 -- TWO FORMS OF THE SAME

@@ -11,7 +11,7 @@ use Rattle.session_threads.specs.declared.admission.AdmitEnd.{AdmitEnd}
 use Rattle.session_threads.specs.declared.admission.AdmitEnd.TheVariants.{NoPass, Act}
 use Rattle.link_greeting.specs.declared.end.SessionEnd.{SessionEnd}
 use Rattle.link_greeting.specs.declared.end.SessionEnd.TheVariants as sessions
-use Rattle.session_threads.specs.Passes.{fulls_seen, limits_seen}
+use Rattle.controller_desk.specs.Contents.{fulls_seen, limits_seen}
 use Rattle.controller_threads.specs.declared.end.Halt.{Halt}
 use Rattle.controller_threads.specs.declared.end.Halt.TheVariants as halts
 use Rattle.controller_threads.specs.declared.end.ServeEnd.{ServeEnd}

@@ -6,7 +6,7 @@ use Rattle.history_lock.specs.declared.known.Content.{Content}
 use Rattle.history_lock.specs.declared.lock.Pass.{Pass}
 use Rattle.history_lock.specs.History.{is_open_entry, Rises, Extends}
 use Rattle.history_lock.specs.Names.{LockId, known, IsIdle}
-use Rattle.session_threads.specs.Passes.{Rests}
+use Rattle.controller_desk.specs.Contents.{Rests}
 
 -- The list goes on from the old one, no Open stands in what it has beyond that, and no count is lower. This is what `Extends`
 -- says, in a form that has no more than one proof, so that threads can keep it.

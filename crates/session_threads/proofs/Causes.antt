@@ -1,7 +1,5 @@
 -- Why sessions end, over what a pass has seen.
-use Rattle.std.proofs.Common.{◌≡◌, ℕ, ◌+◌, ◌-◌, ◌^◌, ◌≤◌, min, true, sym, ap, ◌∙◌, subst, arith}
-use Rattle.std.proofs.lemmas.Bool.Decides.{nat_tests}
-use Rattle.cluster_types.specs.Causes.{Rose}
+use Rattle.std.proofs.Common.{◌≡◌, true, sym, ap, ◌∙◌, subst, arith}
 use Rattle.cluster_types.specs.declared.entry.Input.{Input as InputType}
 use Rattle.cluster_core.specs.declared.size.HistorySize.{HistorySize}
 use Rattle.cluster_core.specs.Size.{is_past}
@@ -12,18 +10,12 @@ use Rattle.history_lock.proofs.Growing.{extends_self}
 use Rattle.controller_desk.specs.declared.fault.ActError.{ActError}
 use Rattle.controller_desk.specs.declared.fault.ActError.TheVariants as refusals
 use Rattle.controller_desk.specs.Calls.{IsRefusedAs}
-use Rattle.controller_desk.specs.Contents.{flag}
+use Rattle.controller_desk.specs.Contents.{flag, fulls_seen, failed_seen, limits_seen}
 use Rattle.controller_desk.specs.Turns.{InTurn}
+use Rattle.controller_desk.proofs.Seen.{rose_wider, past_lower, full_cause}
 use Rattle.link_greeting.specs.declared.end.SessionEnd.{SessionEnd}
 use Rattle.link_greeting.specs.declared.end.SessionEnd.TheVariants as ends
 use Rattle.session_threads.specs.Ends.{IsEndOf, HasDeskCause}
-use Rattle.session_threads.specs.Passes.{fulls_seen, failed_seen, limits_seen}
-
-rose_wider : (a b c d : ℕ) → a ≤ b → Rose b c → c ≤ d → Rose a d
-rose_wider a b c d le rose more = omega (arith, le, rose, more)
-
-past_lower : (low high : HistorySize) (size : HistorySize) → low.entries ≤ high.entries → low.bytes ≤ high.bytes → is_past high size ≡ true → is_past low size ≡ true
-past_lower low high size entries bytes past = grind (arith, nat_tests)
 
 pub cause_within : (end : SessionEnd) (u v w x : View) → Extends u.seen v.seen → HasDeskCause end v w → Extends w.seen x.seen → HasDeskCause end u x
 cause_within (ends.HistoryFull entries bytes) u v w x before c after = (
@@ -36,13 +28,6 @@ cause_within ends.Closed u v w x before c after = tt
 cause_within ends.LinkFault u v w x before c after = tt
 cause_within (ends.ZmtpFault fault) u v w x before c after = tt
 cause_within ends.OutOfMemory u v w x before c after = tt
-
-full_cause : {D : Type 0} (faults : D → ℕ) (u w : View) (before after : StoreView D) (size : HistorySize) → InTurn faults u before after w → after.fulls ≡ min (before.fulls + 1) (2 ^ 64 - 1) → is_past before.limits size ≡ true →
-    Rose (fulls_seen u.seen) (fulls_seen w.seen) × (is_past (limits_seen u.seen) size ≡ true)
-full_cause faults u w before after size t counted past =
-    let less : fulls_seen u.seen ≤ before.fulls = t.adds.later.counts 2 in
-    let now : fulls_seen w.seen ≡ after.fulls = ap fulls_seen t.seen in
-    (omega (arith, less, now, counted), past_lower (limits_seen u.seen) before.limits size (t.adds.later.counts 4) (t.adds.later.counts 5) past)
 
 -- a step that is refused
 pub refused_cause : {D : Type 0} (faults : D → ℕ) (u w : View) (before after : StoreView D) (input : InputType) (e : ActError) (end : SessionEnd) → InTurn faults u before after w → IsRefusedAs before input e after → IsEndOf e end → HasDeskCause end u w

@@ -11,7 +11,7 @@ use Rattle.controller_desk.specs.Turns.{InTurn}
 use Rattle.link_greeting.specs.declared.end.SessionEnd.{SessionEnd}
 use Rattle.link_greeting.specs.declared.end.SessionEnd.TheVariants as ends
 use Rattle.session_threads.specs.Ends.{IsEndOf, EndsStream, KeepsEnd, IsRefusedEnd, HasDeskCause}
-use Rattle.session_threads.specs.Passes.{Rests}
+use Rattle.controller_desk.specs.Contents.{Rests}
 use Rattle.session_threads.specs.Reading.{TakesDown}
 use Rattle.session_threads.proofs.Causes.{refused_cause, cause_since, cause_until}
 use Rattle.session_threads.proofs.Turns.{adds_none}

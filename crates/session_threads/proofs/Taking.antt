@@ -19,9 +19,9 @@ use Rattle.history_lock.specs.declared.known.View.{View}
 use Rattle.history_lock.specs.History.{is_open_entry, Extends}
 use Rattle.history_lock.proofs.Growing.{extends_self, extends_on}
 use Rattle.controller_desk.specs.Calls.{HasTaken}
-use Rattle.controller_desk.specs.Contents.{first_values, conn_numbers, content_of, taken_place}
+use Rattle.controller_desk.specs.Contents.{first_values, conn_numbers, content_of, taken_place, taken_seen}
 use Rattle.controller_desk.specs.Turns.{InTurn}
-use Rattle.session_threads.specs.Passes.{AddsBehind, taken_seen}
+use Rattle.session_threads.specs.Passes.{AddsBehind}
 use Rattle.session_threads.specs.Writing.{octets_of, Placed, Takes, TakeAll, RiseFrom, StandIn, outs_among, HasNoMore, TookOuts, TookAll, Took}
 use Rattle.session_threads.proofs.Turns.{stay_adds, turn_list}
 

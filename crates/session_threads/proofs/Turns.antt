@@ -14,6 +14,7 @@ use Rattle.history_lock.proofs.Growing.{extends_self, extends_on}
 use Rattle.controller_desk.specs.Calls.{is_input, HasStepped}
 use Rattle.controller_desk.specs.Contents.{content_of}
 use Rattle.controller_desk.specs.Turns.{beyond, InTurn}
+use Rattle.controller_desk.proofs.Seen.{turn_later}
 use Rattle.session_threads.specs.Passes.{StandFrom, AddsBehind, inputs_among}
 
 -- PLACES
@@ -51,9 +52,6 @@ adds_more xs ys u v w a b = record {
 
 abbrev pub entries_of : {D : Type 0} → StoreView D → StoreView D → List (ℕ × Entry)
 entries_of before after = placed (length before.history) (beyond before.history after.history)
-
-pub turn_later : {D : Type 0} (faults : D → ℕ) (u w : View) (before after : StoreView D) → InTurn faults u before after w → Extends u.seen w.seen
-turn_later faults u w before after t = extends_on u.seen (content_of faults before) w.seen t.adds.later t.adds.extends
 
 pub turn_adds : {D : Type 0} (faults : D → ℕ) (u w : View) (before after : StoreView D) → InTurn faults u before after w → AddsBehind (entries_of before after) u w
 turn_adds faults u w before after t = record {

@@ -13,7 +13,7 @@ use Rattle.history_lock.specs.declared.known.View.{View}
 use Rattle.history_lock.specs.History.{Extends}
 use Rattle.zmtp_peer.specs.Message.{message_written}
 use Rattle.link_greeting.specs.Greeting.{AddedFront}
-use Rattle.session_threads.specs.Passes.{taken_seen}
+use Rattle.controller_desk.specs.Contents.{taken_seen}
 
 -- OCTETS
 

@@ -5,7 +5,7 @@ ghost use Rattle.std.specs.Vec.{vec_len, vec_capacity};
 ghost use Rattle.controller_desk.specs.declared.fault.ActError.{ActError as Refusal};
 ghost use Rattle.history_lock.specs.Names.{known, room_of, lock_id, IsIdle};
 ghost use Rattle.session_threads.specs.Admission.{OpensInTurn};
-ghost use Rattle.session_threads.specs.Passes.{Rests};
+ghost use Rattle.controller_desk.specs.Contents.{Rests};
 
 use cluster_types::config::Channel;
 use controller_desk::desk::Desk;

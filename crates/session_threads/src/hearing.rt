@@ -6,7 +6,7 @@ ghost use Rattle.controller_desk.specs.declared.fault.ActError.{ActError as Refu
 ghost use Rattle.history_lock.specs.Names.{known, room_of, lock_id, IsIdle};
 ghost use Rattle.zmtp_peer.specs.Limits.{IsShortMessage};
 ghost use Rattle.session_threads.specs.Ends.{EndsHearing, IsEndOf, HasDeskCause};
-ghost use Rattle.session_threads.specs.Passes.{Rests};
+ghost use Rattle.controller_desk.specs.Contents.{Rests};
 ghost use Rattle.session_threads.specs.Reading.{signed, Entered, EnteredFront};
 ghost use Rattle.jupyter_parts.specs.Signed.{read_parts};
 

@@ -3,7 +3,7 @@
 ghost use Rattle.std.specs.Prelude.{◌≡◌, ◌++◌, [], IfOk, OnOk, OnErr};
 ghost use Rattle.cluster_outgo.specs.Frames.{IsSendable};
 ghost use Rattle.history_lock.specs.Names.{known, room_of, lock_id, IsIdle};
-ghost use Rattle.session_threads.specs.Passes.{Rests};
+ghost use Rattle.controller_desk.specs.Contents.{Rests};
 ghost use Rattle.session_threads.specs.Writing.{dated, octets_of, Took, TookSome, HasNoMore};
 
 use cluster_outgo::frames_of;

@@ -10,7 +10,7 @@ ghost use Rattle.zmtp_peer.specs.Limits.{IsShortMessage};
 ghost use Rattle.zmtp_peer.specs.PeerStream.{talked, messages, fault_of};
 ghost use Rattle.session_threads.specs.Ends.{EndsHearing, EndsStream, KeepsEnd, IsRefusedEnd, HasDeskCause};
 ghost use Rattle.controller_desk.specs.declared.fault.ActError.{ActError as Refusal};
-ghost use Rattle.session_threads.specs.Passes.{Rests};
+ghost use Rattle.controller_desk.specs.Contents.{Rests};
 ghost use Rattle.session_threads.specs.Reading.{Entered, EnteredFront, TakesDown, HeardFront, HeardWith, ReadsFront, ReadsWhole};
 
 use crate::connection::Connection;

@@ -4,7 +4,7 @@ ghost use Rattle.std.specs.Prelude.{◌≡◌};
 ghost use Rattle.cluster_types.specs.Causes.{Rose};
 ghost use Rattle.history_lock.specs.Names.{known, room_of, lock_id, IsIdle};
 ghost use Rattle.session_threads.specs.Ends.{EndsWriting};
-ghost use Rattle.session_threads.specs.Passes.{Rests};
+ghost use Rattle.controller_desk.specs.Contents.{Rests};
 ghost use Rattle.session_threads.specs.Writing.{HasNoMore, WritesFront, WritesWhole};
 
 use crate::outgoing::{BatchEnd, take_batch};

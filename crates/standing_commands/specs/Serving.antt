@@ -16,7 +16,7 @@ use Rattle.history_lock.specs.declared.known.Content.{Content}
 use Rattle.history_lock.specs.Names.{LockId, lock_id}
 use Rattle.quick_commands.specs.Replays.{config_of}
 use Rattle.quick_commands.specs.Written.{ending_of_refusal}
-use Rattle.session_threads.specs.Passes.{fulls_seen, limits_seen}
+use Rattle.controller_desk.specs.Contents.{fulls_seen, limits_seen}
 use Rattle.standing_commands.specs.declared.shown.Shown.{Shown}
 use Rattle.standing_commands.specs.declared.shown.Shown.TheVariants.{Nothing, Disk, Port, Seen}
 use Rattle.task_journal.specs.Settled.{Spared, OnRefusal}

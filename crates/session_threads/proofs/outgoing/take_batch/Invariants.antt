@@ -1,6 +1,6 @@
 use Rattle.std.proofs.Common.{◌≡◌, ◌<◌}
 use Rattle.history_lock.specs.Names.{known, room_of, lock_id, IsIdle}
-use Rattle.session_threads.specs.Passes.{Rests}
+use Rattle.controller_desk.specs.Contents.{Rests}
 use Rattle.session_threads.specs.Writing.{Took}
 use Rattle.session_threads.proofs.outgoing.take_batch.Given as goal
 
