@@ -1,7 +1,7 @@
 //! How `serve` ends.
 
-use crate::ports::Ports;
 use cluster_types::config::Channel;
+use controller_workers::ports::Ports;
 use history_lock::lock::Pass;
 
 /// How `serve` ended, where it has ports `P` and a desk whose lock holds `T`.
@@ -30,15 +30,4 @@ pub enum ServeEnd<P, T> {
         pass: Pass<T>,
     },
     OutOfMemory,
-}
-
-/// Why a desk halts its controller.
-#[derive(Clone, Copy, Debug, PartialEq, Eq)]
-pub enum Halt {
-    /// A shutdown was asked, and all up to it was flushed.
-    Stopping,
-    /// A flush failed.
-    DiskFault,
-    /// The history may not grow by the next step: it would have so many entries, and octets of their records.
-    HistoryFull { entries: u64, bytes: u64 },
 }

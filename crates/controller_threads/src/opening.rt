@@ -3,18 +3,19 @@
 ghost use Rattle.std.specs.Prelude.{◌≡◌, ℕ, IfErr, OnOk};
 ghost use Rattle.history_lock.specs.Names.{known};
 ghost use Rattle.zmtp_peer.specs.Limits.{IsShortIdentity};
-ghost use Rattle.controller_threads.specs.Ends.{AdmitCause, StopCause};
+ghost use Rattle.controller_workers.specs.Halts.{StopCause};
+ghost use Rattle.controller_threads.specs.Ends.{AdmitCause};
 
 use crate::caller::Caller;
-use crate::end::Halt;
-use crate::handed::{Link, ShortGreeted};
-use crate::naming::Naming;
-use crate::passes::NamedPass;
-use crate::port::Port;
-use crate::stop::Stop;
 use cluster_types::config::Channel;
 use controller_desk::fault::ActError;
 use controller_desk::locked::Locked;
+use controller_workers::halt::Halt;
+use controller_workers::handed::{Link, ShortGreeted};
+use controller_workers::naming::Naming;
+use controller_workers::passes::NamedPass;
+use controller_workers::port::Port;
+use controller_workers::stop::Stop;
 use disk_model::disk::Disk;
 use edges::sink::{Sink, write_all};
 use load_schemes::chooser::Chooser;

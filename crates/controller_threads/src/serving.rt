@@ -4,25 +4,22 @@ ghost use Rattle.std.specs.Prelude.{◌≡◌, ◌≤◌};
 ghost use Rattle.std.specs.Arc.{arc_value};
 ghost use Rattle.history_lock.specs.Names.{known, room_of, lock_id, IsIdle};
 ghost use Rattle.controller_threads.specs.Ends.{EndCause};
-ghost use Rattle.controller_threads.specs.Passes.{IsSince};
+ghost use Rattle.controller_workers.specs.Passes.{IsSince};
 
 use crate::caller::Caller;
 use crate::end::ServeEnd;
-use crate::naming::Naming;
-use crate::port::Port;
-use crate::ports::Ports;
-use crate::queue::Queue;
-use crate::shared::Shared;
-use crate::writers::Writers;
 use controller_desk::desk::Desk;
 use controller_desk::locked::Locked;
+use controller_workers::naming::Naming;
+use controller_workers::port::Port;
+use controller_workers::ports::Ports;
+use controller_workers::shared::new_shared;
 use disk_model::disk::Disk;
 use history_lock::lock::Pass;
 use hmac_sign::Key;
 use load_schemes::chooser::Chooser;
-use std::alloc::{AllocError, Global};
+use std::alloc::Global;
 use std::marker::Brand;
-use std::sync::atomic::AtomicU64;
 use std::sync::{Arc, Wait};
 use std::thread::Threads;
 use thread_edges::clock::Clock;
@@ -30,38 +27,6 @@ use thread_edges::gate::Gate;
 use thread_edges::links::Listener;
 use thread_edges::spawner::Spawner;
 use thread_edges::words::Words;
-
-/// What the threads are to share.
-fn new_shared<
-    P: Port + Drop,
-    D: Disk + Drop,
-    C: Clock + Drop,
-    W: Words + Drop,
-    G: Gate + Drop,
-    N: Naming,
-    R: Wait + Drop,
->(
-    rt: R,
-    alloc: Global,
-    desk: Arc<Desk<D, C, W>, Global>,
-    key: Key,
-    gate: Arc<G, Global>,
-) -> Result<Arc<Shared<P, D, C, W, G, N, R>, Global>, AllocError>
-    requires { lock_id (arc_value desk).lock ≡ N.lock }
-{
-    let shared = Shared {
-        rt,
-        alloc,
-        desk,
-        gate,
-        key,
-        queue: Queue::new(alloc),
-        writers: Writers::new(alloc),
-        ending: AtomicU64::new(0),
-    };
-    let shared = Arc::new(alloc, shared)?;
-    Ok(shared)
-}
 
 /// Serves, with a name for the lock of the desk and for what the pass has seen.
 fn serve_named<

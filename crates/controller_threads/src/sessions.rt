@@ -4,16 +4,16 @@ ghost use Rattle.std.specs.Prelude.{All};
 ghost use Rattle.history_lock.specs.Names.{known};
 ghost use Rattle.zmtp_peer.specs.Limits.{IsShortMessage};
 ghost use Rattle.controller_threads.specs.Ends.{SessionCause};
-ghost use Rattle.controller_threads.specs.Passes.{IsSince};
+ghost use Rattle.controller_workers.specs.Passes.{IsSince};
 
-use crate::end::Halt;
-use crate::handed::{Handed, ShortGreeted};
-use crate::naming::Naming;
-use crate::passes::{Halted, NamedPass};
-use crate::port::Port;
-use crate::shared::Shared;
-use crate::starting::ChoosingJob;
 use controller_desk::locked::Locked;
+use controller_workers::halt::Halt;
+use controller_workers::handed::{Handed, ShortGreeted};
+use controller_workers::naming::Naming;
+use controller_workers::passes::{Halted, NamedPass};
+use controller_workers::port::Port;
+use controller_workers::shared::Shared;
+use controller_workers::starting::ChoosingJob;
 use disk_model::disk::Disk;
 use history_lock::lock::Pass;
 use link_greeting::end::SessionEnd;
@@ -50,7 +50,8 @@ pub struct Writing<P: Port, D: Disk, C: Clock, W: Words, G, N: Naming, R> {
     pub pass: NamedPass<Locked<D, C, W>, N>,
 }
 
-impl<
+/// Reads a link to its end.
+fn read_link<
     P: Port + Drop,
     D: Disk + Drop,
     C: Clock + Drop,
@@ -58,66 +59,75 @@ impl<
     G: Gate + Drop,
     N: Naming,
     R: Wait + Drop,
-> Shared<P, D, C, W, G, N, R> {
-    /// Reads a link to its end.
-    fn read_link(
-        &self,
-        chooser: &Chooser,
-        reader: &mut P::In,
-        peer: Peer,
-        early: FramesList,
-        connection: Connection,
-        pass: &mut Pass<Locked<D, C, W>>,
-    ) -> SessionEnd
-        requires since { IsSince N.lock N.start pass.old }
-        requires short { All IsShortMessage early }
-        ensures since { IsSince N.lock N.start pass.new }
-        ensures cause { SessionCause result N.start (known pass.new).seen }
-    {
-        read_session(
-            &self.rt,
-            self.alloc,
-            reader,
-            peer,
-            early,
-            &self.desk,
-            pass,
-            chooser,
-            connection,
-            &self.key,
-            &*self.gate,
-        )
-    }
+>(
+    shared: &Shared<P, D, C, W, G, N, R>,
+    chooser: &Chooser,
+    reader: &mut P::In,
+    peer: Peer,
+    early: FramesList,
+    connection: Connection,
+    pass: &mut Pass<Locked<D, C, W>>,
+) -> SessionEnd
+    requires since { IsSince N.lock N.start pass.old }
+    requires short { All IsShortMessage early }
+    ensures since { IsSince N.lock N.start pass.new }
+    ensures cause { SessionCause result N.start (known pass.new).seen }
+{
+    read_session(
+        &shared.rt,
+        shared.alloc,
+        reader,
+        peer,
+        early,
+        &shared.desk,
+        pass,
+        chooser,
+        connection,
+        &shared.key,
+        &*shared.gate,
+    )
+}
 
-    /// Writes to a link until its connection isn't live.
-    fn write_link(&self, writer: &mut P::Out, conn: u32, pass: &mut Pass<Locked<D, C, W>>)
-        requires since { IsSince N.lock N.start pass.old }
-        ensures since { IsSince N.lock N.start pass.new }
-    {
-        let _ = write_session(
-            &self.rt,
-            self.alloc,
-            writer,
-            &self.desk,
-            pass,
-            conn,
-            &self.key,
-            &*self.gate,
-        );
-    }
+/// Writes to a link until its connection isn't live.
+fn write_link<
+    P: Port + Drop,
+    D: Disk + Drop,
+    C: Clock + Drop,
+    W: Words + Drop,
+    G: Gate + Drop,
+    N: Naming,
+    R: Wait + Drop,
+>(
+    shared: &Shared<P, D, C, W, G, N, R>,
+    writer: &mut P::Out,
+    conn: u32,
+    pass: &mut Pass<Locked<D, C, W>>,
+)
+    requires since { IsSince N.lock N.start pass.old }
+    ensures since { IsSince N.lock N.start pass.new }
+{
+    let _ = write_session(
+        &shared.rt,
+        shared.alloc,
+        writer,
+        &shared.desk,
+        pass,
+        conn,
+        &shared.key,
+        &*shared.gate,
+    );
+}
 
-    /// Hands over the pass of a session that ended.
-    fn hand_session(&self, end: SessionEnd, pass: Pass<Locked<D, C, W>>)
-        requires since { IsSince N.lock N.start pass }
-        requires cause { SessionCause end N.start (known pass).seen }
-    {
-        let handed = match end {
-            SessionEnd::HistoryFull { entries, bytes } => {
-                Handed::Halted(Halted::new(Halt::HistoryFull { entries, bytes }, pass))
-            }
-            _ => Handed::SessionEnded(NamedPass::new(pass)),
-        };
-        self.hand(handed);
+/// What the end of a session is handed over as.
+fn ended_session<P: Port, T, N: Naming>(end: SessionEnd, pass: Pass<T>) -> Handed<P, T, N>
+    requires since { IsSince N.lock N.start pass }
+    requires cause { SessionCause end N.start (known pass).seen }
+{
+    match end {
+        SessionEnd::HistoryFull { entries, bytes } => {
+            Handed::Halted(Halted::new(Halt::HistoryFull { entries, bytes }, pass))
+        }
+        _ => Handed::SessionEnded(NamedPass::new(pass)),
     }
 }
 
@@ -141,9 +151,17 @@ impl<
         let ShortGreeted { greeted } = greeted;
         let Greeted { peer, early, .. } = greeted;
         let NamedPass { mut pass, of: _ } = pass;
-        let end = shared.read_link(chooser, &mut reader, peer, early, connection, &mut pass);
+        let end = read_link(
+            &*shared,
+            chooser,
+            &mut reader,
+            peer,
+            early,
+            connection,
+            &mut pass,
+        );
         drop(reader);
-        shared.hand_session(end, pass);
+        shared.hand(ended_session(end, pass));
     }
 }
 
@@ -164,7 +182,7 @@ impl<
             pass,
         } = self;
         let NamedPass { mut pass, of: _ } = pass;
-        shared.write_link(&mut writer, conn, &mut pass);
+        write_link(&*shared, &mut writer, conn, &mut pass);
         drop(writer);
         shared.writers.remove(&shared.rt, conn);
         shared.hand(Handed::SessionEnded(NamedPass::new(pass)));

@@ -9,7 +9,8 @@ use Rattle.command_words.specs.declared.ending.Ending.TheVariants as plain
 use Rattle.command_words.specs.declared.ending.StandingEnding.{StandingEnding}
 use Rattle.command_words.specs.declared.ending.StandingEnding.TheVariants as endings
 use Rattle.controller_desk.specs.declared.desk.Desk.{Desk}
-use Rattle.controller_threads.specs.Ends.{EndCause, faults_seen}
+use Rattle.controller_desk.specs.Contents.{faults_seen}
+use Rattle.controller_threads.specs.Ends.{EndCause}
 use Rattle.controller_threads.specs.declared.end.ServeEnd.{ServeEnd}
 use Rattle.controller_threads.specs.declared.end.ServeEnd.TheVariants as serves
 use Rattle.history_lock.specs.declared.known.Content.{Content}

@@ -1,0 +1,3 @@
+pub mod Halts
+pub mod Passes
+pub mod Ports
