@@ -11,22 +11,24 @@ use Rattle.cluster_types.specs.declared.entry.Entry.{Entry}
 use Rattle.cluster_types.specs.declared.entry.Entry.TheVariants.{Input, Hand, Settle, Lose}
 use Rattle.cluster_defs.specs.Facts.{event_in}
 use Rattle.cluster_defs.specs.Histories.{History, facts, asks_shutdown, is_stopping}
+use Rattle.cluster_core.specs.declared.size.HistorySize.{HistorySize}
+use Rattle.cluster_core.specs.Size.{is_past}
 use Rattle.cluster_store.specs.Stores.{StoreView}
 use Rattle.controller_desk.specs.declared.fault.ActError.{ActError}
 use Rattle.controller_desk.specs.declared.fault.ActError.TheVariants as refusals
 use Rattle.controller_desk.specs.Calls.{IsRefusedAs, HasTried, HasOpened, HasFlushed}
+use Rattle.controller_desk.specs.Contents.{faults_seen, fulls_seen, limits_seen}
 use Rattle.controller_desk.specs.Turns.{InTurn}
 use Rattle.controller_desk.specs.Ups.{ups, up_of}
+use Rattle.controller_desk.proofs.Seen.{past_lower, full_cause}
 use Rattle.history_lock.specs.declared.known.Content.{Content}
 use Rattle.history_lock.specs.declared.known.View.{View}
 use Rattle.history_lock.specs.History.{is_open_entry, Extends}
 use Rattle.task_journal.specs.declared.fault.AppendFault.{AppendFault}
 use Rattle.task_journal.specs.declared.fault.AppendFault.TheVariants as appends
-use Rattle.controller_desk.specs.Contents.{fulls_seen}
 use Rattle.controller_workers.specs.declared.halt.Halt.{Halt}
 use Rattle.controller_workers.specs.declared.halt.Halt.TheVariants as halts
 use Rattle.controller_workers.specs.declared.stop.Stop.{Stop}
-use Rattle.controller_desk.specs.Contents.{faults_seen}
 use Rattle.controller_workers.specs.Halts.{has_risen, HaltCause, RefusalCause, StopCause, StopsAtStart}
 
 -- A SHUTDOWN STAYS ASKED
