@@ -28,6 +28,7 @@ pub struct ShortGreeted {
 }
 
 impl ShortGreeted {
+    /// What came with a handshake whose identity and messages are within the limits.
     pub fn new(greeted: Greeted) -> ShortGreeted
         requires identity { IsShortIdentity greeted.identity }
         requires short { All IsShortMessage greeted.early }

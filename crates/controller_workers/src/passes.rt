@@ -19,6 +19,7 @@ pub struct NamedPass<T, N: Naming> {
 }
 
 impl<T, N: Naming> NamedPass<T, N> {
+    /// A pass that has seen what was seen at the start.
     pub fn new(pass: Pass<T>) -> NamedPass<T, N>
         requires { IsSince N.lock N.start pass }
     {
@@ -40,6 +41,7 @@ pub struct Halted<T, N: Naming> {
 }
 
 impl<T, N: Naming> Halted<T, N> {
+    /// Why a desk halts its controller, with a pass that has seen it.
     pub fn new(halt: Halt, pass: Pass<T>) -> Halted<T, N>
         requires since { IsSince N.lock N.start pass }
         requires cause { HaltCause halt N.start (known pass).seen }

@@ -18,11 +18,13 @@ impl Writers {
         }
     }
 
+    /// Notes that the writer of a connection runs. An error is want of memory, and leaves the list as it was.
     pub fn add<R: Wait>(&self, rt: &R, conn: u32) -> Result<(), AllocError> {
         self.conns.lock(rt).push(conn)?;
         Ok(())
     }
 
+    /// Notes that the writer of a connection has ended.
     pub fn remove<R: Wait>(&self, rt: &R, conn: u32) {
         self.conns.lock(rt).retain(|other| *other != conn);
     }
