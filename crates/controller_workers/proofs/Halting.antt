@@ -1,10 +1,9 @@
 -- Why a desk halts its controller.
-use Rattle.std.proofs.Common.{◌≡◌, ℕ, suc, ◌≤◌, List, [], ◌∷◌, ◌++◌, Bool, true, false, ◌||◌, ◌&&◌, Result, Ok, Err, refl, sym, ap, subst, arith, le_refl}
+use Rattle.std.proofs.Common.{◌≡◌, ℕ, ◌≤◌, List, [], ◌∷◌, ◌++◌, Bool, true, false, ◌||◌, ◌&&◌, Result, Ok, Err, refl, sym, ap, subst, arith, le_refl}
 use Rattle.std.proofs.lemmas.Bool.Decides.{nat_tests}
 use Rattle.std.specs.Prelude.{Option, Some, None, IfErr, IfSome}
 use Rattle.std.specs.List.{list_any}
 use Rattle.cluster_types.specs.Causes.{Rose}
-use Rattle.cluster_types.specs.declared.config.Channel.{Channel}
 use Rattle.cluster_types.specs.declared.entry.Input.{Input as InputType}
 use Rattle.cluster_types.specs.declared.entry.Input.TheVariants.{Open, Up, Down, In, Beat, Time}
 use Rattle.cluster_types.specs.declared.entry.Entry.{Entry}
@@ -16,10 +15,9 @@ use Rattle.cluster_core.specs.Size.{is_past}
 use Rattle.cluster_store.specs.Stores.{StoreView}
 use Rattle.controller_desk.specs.declared.fault.ActError.{ActError}
 use Rattle.controller_desk.specs.declared.fault.ActError.TheVariants as refusals
-use Rattle.controller_desk.specs.Calls.{IsRefusedAs, HasTried, HasOpened, HasFlushed}
+use Rattle.controller_desk.specs.Calls.{IsRefusedAs, HasTried, HasFlushed}
 use Rattle.controller_desk.specs.Contents.{faults_seen, fulls_seen, limits_seen}
 use Rattle.controller_desk.specs.Turns.{InTurn}
-use Rattle.controller_desk.specs.Ups.{ups, up_of}
 use Rattle.controller_desk.proofs.Seen.{past_lower, full_cause}
 use Rattle.history_lock.specs.declared.known.Content.{Content}
 use Rattle.history_lock.specs.declared.known.View.{View}
@@ -110,23 +108,10 @@ refusal_cause faults start u w before after input refusals.TooManyConnections on
 refusal_cause faults start u w before after input refusals.Reopen on turn refused = tt
 refusal_cause faults start u w before after input refusals.OutOfMemory on turn refused = tt
 
-pub opening_cause : {D : Type 0} (faults : D → ℕ) (start : Content) (u w : View) (before after : StoreView D) (moment word : ℕ) (channel : Channel) (identity : List ℕ) (e : ActError) → Extends start u.seen → InTurn faults u before after w
-    → HasOpened before moment word channel identity (Err e) after → RefusalCause e start w.seen
-opening_cause faults start u w before after moment word channel identity (refusals.HistoryFull entries bytes) on turn opened =
-    refusal_cause faults start u w before after (up_of (suc (ups before.history)) channel moment word identity) (refusals.HistoryFull entries bytes) on turn opened.1
-opening_cause faults start u w before after moment word channel identity refusals.TooManyConnections on turn opened = tt
-opening_cause faults start u w before after moment word channel identity refusals.Reopen on turn opened = tt
-opening_cause faults start u w before after moment word channel identity refusals.OutOfMemory on turn opened = tt
-
 pub tried_cause : {A D : Type 0} (faults : D → ℕ) (start : Content) (u w : View) (before after : StoreView D) (input : InputType) (tried : Result A ActError) → Extends start u.seen → InTurn faults u before after w → HasTried before input tried after
     → IfErr tried (λ e. RefusalCause e start w.seen)
 tried_cause faults start u w before after input (Ok x) on turn t = tt
 tried_cause faults start u w before after input (Err e) on turn t = refusal_cause faults start u w before after input e on turn t
-
-pub opened_cause : {D : Type 0} (faults : D → ℕ) (start : Content) (u w : View) (before after : StoreView D) (moment word : ℕ) (channel : Channel) (identity : List ℕ) (opened : Result ℕ ActError) → Extends start u.seen → InTurn faults u before after w
-    → HasOpened before moment word channel identity opened after → IfErr opened (λ e. RefusalCause e start w.seen)
-opened_cause faults start u w before after moment word channel identity (Ok x) on turn t = tt
-opened_cause faults start u w before after moment word channel identity (Err e) on turn t = opening_cause faults start u w before after moment word channel identity e on turn t
 
 pub flush_cause : {A D : Type 0} (faults : D → ℕ) (start : Content) (u w : View) (before after : StoreView D) (flushed : Result A AppendFault) → Extends start u.seen → InTurn faults u before after w → HasFlushed faults before flushed after
     → flushed ≡ Err appends.DiskFault → HaltCause halts.DiskFault start w.seen

@@ -47,15 +47,7 @@ module _ {T : Type 0} (desk lock : LockId) (start : Content) (old new : Pass T) 
   since_later same since idle on =
       ((idle.0 ∙ same, idle.1), later_of start (known new).seen (extends_on start (known old).seen (known new).seen (extends_of start (known old).seen since.1) on))
 
-  -- a pass that has seen what another had
-  pub since_same : desk ≡ lock → IsSince lock start old → IsIdle desk new → (known new).seen ≡ (known old).seen → IsSince lock start new
-  since_same same since idle is = since_later same since idle (subst (λ (c : Content). Extends (known old).seen c) (sym is) (extends_self (known old).seen))
-
   -- a pass that has gone on to a history that rests
   pub rested_later : desk ≡ lock → IsSince lock start old → IsIdle desk new → Extends (known old).seen (known new).seen → Rests (known new).seen → IsRested lock start new
   rested_later same since idle on rests =
       ((idle.0 ∙ same, idle.1), extends_on start (known old).seen (known new).seen (extends_of start (known old).seen since.1) on, rests)
-
--- at the start
-pub since_start : {T : Type 0} (lock : LockId) (pass : Pass T) → IsIdle lock pass → IsSince lock (known pass).seen pass
-since_start lock pass idle = (idle, later_of (known pass).seen (known pass).seen (extends_self (known pass).seen))
