@@ -27,3 +27,6 @@ pub mod ThinOuts
 pub mod ThinStep
 pub mod Tries
 pub mod Word
+pub mod Clock
+pub mod Marks
+pub mod Spent

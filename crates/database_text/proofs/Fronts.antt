@@ -3,10 +3,10 @@ use Rattle.std.proofs.Common.{◌≡◌, ℕ, Result, Ok, Err, List, [], ◌∷�
 use Rattle.std.proofs.lemmas.List.{append-nil, take-append-drop}
 use Rattle.std.proofs.lemmas.Grind.{flat_map-append}
 use Rattle.cluster_types.specs.declared.entry.Entry.{Entry}
-use Rattle.history_text.specs.Lines.{line, text}
+use Rattle.database_text.specs.Lines.{line, text}
 use Rattle.std.specs.Result.{OnErr}
 use Rattle.edges.specs.Streams.{Added}
-use Rattle.compact_journal.specs.Sent.{SentSome}
+use Rattle.database_text.specs.Sent.{SentSome}
 use Rattle.database_text.specs.Texts.{WroteFront}
 
 -- of a whole, a part was written, and the rest is still to come

@@ -5,9 +5,9 @@ use Rattle.std.proofs.lemmas.List.{append-nil}
 use Rattle.std.proofs.lemmas.Grind.{flat_map-append}
 use Rattle.cluster_types.specs.declared.entry.Entry.{Entry}
 use Rattle.edges.specs.Streams.{Took, IsAtEnd}
-use Rattle.history_text.specs.Comparison.{Texts, first_difference, end_difference, counted}
-use Rattle.history_text.specs.Lines.{line, text}
-use Rattle.history_text.proofs.Differences.{first_turned, first_more, end_first}
+use Rattle.database_text.specs.Comparison.{Texts, first_difference, end_difference, counted}
+use Rattle.database_text.specs.Lines.{line, text}
+use Rattle.database_text.proofs.Differences.{first_turned, first_more, end_first}
 use Rattle.task_journal.specs.Cursor.{Standing, IsOn, to_come}
 use Rattle.database_text.specs.Texts.{DiffersAt}
 use Rattle.database_text.specs.Given.{Gave, HasEnded, OfText}

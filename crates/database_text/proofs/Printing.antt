@@ -3,8 +3,8 @@ use Rattle.std.proofs.Common.{◌≡◌, ℕ, ◌+◌, List, [], ◌∷◌, ◌+
 use Rattle.std.proofs.lemmas.List.{append-nil}
 use Rattle.std.proofs.lemmas.Grind.{flat_map-append}
 use Rattle.cluster_types.specs.declared.entry.Entry.{Entry}
-use Rattle.history_text.specs.Comparison.{Texts}
-use Rattle.history_text.specs.Lines.{line, text}
+use Rattle.database_text.specs.Comparison.{Texts}
+use Rattle.database_text.specs.Lines.{line, text}
 use Rattle.task_journal.specs.declared.fault.OpenFault.{OpenFault}
 use Rattle.task_journal.specs.declared.found.Found.{Found}
 use Rattle.task_journal.specs.declared.cursor.Placed.{Placed}

@@ -3,7 +3,7 @@ use Rattle.std.specs.Prelude.{◌⊎◌, ℕ, List, Option, reverse}
 use Rattle.cluster_types.specs.declared.entry.Entry.{Entry}
 use Rattle.cluster_defs.specs.Thin.{thin}
 use Rattle.cluster_store.specs.Openings.{IsFit, WhyNot}
-use Rattle.compact_journal.specs.Compact.{compacted}
+use Rattle.database_text.specs.Compact.{compacted}
 use Rattle.edges.specs.Streams.{Added}
 use Rattle.task_journal.specs.declared.fault.OpenFault.TheVariants.{NotAJournal, Damaged}
 use Rattle.task_journal.specs.Journal.{StandsFor}

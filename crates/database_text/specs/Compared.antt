@@ -1,8 +1,8 @@
 -- A text that is compared with the lines of entries while both come.
 use Rattle.std.specs.Prelude.{◌≡◌, ℕ, ◌+◌, ◌*◌, ◌^◌, List, length}
 use Rattle.cluster_types.specs.declared.entry.Entry.{Entry}
-use Rattle.history_text.specs.Comparison.{Texts}
-use Rattle.history_text.specs.Lines.{text}
+use Rattle.database_text.specs.Comparison.{Texts}
+use Rattle.database_text.specs.Lines.{text}
 use Rattle.task_journal.specs.Journal.{journal}
 use Rattle.task_journal.specs.Cursor.{Standing, bound}
 use Rattle.database_text.specs.Given.{Gave}

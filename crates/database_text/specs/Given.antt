@@ -1,7 +1,7 @@
 -- Entries that a disk gave while its journal was read.
 use Rattle.std.specs.Prelude.{◌≡◌, ℕ, List, Result, Ok}
 use Rattle.cluster_types.specs.declared.entry.Entry.{Entry}
-use Rattle.history_text.specs.Lines.{text}
+use Rattle.database_text.specs.Lines.{text}
 use Rattle.task_journal.specs.declared.fault.OpenFault.{OpenFault}
 use Rattle.task_journal.specs.declared.found.Found.{Found}
 use Rattle.task_journal.specs.Journal.{StandsFor, with_front, holding}

@@ -2,3 +2,10 @@ pub mod Texts
 pub mod Given
 pub mod Compared
 pub mod Compacted
+pub mod Comparison
+pub mod Lines
+pub mod Going
+pub mod Notes
+pub mod Thinning
+pub mod Compact
+pub mod Sent

@@ -4,8 +4,8 @@ use Rattle.cluster_types.specs.declared.entry.Entry.{Entry}
 use Rattle.edges.specs.Streams.{Added}
 use Rattle.command_words.specs.declared.ending.Ending.{Ending}
 use Rattle.command_words.specs.declared.ending.Ending.TheVariants as endings
-use Rattle.history_text.specs.Comparison.{counted, end_difference}
-use Rattle.history_text.specs.Lines.{text}
+use Rattle.database_text.specs.Comparison.{counted, end_difference}
+use Rattle.database_text.specs.Lines.{text}
 use Rattle.task_journal.specs.declared.fault.OpenFault.TheVariants.{NotAJournal, Damaged}
 use Rattle.task_journal.specs.Journal.{journal, StandsFor}
 

@@ -4,7 +4,7 @@ ghost use Rattle.std.specs.Prelude.{◌≡◌, ◌<◌, ◌+◌, ◌⊎◌, ◌+
 ghost use Rattle.cluster_types.specs.Causes.{Rose};
 ghost use Rattle.cluster_types.specs.declared.entry.Entry.{Entry as EntryType};
 ghost use Rattle.edges.specs.Streams.{IsAtEnd};
-ghost use Rattle.history_text.specs.Lines.{line, text};
+ghost use Rattle.database_text.specs.Lines.{line, text};
 ghost use Rattle.task_journal.specs.Cursor.{IsOn, bound, to_come};
 ghost use Rattle.task_journal.specs.Journal.{StandsFor, Fails, journal};
 ghost use Rattle.task_journal.specs.Reads.{OnlyReads};
@@ -16,7 +16,7 @@ use crate::database::{add_line, ending_at, whole_on};
 use command_words::ending::Ending;
 use disk_model::disk::Disk;
 use edges::source::{Got, Source};
-use history_text::comparison::Comparison;
+use crate::comparison::Comparison;
 use std::alloc::{AllocError, Global};
 use task_journal::cursor::{Cursor, Placed};
 use task_journal::fault::OpenFault;

@@ -4,7 +4,7 @@ ghost use Rattle.std.specs.Prelude.{◌≡◌, ◌≤◌, ◌⊎◌, ℕ, List, 
 ghost use Rattle.cluster_types.specs.Causes.{Rose};
 ghost use Rattle.cluster_types.specs.declared.entry.Entry.{Entry as EntryType};
 ghost use Rattle.cluster_store.specs.Openings.{IsFit};
-ghost use Rattle.compact_journal.specs.Compact.{compacted};
+ghost use Rattle.database_text.specs.Compact.{compacted};
 ghost use Rattle.edges.specs.Streams.{Added};
 ghost use Rattle.record_codec.specs.Spelling.{HasRecord};
 ghost use Rattle.task_journal.specs.Journal.{StandsFor};
@@ -15,13 +15,13 @@ ghost use Rattle.database_text.specs.Compacted.{thin_list, compact_octets, Holds
 use crate::database::list_on;
 use cluster_types::entry::{Entries, Entry};
 use command_words::ending::Ending;
-use compact_journal::fault::WriteError;
-use compact_journal::writing::write_journal;
+use crate::fault::WriteError;
+use crate::writing::write_journal;
 use disk_model::disk::Disk;
 use edges::sink::Sink;
 use load_schemes::chooser::Chooser;
 use std::alloc::{AllocError, Global};
-use thin_history::thinning::thinned;
+use crate::thinning::thinned;
 
 /// The entries of a list without what purges let go.
 #[tactic(auto, unfolding(crate::specs::Compacted::thin_list))]

@@ -4,7 +4,7 @@ ghost use Rattle.std.specs.Prelude.{◌≡◌, ◌≤◌, ◌⊎◌, ◌++◌, �
 ghost use Rattle.cluster_types.specs.Causes.{Rose};
 ghost use Rattle.cluster_types.specs.declared.entry.Entry.{Entry as EntryType};
 ghost use Rattle.edges.specs.Streams.{Added};
-ghost use Rattle.history_text.specs.Lines.{line, text};
+ghost use Rattle.database_text.specs.Lines.{line, text};
 ghost use Rattle.task_journal.specs.declared.fault.OpenFault.{OpenFault as FaultType};
 ghost use Rattle.task_journal.specs.Journal.{StandsFor, Fails, journal};
 ghost use Rattle.task_journal.specs.Reads.{OnlyReads};

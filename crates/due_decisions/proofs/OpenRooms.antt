@@ -4,8 +4,8 @@ use Rattle.std.specs.Prelude.{◌==◌, filter}
 use Rattle.std.specs.List.{list_any}
 use Rattle.cluster_defs.specs.declared.engine.Engine.{Engine}
 use Rattle.cluster_defs.specs.Engines.{lists_number}
-use Rattle.dense_numbers.specs.Counts.{count_of}
-use Rattle.dense_numbers.specs.Flags.{is_set}
+use Rattle.place_sets.specs.Counts.{count_of}
+use Rattle.place_sets.specs.Flags.{is_set}
 use Rattle.task_table.specs.Seen.{Seen}
 use Rattle.task_table.specs.Loading.{load_in, Counts}
 use Rattle.due_decisions.specs.declared.rooms.Room.{Room}

@@ -6,7 +6,7 @@ ghost use Rattle.std.specs.Option.{option_copied};
 ghost use Rattle.place_sets.specs.Sets.{has, holds_at};
 ghost use Rattle.place_sets.specs.Lanes.{in_some};
 ghost use Rattle.place_sets.specs.Least.{IsLeast};
-ghost use Rattle.dense_numbers.specs.Flags.{is_set};
+ghost use Rattle.place_sets.specs.Flags.{is_set};
 ghost use Rattle.cluster_defs.specs.Requests.{Request as RequestFacts};
 ghost use Rattle.task_table.specs.Fitting.{is_tied};
 ghost use Rattle.due_decisions.specs.declared.rooms.Room.{Room};

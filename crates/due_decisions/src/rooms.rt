@@ -2,14 +2,14 @@
 
 ghost use Rattle.std.specs.Prelude.{◌≡◌, ◌==◌, ℕ, filter, map, IfOk};
 ghost use Rattle.std.specs.List.{list_any};
-ghost use Rattle.dense_numbers.specs.Counts.{count_of};
-ghost use Rattle.dense_numbers.specs.Flags.{is_set};
+ghost use Rattle.place_sets.specs.Counts.{count_of};
+ghost use Rattle.place_sets.specs.Flags.{is_set};
 ghost use Rattle.cluster_defs.specs.Engines.{lists_number};
 ghost use Rattle.cluster_defs.specs.Scheduling.{leaves_room};
 ghost use Rattle.due_decisions.specs.Table.{rooms_in};
 
-use dense_numbers::counts::count;
-use dense_numbers::flags::set;
+use place_sets::counts::count;
+use place_sets::flags::set;
 use engine_registry::registry::Registry;
 use std::alloc::{AllocError, Global};
 use task_table::tasks::Tasks;

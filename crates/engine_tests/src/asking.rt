@@ -2,12 +2,12 @@
 
 ghost use Rattle.std.specs.Prelude.{◌≡◌, []};
 
-use client_session::session::ask_over;
-use client_session::status::is_ok;
+use link_commands::client_session::ask_over;
+use link_commands::status::is_ok;
 use cluster_types::sequence::Sequence;
 use cluster_types::shared_message::SharedMessage;
 use edges::memory::{MemSink, MemSource};
-use engine_session::end::SessionEnd;
+use link_commands::end::SessionEnd;
 use hmac_sign::Key;
 use std::alloc::Global;
 use std::process::Abort;

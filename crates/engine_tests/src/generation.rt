@@ -1,8 +1,8 @@
 //! The tape and the summary, by worked values and by a plain model in Python.
 
-use generated_work::draws::next_draw;
-use generated_work::generator::{Generator, generate};
-use generated_work::summary::Summary;
+use work_drive::draws::next_draw;
+use work_drive::generator::{Generator, generate};
+use work_drive::summary::Summary;
 use sha2::{Digest, Sha256};
 
 /// The records of the tape of the seed 1 and two tasks, as an independent model writes them.

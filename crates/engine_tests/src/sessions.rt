@@ -2,8 +2,8 @@
 
 use edges::memory::{MemSink, MemSource};
 use engine_core::engine::Engine;
-use engine_session::end::SessionEnd;
-use engine_session::session::serve_engine;
+use link_commands::end::SessionEnd;
+use link_commands::engine_session::serve_engine;
 use hmac_sign::Key;
 use std::alloc::Global;
 use std::process::Abort;

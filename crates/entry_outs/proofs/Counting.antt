@@ -14,7 +14,7 @@ use Rattle.cluster_defs.specs.Histories.{History, facts, Legal}
 use Rattle.cluster_defs.specs.TaskRecords.{record_of}
 use Rattle.cluster_defs.specs.RecordAnswers.{ids_where, waits_in, runs_in, finished_in, queue_in}
 use Rattle.cluster_laws.proofs.Closed.{closed}
-use Rattle.dense_numbers.specs.Counts.{count_of, hits}
+use Rattle.place_sets.specs.Counts.{count_of, hits}
 use Rattle.hub_queries.specs.declared.lengths.Lengths.{Lengths}
 use Rattle.hub_queries.specs.Lengths.{lengths_of}
 use Rattle.task_table.specs.Seen.{Seen}

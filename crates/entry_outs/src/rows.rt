@@ -2,7 +2,7 @@
 
 ghost use Rattle.std.specs.Prelude.{◌≡◌, map, option_map};
 ghost use Rattle.cluster_types.specs.Records.{AreRecords};
-ghost use Rattle.dense_numbers.specs.Counts.{count_of};
+ghost use Rattle.place_sets.specs.Counts.{count_of};
 ghost use Rattle.cluster_state.specs.Stands.{plain};
 ghost use Rattle.entry_outs.specs.Reached.{Reached};
 ghost use Rattle.entry_outs.specs.Shown.{LoadsShown};
@@ -10,7 +10,7 @@ ghost use Rattle.entry_outs.specs.Shown.{LoadsShown};
 use cluster_state::state::State;
 use cluster_types::record::{Record, Records};
 use cluster_types::text::Text;
-use dense_numbers::counts::count;
+use place_sets::counts::count;
 use hub_queries::lengths::{Lengths, QueueCounts};
 use task_table::tasks::Tasks;
 

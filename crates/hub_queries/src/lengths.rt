@@ -5,7 +5,7 @@ ghost use Rattle.cluster_defs.specs.RecordAnswers.{ids_where, queue_in, waits_in
 ghost use Rattle.hub_queries.specs.Lengths.{lengths_of};
 
 use cluster_types::record::Records;
-use task_lookup::list::RecordList;
+use resubmission::list::RecordList;
 
 /// How many ids an engine has.
 #[derive(Clone, Copy, Debug, PartialEq, Eq)]

@@ -27,8 +27,8 @@ use jupyter_header::contents::texts_list;
 use jupyter_header::write::quoted;
 use std::alloc::{AllocError, Global};
 use std::marker::Model;
-use task_lookup::distinct::once;
-use task_lookup::standing::{Standing, ids_that};
+use resubmission::distinct::once;
+use resubmission::standing::{Standing, ids_that};
 
 /// What is written of settled tasks so far: their number, their members parted by commas, and their buffers.
 #[derive(Debug, Drop)]

@@ -5,7 +5,7 @@ ghost use Rattle.std.specs.Option.{option_copied};
 ghost use Rattle.cluster_defs.specs.RecordAnswers.{ids_where, waits_in};
 ghost use Rattle.cluster_defs.specs.Words.{Id};
 ghost use Rattle.hub_queries.specs.Kinds.{is_kind};
-ghost use Rattle.task_lookup.specs.Wheres.{id_if};
+ghost use Rattle.resubmission.specs.Wheres.{id_if};
 ghost use Rattle.hub_queries.specs.Tallies.{tallied};
 
 use crate::lengths::QueueCounts;

@@ -1,6 +1,6 @@
 -- How a client ends.
 use Rattle.std.specs.Prelude.{◌≡◌, List, ℕ, [], ◌∷◌, ◌++◌, Option, Some, None}
-use Rattle.client_session.specs.Asking.{is_ok, IsAnswered, IsUnanswered}
+use Rattle.link_commands.specs.Asking.{is_ok, IsAnswered, IsUnanswered}
 use Rattle.cluster_types.specs.declared.message.Message.{Message}
 use Rattle.edges.specs.Streams.{Added, IsAtEnd}
 use Rattle.link_commands.specs.declared.client.ClientEnd.{ClientEnd}

@@ -1,7 +1,7 @@
 //! A client that asks a controller for something.
 
 ghost use Rattle.std.specs.Prelude.{◌≡◌, Err, IfOk, OnOk};
-ghost use Rattle.client_session.specs.Asking.{is_ok};
+ghost use Rattle.link_commands.specs.Asking.{is_ok};
 ghost use Rattle.cluster_types.specs.Causes.{Rose};
 ghost use Rattle.link_commands.specs.Actions.{IsRequest};
 ghost use Rattle.link_commands.specs.ClientEnds.{IsPrinted, ClientEnds};
@@ -9,12 +9,12 @@ ghost use Rattle.link_commands.specs.Links.{IsDialled};
 
 use crate::actions::{channel_for, message_for};
 use crate::random::drawn;
-use client_session::session::ask_over;
-use client_session::status::is_ok;
+use crate::client_session::ask_over;
+use crate::status::is_ok;
 use cluster_types::shared_message::SharedMessage;
 use command_words::standing::Action;
 use edges::sink::{Sink, WriteFailed, write_all};
-use engine_session::end::SessionEnd;
+use crate::end::SessionEnd;
 use hmac_sign::Key;
 use std::alloc::{AllocError, Global};
 use std::sync::Wait;

@@ -8,8 +8,8 @@ ghost use Rattle.link_commands.specs.Links.{IsDialled};
 
 use engine_core::engine::Engine;
 use engine_core::error::EngineError;
-use engine_session::end::SessionEnd;
-use engine_session::session::serve_engine;
+use crate::end::SessionEnd;
+use crate::engine_session::serve_engine;
 use hmac_sign::Key;
 use std::alloc::Global;
 use std::sync::Wait;

@@ -2,7 +2,7 @@
 
 use crate::choosing::new_chooser;
 use disk_model::memory::MemDisk;
-use generated_work::summary::Summary;
+use work_drive::summary::Summary;
 use std::alloc::Global;
 use std::process::Abort;
 use work_drive::fault::WorkError;

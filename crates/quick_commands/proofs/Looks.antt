@@ -6,7 +6,7 @@ use Rattle.command_words.specs.declared.ending.Ending.TheVariants.{Done, Usage, 
 use Rattle.database_text.specs.Texts.{IsDamaged, IsRefusal, WroteFront, Told, DiffersFrom}
 use Rattle.disk_model.specs.Crashes.{LeavesOnly}
 use Rattle.edges.specs.Streams.{Added, IsAtEnd}
-use Rattle.history_text.specs.Lines.{text}
+use Rattle.database_text.specs.Lines.{text}
 use Rattle.task_journal.specs.Journal.{StandsFor}
 use Rattle.task_journal.specs.Reads.{OnlyReads}
 use Rattle.quick_commands.specs.Commands.{Of, DumpEnds, CheckEnds}

@@ -6,7 +6,7 @@ use Rattle.command_words.specs.declared.command.Command.TheVariants.{Replay, Dum
 use Rattle.command_words.specs.declared.ending.Ending.TheVariants.{OutOfMemory}
 use Rattle.disk_model.specs.Crashes.{LeavesOnly}
 use Rattle.database_text.specs.Compacted.{compact_octets}
-use Rattle.history_text.specs.Lines.{text}
+use Rattle.database_text.specs.Lines.{text}
 use Rattle.task_journal.specs.Reads.{OnlyReads}
 use Rattle.quick_commands.specs.Commands.{Ends, MayLeaveOf}
 use Rattle.quick_commands.proofs.Endings.{unopened_ends, still}

@@ -9,7 +9,7 @@ use Rattle.command_words.specs.Lines.{line}
 use Rattle.database_text.specs.Texts.{IsDamaged, WroteFront, Told, DiffersFrom}
 use Rattle.database_text.specs.Compacted.{compact_octets, IsUnfitAt, IsCompacted}
 use Rattle.edges.specs.Streams.{Added, IsAtEnd}
-use Rattle.history_text.specs.Lines.{text}
+use Rattle.database_text.specs.Lines.{text}
 use Rattle.task_journal.specs.Journal.{StandsFor}
 use Rattle.quick_commands.specs.Replays.{ReplayEnds, MayLeave}
 use Rattle.quick_commands.specs.Works.{WorkEnds}

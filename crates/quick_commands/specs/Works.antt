@@ -4,8 +4,8 @@ use Rattle.command_words.specs.declared.ending.Ending.{Ending}
 use Rattle.command_words.specs.declared.ending.Ending.TheVariants as endings
 use Rattle.database_text.specs.Texts.{WroteFront}
 use Rattle.edges.specs.Streams.{Added}
-use Rattle.generated_work.specs.declared.summary.Summary.{Summary}
-use Rattle.generated_work.specs.Summary.{summary_lines}
+use Rattle.work_drive.specs.declared.summary.Summary.{Summary}
+use Rattle.work_drive.specs.Summary.{summary_lines}
 use Rattle.work_drive.specs.declared.fault.WorkError.{WorkError}
 use Rattle.work_drive.specs.declared.fault.WorkError.TheVariants.{NotEmpty, DiskFault, HistoryFull, OutOfMemory}
 use Rattle.work_drive.specs.Ends.{IsWorked, IsStopped}

@@ -2,15 +2,15 @@
 
 ghost use Rattle.std.specs.Prelude.{◌≡◌, ◌≤◌, ◌<◌, ◌^◌};
 ghost use Rattle.cluster_types.specs.Causes.{Rose};
-ghost use Rattle.generated_work.specs.Generated.{most_tasks};
-ghost use Rattle.generated_work.specs.Summary.{summary_lines};
+ghost use Rattle.work_drive.specs.Generated.{most_tasks};
+ghost use Rattle.work_drive.specs.Summary.{summary_lines};
 ghost use Rattle.quick_commands.specs.Works.{PrintEnds, WorkEnds, ending_of};
 
 use cluster_core::size::HistorySize;
 use command_words::ending::Ending;
 use disk_model::disk::Disk;
 use edges::sink::{Sink, write_all};
-use generated_work::summary::Summary;
+use work_drive::summary::Summary;
 use load_schemes::chooser::Chooser;
 use std::alloc::Global;
 use work_drive::fault::WorkError;

@@ -1,1 +1,4 @@
 pub mod Copies
+pub mod Onces
+pub mod Pushes
+pub mod Wheres

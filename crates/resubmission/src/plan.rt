@@ -12,8 +12,8 @@ use cluster_types::record::Records;
 use cluster_types::sequence::Sequence;
 use cluster_types::text::Text;
 use std::alloc::{AllocError, Global};
-use task_lookup::distinct::once;
-use task_lookup::standing::{Standing, ids_that};
+use crate::distinct::once;
+use crate::standing::{Standing, ids_that};
 use thiserror::Error;
 
 /// A new id, with the old one whose request it gets.

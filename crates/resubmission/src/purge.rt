@@ -4,15 +4,15 @@ ghost use Rattle.std.specs.Prelude.{◌≡◌, ◌++◌, ◌&&◌, not, is_some,
 ghost use Rattle.std.specs.Option.{option_copied};
 ghost use Rattle.cluster_defs.specs.RecordAnswers.{ids_where};
 ghost use Rattle.cluster_defs.specs.RecordPlans.{purge_list_in, purge_in};
-ghost use Rattle.task_lookup.specs.Wheres.{id_if};
+ghost use Rattle.resubmission.specs.Wheres.{id_if};
 ghost use Rattle.resubmission.specs.Purging.{purging_of};
 
 use cluster_types::message::Ids;
 use cluster_types::record::{Record, Records};
 use cluster_types::sequence::Sequence;
 use std::alloc::{AllocError, Global};
-use task_lookup::distinct::once;
-use task_lookup::standing::{Standing, ids_that};
+use crate::distinct::once;
+use crate::standing::{Standing, ids_that};
 
 /// What a purge comes to: all listed ids are dropped, or none. Each list is in the order of the request.
 #[derive(Debug)]

@@ -7,8 +7,14 @@ mod answers;
 #[cfg(test)]
 mod controller;
 #[cfg(test)]
+mod dialled;
+#[cfg(test)]
 mod ends;
 #[cfg(test)]
 mod gate;
 #[cfg(test)]
+mod serving;
+#[cfg(test)]
 mod sessions;
+#[cfg(test)]
+mod standing_fixture;

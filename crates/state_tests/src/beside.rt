@@ -1,8 +1,8 @@
 //! What is kept beside the tasks: who waits for an id, and counts and marks of engines.
 
 use crate::common::{counts_are, text};
-use dense_numbers::counts::moved;
-use dense_numbers::flags::{has, set};
+use place_sets::counts::moved;
+use place_sets::flags::{has, set};
 use std::alloc::Global;
 use std::process::Abort;
 use task_graph::waiters::Waiters;

@@ -7,7 +7,7 @@ use cluster_types::config::Scheme;
 use cluster_types::sequence::Sequence;
 use cluster_types::shared_message::SharedMessage;
 use cluster_types::text::Text;
-use dense_numbers::counts::count;
+use place_sets::counts::count;
 use load_schemes::chooser::{Choose, Chooser};
 use load_schemes::place::place_of;
 use std::alloc::Global;

@@ -12,7 +12,7 @@ use cluster_types::event::Dep;
 use cluster_types::sequence::Sequence;
 use cluster_types::text::Text;
 use cluster_types::verdict::{Cause, Verdict};
-use dense_numbers::counts::count;
+use place_sets::counts::count;
 use due_decisions::due::due;
 use load_schemes::chooser::Chooser;
 use place_sets::lanes::Lanes;

@@ -24,7 +24,7 @@ use cluster_types::sequence::Sequence;
 use cluster_types::shared_message::SharedMessage;
 use cluster_types::text::Text;
 use cluster_types::verdict::{Cause, Verdict};
-use dense_numbers::counts::count;
+use place_sets::counts::count;
 use resubmission::plan::{Renamed, Renaming};
 use resubmission::purge::PurgePlan;
 use std::alloc::Global;

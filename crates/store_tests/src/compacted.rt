@@ -2,8 +2,8 @@
 
 ghost use Rattle.std.specs.Prelude.{◌<◌};
 
-use compact_journal::fault::WriteError;
-use compact_journal::writing::write_journal;
+use database_text::fault::WriteError;
+use database_text::writing::write_journal;
 use disk_model::memory::MemDisk;
 use edges::memory::MemSink;
 use std::alloc::Global;

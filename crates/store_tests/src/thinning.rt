@@ -15,7 +15,7 @@ use cluster_types::shared_message::SharedMessage;
 use load_schemes::chooser::Chooser;
 use std::alloc::{AllocError, Global};
 use std::process::Abort;
-use thin_history::thinning::thinned;
+use database_text::thinning::thinned;
 
 /// What is said on a connection: 1 is that of an engine, 2 one for tasks, 3 one of the hub.
 #[derive(Clone, Copy)]

@@ -1,11 +1,11 @@
 //! Writing a record.
 
-ghost use Rattle.std.specs.Prelude.{◌≡◌, ◌<◌, ◌≤◌, ◌^◌, ◌++◌, length, All, OnOk, OnErr};
+ghost use Rattle.std.specs.Prelude.{◌≡◌, ◌<◌, ◌≤◌, ◌^◌, ◌++◌, length, OnOk, OnErr};
 ghost use Rattle.std.specs.List.{flat_map};
 ghost use Rattle.cluster_types.specs.Limits.{most_frames};
 ghost use Rattle.octet_fields.specs.Keeping.{Keeps};
 ghost use Rattle.octet_fields.specs.Spelling.{blob};
-ghost use Rattle.tape.specs.Spelling.{spelled, all_spelled, kind_text, kind_code, form_code, Fits, KindFits, FitsBlob};
+ghost use Rattle.tape.specs.Spelling.{spelled, kind_text, kind_code, form_code, Fits, KindFits, FitsBlob};
 
 use crate::record::{TapeKind, TapeRecord};
 use cluster_types::config::Channel;
@@ -134,20 +134,4 @@ pub fn write_tape(into: &mut Vec<u8>, item: &TapeRecord) -> Result<(), AllocErro
         into.truncate(before);
     }
     written
-}
-
-/// Appends records one after another. Where memory is wanting, `into` is as it was.
-pub fn write_records(into: &mut Vec<u8>, items: &[TapeRecord]) -> Result<(), AllocError>
-    requires { All Fits items.now }
-    ensures ok { OnOk result (into.new.items ≡ into.old.items ++ all_spelled items.now) }
-    ensures err { OnErr result (into.new.items ≡ into.old.items) }
-{
-    let before = into.len();
-    for item in items {
-        if let Err(error) = write_tape(into, item) {
-            into.truncate(before);
-            return Err(error);
-        }
-    }
-    Ok(())
 }

@@ -10,7 +10,7 @@ use Rattle.std.specs.List.Sorted.{IsStrictlySortedBy}
 use Rattle.std.specs.BTreeSet.{BTreeSet}
 use Rattle.place_sets.specs.Sets.{holds, holds_at, Covers}
 use Rattle.place_sets.proofs.Counting.{count_covered}
-use Rattle.dense_numbers.specs.Counts.{hits, one_at, count_of, greatest, AreAt, Moved}
+use Rattle.place_sets.specs.Counts.{hits, one_at, count_of, greatest, AreAt, Moved}
 use Rattle.cluster_defs.specs.declared.attempt.Attempt.{Attempt}
 use Rattle.cluster_defs.specs.declared.attempt.Attempt.TheVariants.{Never, Running, EndedOk, EndedBadly, Lost, Declined}
 use Rattle.cluster_defs.specs.Tasks.{runs, runs_at}

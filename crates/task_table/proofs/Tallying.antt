@@ -9,7 +9,7 @@ use Rattle.std.proofs.lemmas.List.Sums.{sum_by-cons, sum_by_push}
 use Rattle.place_sets.specs.Sets.{holds, holds_at, at_place, at_places}
 use Rattle.place_sets.proofs.Changing.{count_changed, count_past}
 use Rattle.place_sets.proofs.Recounting.{recounted}
-use Rattle.dense_numbers.specs.Counts.{count_of, hits, one_at, Moved}
+use Rattle.place_sets.specs.Counts.{count_of, hits, one_at, Moved}
 use Rattle.task_graph.specs.Listing.{Lists}
 use Rattle.task_table.specs.declared.marks.Marks.{Marks}
 use Rattle.task_table.specs.declared.tallies.Classes.{Classes}

@@ -3,7 +3,7 @@ use Rattle.std.specs.Prelude.{◌≡◌, ◌<◌, ⊤, ℕ, List, slice_get, Opt
 use Rattle.std.specs.Option.{is_some, option_and_then}
 use Rattle.std.specs.Global.{Vec}
 use Rattle.place_sets.specs.Sets.{holds_at}
-use Rattle.dense_numbers.specs.Counts.{count_of, greatest}
+use Rattle.place_sets.specs.Counts.{count_of, greatest}
 use Rattle.cluster_defs.specs.declared.attempt.Attempt.{Attempt}
 use Rattle.cluster_defs.specs.declared.attempt.Attempt.TheVariants.{Running}
 use Rattle.cluster_defs.specs.Tasks.{runs_at}

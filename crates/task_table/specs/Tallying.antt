@@ -3,7 +3,7 @@ use Rattle.std.specs.Prelude.{◌≡◌, ⊤, ℕ, ◌+◌, List, slice_get, Opt
 use Rattle.std.specs.Option.{is_some, option_and_then}
 use Rattle.std.specs.Global.{Vec}
 use Rattle.place_sets.specs.Sets.{holds_at}
-use Rattle.dense_numbers.specs.Counts.{count_of, hits, Moved}
+use Rattle.place_sets.specs.Counts.{count_of, hits, Moved}
 use Rattle.cluster_types.specs.declared.record.Record.{Record}
 use Rattle.cluster_defs.specs.RecordAnswers.{waits_in}
 use Rattle.task_table.specs.declared.tallies.Classes.{Classes}

@@ -16,7 +16,7 @@ use crate::table::Table;
 use crate::task::Task;
 use crate::viability::is_hopeless;
 use cluster_defs::request::WholeRequest;
-use dense_numbers::flags::has;
+use place_sets::flags::has;
 use place_sets::lanes::Lanes;
 use std::alloc::AllocError;
 

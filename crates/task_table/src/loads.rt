@@ -6,7 +6,7 @@ ghost use Rattle.task_table.specs.Loading.{loaded, loaded_at, running_on, Tallie
 use crate::table::Table;
 use crate::task::Task;
 use cluster_defs::attempt::Attempt;
-use dense_numbers::counts::moved;
+use place_sets::counts::moved;
 use std::alloc::{AllocError, Global};
 
 /// The engine of a current attempt.

@@ -7,7 +7,7 @@ use crate::loads::loaded;
 use crate::table::Table;
 use crate::task::Task;
 use cluster_types::record::Record;
-use dense_numbers::counts::moved;
+use place_sets::counts::moved;
 use std::alloc::{AllocError, Global};
 
 /// The numbers at which a task is counted, by class.

@@ -23,7 +23,7 @@ use cluster_defs::attempt::Ending;
 use cluster_defs::settled::Settled;
 use cluster_types::shared_message::SharedMessage;
 use cluster_types::text::Text;
-use dense_numbers::flags::set;
+use place_sets::flags::set;
 use std::alloc::{AllocError, Global};
 use std::collections::BTreeSet;
 use std::marker::{Brand, Model};

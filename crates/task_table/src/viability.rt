@@ -7,7 +7,7 @@ ghost use Rattle.cluster_defs.specs.Requests.{is_bound, is_target, deadline};
 ghost use Rattle.cluster_defs.specs.Scheduling.{excludes, usable, usable_on, no_target, spoils, follow_spoilt, follow_dead, is_dead, is_past};
 ghost use Rattle.task_table.specs.Live.{live_of};
 ghost use Rattle.task_table.specs.Waiting.{settled_in};
-ghost use Rattle.task_table.specs.Fitting.{among, hopeless_as, hopeless, late_as, late};
+ghost use Rattle.task_table.specs.Fitting.{among, hopeless_as, hopeless};
 
 use crate::live::{Live, is_live};
 use crate::standing::rests;
@@ -197,18 +197,4 @@ pub fn is_hopeless(table: &Table, live: Live, task: &Task) -> bool
     ensures { result ≡ hopeless table.now (live_of live.entry) task.now }
 {
     rests(task) && is_hopeless_request(table, live, task.attempts(), task.request())
-}
-
-/// Whether a request isn't direct, and waited past its timeout.
-fn is_late_request(request: &WholeRequest, now: u64) -> bool
-    ensures { result ≡ late_as now (Some request.now.request) }
-{
-    request.direct_to.is_none() && is_timed_out(request, now)
-}
-
-/// Whether a task is a Submit that waits and is past its timeout, at a moment in milliseconds.
-pub fn is_late(now: u64, task: &Task) -> bool
-    ensures { result ≡ late now task.now }
-{
-    rests(task) && is_late_request(task.request(), now)
 }

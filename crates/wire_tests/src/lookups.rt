@@ -5,9 +5,9 @@ use cluster_types::message::Ids;
 use cluster_types::record::Records;
 use std::alloc::Global;
 use std::process::Abort;
-use task_lookup::distinct::once;
-use task_lookup::list::RecordList;
-use task_lookup::standing::{Standing, ids_that};
+use resubmission::distinct::once;
+use resubmission::list::RecordList;
+use resubmission::standing::{Standing, ids_that};
 
 #[test]
 fn list_takes_the_next_records(rt: HostRuntime) {

@@ -17,7 +17,7 @@ use hub_queries::engines::LiveEngines;
 use hub_queries::limits::limited;
 use std::alloc::Global;
 use std::process::Abort;
-use task_lookup::list::RecordList;
+use resubmission::list::RecordList;
 
 fn octets<R: Abort>(rt: &R, alloc: Global, bytes: &[u8]) -> Octets {
     Octets::new(alloc, bytes).expect(rt, "memory is ample")

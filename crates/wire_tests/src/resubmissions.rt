@@ -10,7 +10,7 @@ use resubmission::plan::{Renamed, ResubmitRefusal, plan};
 use resubmission::purge::{PurgePlan, plan_purge};
 use std::alloc::Global;
 use std::process::Abort;
-use task_lookup::list::RecordList;
+use resubmission::list::RecordList;
 
 /// A refusal of a resubmission: its name, and each of its ids followed by a blank.
 fn is_refusal(refused: &ResubmitRefusal, name: &str, names: &str) -> bool {

@@ -8,7 +8,7 @@ use cluster_types::text::Text;
 use cluster_types::verdict::{Cause, Verdict};
 use std::alloc::Global;
 use std::process::Abort;
-use task_lookup::list::RecordList;
+use resubmission::list::RecordList;
 
 pub(crate) fn text<R: Abort>(rt: &R, alloc: Global, name: &str) -> Text {
     Text::new(alloc, name).expect(rt, "memory is ample")

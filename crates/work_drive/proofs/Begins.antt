@@ -6,7 +6,7 @@ use Rattle.cluster_core.specs.declared.size.HistorySize.{HistorySize}
 use Rattle.cluster_defs.specs.Histories.{History}
 use Rattle.cluster_store.specs.Openings.{IsOpened, opened}
 use Rattle.cluster_store.specs.Stores.{written}
-use Rattle.generated_work.specs.declared.summary.Summary.{Summary}
+use Rattle.work_drive.specs.declared.summary.Summary.{Summary}
 use Rattle.task_journal.specs.Journal.{StandsFor}
 use Rattle.work_drive.specs.declared.fault.WorkError.{WorkError}
 use Rattle.work_drive.specs.Work.{Work, begun, IsReached, IsDone, IsHeld}

@@ -4,3 +4,8 @@ mod Empty
 mod Paths
 mod Records
 mod Takes
+mod Fitting
+mod Rows
+mod ToCome
+mod Uuids
+mod Writing

@@ -7,7 +7,7 @@ use Rattle.cluster_types.specs.declared.entry.Entry.{Entry}
 use Rattle.cluster_core.specs.declared.size.HistorySize.{HistorySize}
 use Rattle.cluster_store.specs.Openings.{opened}
 use Rattle.cluster_store.specs.Stores.{written}
-use Rattle.generated_work.specs.declared.summary.Summary.{Summary}
+use Rattle.work_drive.specs.declared.summary.Summary.{Summary}
 use Rattle.task_journal.specs.Journal.{StandsFor}
 use Rattle.task_journal.specs.declared.fault.OpenFault.{OpenFault}
 use Rattle.task_journal.specs.declared.fault.OpenFault.TheVariants as faults

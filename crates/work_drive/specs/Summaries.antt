@@ -4,7 +4,7 @@ use Rattle.cluster_types.specs.declared.entry.Entry.{Entry}
 use Rattle.cluster_types.specs.declared.entry.Entry.TheVariants as entries
 use Rattle.cluster_types.specs.declared.verdict.Verdict.TheVariants as verdicts
 use Rattle.cluster_defs.specs.Histories.{History}
-use Rattle.generated_work.specs.declared.summary.Summary.{Summary}
+use Rattle.work_drive.specs.declared.summary.Summary.{Summary}
 use Rattle.work_drive.specs.declared.summing.Kind.{Kind}
 use Rattle.work_drive.specs.declared.summing.Kind.TheVariants.{Hand, Completed, Failed}
 use Rattle.work_drive.specs.Work.{Work}

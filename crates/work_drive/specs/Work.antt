@@ -10,7 +10,7 @@ use Rattle.cluster_defs.specs.Outs.{conn_of}
 use Rattle.cluster_core.specs.declared.size.HistorySize.{HistorySize}
 use Rattle.engine_core.specs.Answer.{Answers}
 use Rattle.engine_core.specs.State.{State, new_engine, standing}
-use Rattle.generated_work.specs.Generated.{work_key, engine_uuid, generated}
+use Rattle.work_drive.specs.Generated.{work_key, engine_uuid, generated}
 use Rattle.tape.specs.declared.record.TapeRecord.{TapeRecord}
 use Rattle.tape_drive.specs.Bare.{read_of}
 use Rattle.tape_drive.specs.Inputs.{inputs_of}

@@ -3,7 +3,7 @@
 ghost use Rattle.std.specs.Prelude.{◌≡◌, ◌<◌, ◌^◌, ◌-◌, [], All, length, map, slice_get, IfOk, IsTrue, Some};
 ghost use Rattle.std.specs.Option.{option_copied};
 ghost use Rattle.engine_core.specs.State.{State, new_engine};
-ghost use Rattle.generated_work.specs.Generated.{work_key, engine_uuid};
+ghost use Rattle.work_drive.specs.Generated.{work_key, engine_uuid};
 ghost use Rattle.record_codec.specs.Spelling.{IsShort};
 ghost use Rattle.tape_drive.specs.Bare.{read_of};
 ghost use Rattle.work_drive.specs.Work.{first_engines, AnswersIf, AnswersAt, IsAnswered};
@@ -13,7 +13,7 @@ use cluster_types::octets::Octets;
 use cluster_types::out::Out;
 use cluster_types::shared_message::SharedMessage;
 use engine_core::engine::Engine;
-use generated_work::engines::{engine_of, engine_uuid};
+use crate::engines::{engine_of, engine_uuid};
 use hmac_sign::Key;
 use std::alloc::{AllocError, Global};
 use tape_drive::bare::read_of;

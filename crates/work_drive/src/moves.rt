@@ -24,8 +24,8 @@ use cluster_types::out::{Out, Outs};
 use cluster_types::shared_message::SharedMessage;
 use disk_model::disk::Disk;
 use engine_core::engine::Engine;
-use generated_work::generator::Generator;
-use generated_work::summary::Summary;
+use crate::generator::Generator;
+use crate::summary::Summary;
 use hmac_sign::Key;
 use load_schemes::chooser::Chooser;
 use std::alloc::{AllocError, Global};
@@ -136,7 +136,7 @@ pub struct Run<D: Disk> {
 
 impl<D: Disk> Model for Run<D> {
     ghost use Rattle.std.specs.Prelude.{◌≡◌, All};
-    ghost use Rattle.generated_work.specs.Generated.{work_key};
+    ghost use Rattle.work_drive.specs.Generated.{work_key};
     ghost use Rattle.tape.specs.Spelling.{Fits};
     ghost use Rattle.tape_drive.specs.Steps.{AreTaken};
     ghost use Rattle.work_drive.specs.Work.{RunView};

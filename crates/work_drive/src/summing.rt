@@ -6,7 +6,7 @@ ghost use Rattle.work_drive.specs.Summaries.{is_of, sums_up};
 
 use cluster_types::entry::Entry;
 use cluster_types::verdict::Verdict;
-use generated_work::summary::Summary;
+use crate::summary::Summary;
 
 /// What entries are counted by.
 #[derive(Clone, Copy, Debug)]

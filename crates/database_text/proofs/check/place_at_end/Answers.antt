@@ -1,7 +1,7 @@
 use Rattle.std.proofs.Common.{◌≡◌, ◌<◌, ◌++◌, ℕ, List, Bool, true, false, length, arith, refl, sym, ap, ◌∙◌}
 use Rattle.std.specs.Prelude.{is_some}
 use Rattle.cluster_types.specs.declared.entry.Entry.{Entry}
-use Rattle.history_text.specs.Lines.{text}
+use Rattle.database_text.specs.Lines.{text}
 use Rattle.task_journal.specs.Journal.{StandsFor}
 use Rattle.database_text.specs.Texts.{DiffersAt}
 use Rattle.database_text.specs.Given.{OfText}

@@ -1,6 +1,6 @@
 use Rattle.std.proofs.Common.{◌≡◌, ◌+◌, ◌-◌, ◌<◌, ℕ, List, Option, Ok, length, subst, arith}
 use Rattle.std.specs.Prelude.{IfSome}
-use Rattle.history_text.specs.Lines.{line}
+use Rattle.database_text.specs.Lines.{line}
 use Rattle.task_journal.specs.declared.cursor.Placed.{Placed}
 use Rattle.task_journal.specs.Cursor.{IsOn, Advances, bound}
 use Rattle.task_journal.proofs.Calls.{none_reads, reads_joined}

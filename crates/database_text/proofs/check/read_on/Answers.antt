@@ -1,7 +1,7 @@
 use Rattle.std.proofs.Common.{◌≡◌, ◌++◌, ℕ, List, [], length, take, arith, sym, ap, subst, ◌∙◌}
 use Rattle.edges.specs.Streams.{Took}
 use Rattle.edges.proofs.Pieces.{took_more}
-use Rattle.history_text.specs.Comparison.{Texts}
+use Rattle.database_text.specs.Comparison.{Texts}
 use Rattle.task_journal.specs.Journal.{journal}
 use Rattle.task_journal.proofs.Calls.{reads_joined}
 use Rattle.database_text.specs.Texts.{Told, DiffersAt}

@@ -1,6 +1,6 @@
 use Rattle.std.proofs.Common.{◌≡◌, ◌+◌, ◌<◌, ◌++◌, length, arith, sym, ap, ◌∙◌, length-append}
-use Rattle.history_text.specs.Comparison.{Texts}
-use Rattle.history_text.specs.Lines.{text}
+use Rattle.database_text.specs.Comparison.{Texts}
+use Rattle.database_text.specs.Lines.{text}
 use Rattle.database_text.proofs.Places.{ahead_more, of_within, of_behind}
 use Rattle.database_text.proofs.check.take_piece.Goals as goal
 

@@ -2,7 +2,7 @@ use Rattle.std.proofs.Common.{rules, ◌≡◌, ◌∙◌, sym, subst, map, ℕ,
 use Rattle.std.specs.List.{list_any}
 use Rattle.std.specs.Map.Iter.{deref_pair}
 use Rattle.std.proofs.lemmas.Map.Iter.{iter_end}
-use Rattle.dense_numbers.specs.Flags.{is_set}
+use Rattle.place_sets.specs.Flags.{is_set}
 use Rattle.place_sets.specs.Sets.{has, holds_at}
 use Rattle.place_sets.specs.Lanes.{LaneList, in_some}
 use Rattle.place_sets.specs.Least.{IsLeast}

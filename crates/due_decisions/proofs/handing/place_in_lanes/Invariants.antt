@@ -1,7 +1,7 @@
 use Rattle.std.proofs.Common.{map}
 use Rattle.std.specs.List.{list_any}
 use Rattle.std.specs.Map.Iter.{deref_pair}
-use Rattle.dense_numbers.specs.Flags.{is_set}
+use Rattle.place_sets.specs.Flags.{is_set}
 use Rattle.place_sets.specs.Sets.{holds_at}
 use Rattle.place_sets.specs.Lanes.{in_some}
 use Rattle.place_sets.specs.Least.{IsLeast}

@@ -1,7 +1,7 @@
 use Rattle.std.proofs.Common.{◌≡◌, ℕ, take}
 use Rattle.std.specs.Prelude.{◌==◌}
 use Rattle.std.specs.List.{list_any}
-use Rattle.dense_numbers.specs.Flags.{is_set}
+use Rattle.place_sets.specs.Flags.{is_set}
 use Rattle.due_decisions.proofs.rooms.open_numbers.Given as goal
 
 abbrev pub invariant-loop-room : goal.invariant-loop-room

@@ -2,8 +2,8 @@ use Rattle.std.proofs.Common.{◌≡◌, ◌<◌, ◌+◌, ◌^◌, ◌++◌, le
 use Rattle.cluster_types.specs.declared.record.Record.{Record}
 use Rattle.cluster_defs.specs.RecordAnswers.{ids_where}
 use Rattle.hub_queries.specs.Kinds.{is_kind}
-use Rattle.task_lookup.specs.Wheres.{id_if}
-use Rattle.task_lookup.proofs.Wheres.{where_more}
+use Rattle.resubmission.specs.Wheres.{id_if}
+use Rattle.resubmission.proofs.Wheres.{where_more}
 use Rattle.hub_queries.specs.Tallies.{tallied}
 use Rattle.hub_queries.proofs.Wheres.{where_short}
 use Rattle.hub_queries.proofs.scan.tally_of.Goals as goal

@@ -2,8 +2,8 @@ use Rattle.std.proofs.Common.{◌++◌, ◌&&◌, is_some, not, take, Bool, sym,
 use Rattle.std.specs.Option.{option_copied}
 use Rattle.cluster_types.specs.declared.record.Record.{Record}
 use Rattle.cluster_defs.specs.RecordAnswers.{ids_where}
-use Rattle.task_lookup.specs.Wheres.{id_if}
-use Rattle.task_lookup.proofs.Wheres.{where_more}
+use Rattle.resubmission.specs.Wheres.{id_if}
+use Rattle.resubmission.proofs.Wheres.{where_more}
 use Rattle.resubmission.proofs.purge.kept_ids.Goals as goal
 
 pub loop-place-preserved : goal.loop-place-preserved

@@ -1,6 +1,0 @@
-use Rattle.compact_journal.proofs.Fronts.{sent_take}
-use Rattle.compact_journal.proofs.pending.put.Goals as goal
-
-pub returns-in-Err-clause-err : goal.returns-in-Err-clause-err
-returns-in-Err-clause-err g c =
-    sent_take _ c.in-Err.ensures.err.0 _ _ c.in-Err.ensures.err.2

@@ -1,0 +1,7 @@
+use Rattle.std.proofs.Common.{arith}
+use Rattle.octet_fields.proofs.Joins.{joins}
+use Rattle.octet_fields.proofs.Keeping.{keeps_front, keeps_on_err}
+use Rattle.database_text.proofs.lines.put_message.Goals as goal
+
+pub returns-clause-kept : goal.returns-clause-kept
+returns-clause-kept c = keeps_on_err _ _ c.put_octets-5.new.into.items _ (grind (arith, joins, keeps_front)) c.put_buffers.ensures.kept

@@ -1,9 +1,0 @@
-use Rattle.std.proofs.Common.{◌≡◌, ◌≤◌, ℕ, length}
-use Rattle.dense_numbers.specs.Flags.{is_set}
-use Rattle.dense_numbers.proofs.flags.widen.Given as goal
-
-abbrev pub invariant-loop : goal.invariant-loop
-invariant-loop l = record {
-  same : (n : ℕ) → is_set l.flags.items n ≡ is_set l.fn.flags.items n;
-  room : l.counter ≤ length l.flags.items;
-}

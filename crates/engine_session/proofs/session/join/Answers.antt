@@ -1,8 +1,0 @@
-use Rattle.engine_session.proofs.Hearing.{at_err, unjoined}
-use Rattle.engine_session.proofs.session.join.Goals as goal
-
-pub returns-in_err-join-clause-err : goal.returns-in_err-join-clause-err
-returns-in_err-join-clause-err g c = at_err _ (unjoined _ _ _ _ c.now-moment.ensures.limit)
-
-pub returns-in_err-octets-clause-err : goal.returns-in_err-octets-clause-err
-returns-in_err-octets-clause-err g c = at_err _ (unjoined _ _ _ _ c.now-moment.ensures.limit)

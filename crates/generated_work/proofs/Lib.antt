@@ -1,5 +1,0 @@
-mod Fitting
-mod Rows
-mod ToCome
-mod Uuids
-mod Writing

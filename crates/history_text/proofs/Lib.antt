@@ -1,2 +1,0 @@
-pub mod Differences
-mod Feeding

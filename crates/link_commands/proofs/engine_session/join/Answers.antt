@@ -1,0 +1,8 @@
+use Rattle.link_commands.proofs.EngineHearing.{at_err, unjoined}
+use Rattle.link_commands.proofs.engine_session.join.Goals as goal
+
+pub returns-in_err-join-clause-err : goal.returns-in_err-join-clause-err
+returns-in_err-join-clause-err g c = at_err _ (unjoined _ _ _ _ c.now-moment.ensures.limit)
+
+pub returns-in_err-octets-clause-err : goal.returns-in_err-octets-clause-err
+returns-in_err-octets-clause-err g c = at_err _ (unjoined _ _ _ _ c.now-moment.ensures.limit)

@@ -1,3 +1,0 @@
-pub mod Onces
-pub mod Pushes
-pub mod Wheres

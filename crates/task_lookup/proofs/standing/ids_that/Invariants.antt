@@ -1,7 +1,0 @@
-use Rattle.std.proofs.Common.{◌≡◌, filter, take}
-use Rattle.cluster_defs.specs.RecordAnswers.{record_in}
-use Rattle.task_lookup.specs.Standings.{stands}
-use Rattle.task_lookup.proofs.standing.ids_that.Given as goal
-
-abbrev pub invariant-loop-id : goal.invariant-loop-id
-invariant-loop-id g l = l.found ≡ filter (λ id. stands l.standing (record_in (g.R.Records.records l.table) id)) (take l.id-index l.ids)

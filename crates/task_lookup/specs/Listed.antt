@@ -1,7 +1,0 @@
--- A plain list of records, as a list.
-use Rattle.std.specs.Prelude.{List}
-use Rattle.cluster_types.specs.declared.record.Record.{Record}
-use Rattle.task_lookup.specs.declared.list.RecordList.{RecordList}
-
-abbrev pub listed : RecordList → List Record
-listed l = l.items.items

@@ -1,5 +1,0 @@
-pub mod Histories
-pub mod Holding
-pub mod Narrowing
-pub mod Noting
-pub mod Passing

@@ -1,0 +1,12 @@
+mod Drawn1
+mod Drawn2
+mod Drawn3
+mod Drawn4
+mod Drawn5
+mod Drawn6
+mod RowsOfDependencies
+mod RowsOfPicks
+mod RowsOfRequests
+mod RowsOfTasks
+mod RowsOfThin
+mod Told
