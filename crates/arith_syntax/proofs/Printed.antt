@@ -23,6 +23,8 @@ use Rattle.arith_syntax.specs.Written.{instructions_of, all_written}
 use Rattle.arith_syntax.specs.Printing.{sign_text, spelled, spaced, line, printed, instruction_text}
 use Rattle.arith_syntax.proofs.Sound.{over, program_without, some_tokens}
 use Rattle.arith_syntax.proofs.Words.{scan_skip}
+use Rattle.std.proofs.lemmas.Bool.{and_parts, and_from}
+use Rattle.cluster_types.proofs.Booleans.{or_true, and_false}
 
 -- a spelled token is the first of a text, and no blank
 pub record Shown (token : Token) : Type 0 where
@@ -97,11 +99,6 @@ right_shown : Shown RightParenthesis
 unfolding token_at symbol
 right_shown = record { some = omega arith; plain = refl; first = λ rest. refl }
 
-and_parts : (a b : Bool) → (a && b) ≡ true → (a ≡ true) × (b ≡ true)
-and_parts true true h = (refl, refl)
-and_parts true false h = absurd cc
-and_parts false b h = absurd cc
-
 -- a run ends at a space
 run_len : (xs rest : List ℕ) → list_all is_word xs ≡ true → prefix_len is_word (xs ++ 32 ∷ rest) ≡ length xs
 run_len [] rest h = refl
@@ -158,14 +155,11 @@ digit_range c h = grind (arith, nat_tests)
 range_digit : (c : ℕ) → IsInRange 48 57 c → is_digit c ≡ true
 range_digit c h = grind (arith, nat_tests)
 
-and_true : (a b : Bool) → a ≡ true → b ≡ true → (a && b) ≡ true
-and_true a b x y = ap (λ c. c && b) x ∙ y
-
 digits_test : IsDigitsTest (λ ds. list_all is_digit ds ≡ true)
 digits_test = record {
   empty = refl;
   parts = λ c cs h. let p = and_parts (is_digit c) (list_all is_digit cs) h in (digit_range c p.0, p.1);
-  more = λ c cs h k. and_true (is_digit c) (list_all is_digit cs) (range_digit c h) k;
+  more = λ c cs h k. and_from (is_digit c) (list_all is_digit cs) (range_digit c h) k;
 }
 
 digits_fold : FoldsDigits (value_after 10)
@@ -176,14 +170,6 @@ digits_fold = record {
 
 own : IsNumeralModel (λ ds. list_all is_digit ds ≡ true) (value_after 10 0)
 own = numerals_by_fold (λ ds. list_all is_digit ds ≡ true) digits_test (value_after 10) digits_fold
-
-or_true : (a : Bool) → (a || true) ≡ true
-or_true true = refl
-or_true false = refl
-
-and_false : (a : Bool) → (a && false) ≡ false
-and_false true = refl
-and_false false = refl
 
 digit_word : (c : ℕ) → is_digit c ≡ true → is_word c ≡ true
 digit_word c h = ap (λ b. is_letter c || b) h ∙ or_true (is_letter c)
@@ -201,7 +187,7 @@ digits_words : (ds : List ℕ) → list_all is_digit ds ≡ true → list_all is
 digits_words [] h = refl
 digits_words (c ∷ cs) h =
     let p = and_parts (is_digit c) (list_all is_digit cs) h in
-    and_true (is_word c) (list_all is_word cs) (digit_word c p.0) (digits_words cs p.1)
+    and_from (is_word c) (list_all is_word cs) (digit_word c p.0) (digits_words cs p.1)
 
 number_small : (n : ℕ) → n < 2 ^ 63 → number n ≡ Number n
 number_small n h = ap (λ b. cond b (Number n) TooLarge) (lt_true n (2 ^ 63) h)

@@ -3,7 +3,7 @@ use Rattle.std.proofs.Common.{◌≡◌, ◌≢◌, ℕ, zero, suc, ◌+◌, ◌
 use Rattle.std.specs.Prelude.{nat_lt, nat_le, ◌==◌, ◌&&◌, ◌||◌}
 use Rattle.std.specs.List.{list_all, prefix_len}
 use Rattle.std.specs.Str.{IsAscii}
-use Rattle.std.proofs.lemmas.Bool.{cases_lt}
+use Rattle.std.proofs.lemmas.Bool.{cases_lt, and_parts}
 use Rattle.std.proofs.lemmas.Bool.Decides.{nat_tests}
 use Rattle.std.proofs.lemmas.List.{get_or_past}
 use Rattle.std.proofs.lemmas.List.Sums.{prefix_len-le-length}
@@ -16,14 +16,10 @@ use Rattle.arith_syntax.specs.Tree.{is_digit, is_letter, is_word, begins_name, a
 use Rattle.arith_syntax.specs.Lexical.{is_blank, value_after, number, constant_of, is_octal, is_hexadecimal, begins_hexadecimal, constant, word, run_of, with_equals, doubled, single, shifts, is_bad, symbol, token_at, Lexeme, scan, lexemes}
 use Rattle.arith_syntax.proofs.Sound.{IsToken}
 use Rattle.arith_syntax.proofs.Faults.{Proper}
+use Rattle.cluster_types.proofs.Numbers.{le_from}
 
 word_ascii : (c : ℕ) → is_word c ≡ true → c < 128
 word_ascii c h = grind (arith, nat_tests)
-
-and_parts : (a b : Bool) → (a && b) ≡ true → (a ≡ true) × (b ≡ true)
-and_parts true true h = (refl, refl)
-and_parts true false h = absurd cc
-and_parts false b h = absurd cc
 
 pub words_ascii : (xs : List ℕ) → list_all is_word xs ≡ true → IsAscii xs
 words_ascii [] h = IsAscii-nil
@@ -116,11 +112,8 @@ begins_is : (run : List ℕ) → is_letter (get_or run 0 0) ≡ true → begins_
 begins_is [] h = absurd cc
 begins_is (c ∷ run) h = h
 
-le_means : (m n : ℕ) → nat_le m n ≡ true → m ≤ n
-le_means m n h = grind (arith, nat_tests)
-
 name_fine : (run : List ℕ) (b : Bool) → nat_le (length run) 255 ≡ b → is_letter (get_or run 0 0) ≡ true → list_all is_word run ≡ true → Fine (cond b (Name run) Bad)
-name_fine run true e letter words = plain (Name run) (record { begins = begins_is run letter; words = words; short = le_means (length run) 255 e }) (λ e. cc)
+name_fine run true e letter words = plain (Name run) (record { begins = begins_is run letter; words = words; short = le_from (length run) 255 e }) (λ e. cc)
 name_fine run false e letter words = bad
 
 word_fine : (run : List ℕ) (b : Bool) → is_letter (get_or run 0 0) ≡ b → list_all is_word run ≡ true → Fine (cond b (cond (nat_le (length run) 255) (Name run) Bad) (constant run))

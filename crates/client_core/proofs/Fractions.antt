@@ -6,6 +6,7 @@ use Rattle.std.proofs.lemmas.Slice.Eq.{ends_is}
 use Rattle.std.specs.Char.{is_ascii_digit}
 use Rattle.std.specs.List.{ends_with, suffix_len, list_all}
 use Rattle.message_defs.specs.Points.{ends_in_name, ends_in_timeout, begins_with_fraction, whole_behind, whole_timeouts}
+use Rattle.jupyter_header.proofs.Walk.{on}
 
 -- what stands at the end of what was passed: `t`, `t"`, or neither
 pub data Passed : Type 0 where
@@ -85,17 +86,13 @@ no_timeout text h =
     let front = keyless_front neither (take count text) (drop count text) (subst (λ t. keyless neither t ≡ true) (sym (take-append-drop count text)) h) in
     and_right _ (ends_in_name (take count text)) (no_name (take count text) front)
 
-step : (front : List ℕ) (x : ℕ) (rest : List ℕ) → (begins_with_fraction (x ∷ rest) && ends_in_timeout front) ≡ false → whole_behind front (x ∷ rest) ≡ x ∷ whole_behind (front ++ x ∷ []) rest
-step front x [] h = refl
-step front x (y ∷ rest) h = rw h refl
-
 -- a text without `t":` is passed over
 passed : (front text more : List ℕ) → keyless neither (front ++ text) ≡ true → whole_behind front (text ++ more) ≡ text ++ whole_behind (front ++ text) more
 passed front [] more h = ap (λ f. whole_behind f more) (sym (append-nil front))
 passed front (x ∷ text) more h =
     let quiet = no_timeout front (keyless_front neither front (x ∷ text) h) in
     let further = passed (front ++ x ∷ []) text more (subst (λ t. keyless neither t ≡ true) (sym (append_assoc front (x ∷ []) text)) h) in
-    step front x (text ++ more) (and_right (begins_with_fraction (x ∷ (text ++ more))) (ends_in_timeout front) quiet)
+    on front x (text ++ more) (and_right (begins_with_fraction (x ∷ (text ++ more))) (ends_in_timeout front) quiet)
     ∙ ap (λ t. x ∷ t) (further ∙ ap (λ f. text ++ whole_behind f more) (append_assoc front (x ∷ []) text))
 
 -- whether no `.` stands in a text
@@ -112,7 +109,7 @@ plain : (front text : List ℕ) → dotless text ≡ true → whole_behind front
 plain front [] h = refl
 plain front (x ∷ text) h =
     let both = and_parts (not (x == 46)) (dotless text) h in
-    step front x text (and_left (begins_with_fraction (x ∷ text)) (ends_in_timeout front) (no_fraction x text both.0))
+    on front x text (and_left (begins_with_fraction (x ∷ text)) (ends_in_timeout front) (no_fraction x text both.0))
     ∙ ap (λ t. x ∷ t) (plain (front ++ x ∷ []) text both.1)
 
 pub untouched : (before after : List ℕ) → keyless neither before ≡ true → dotless after ≡ true → whole_timeouts (before ++ after) ≡ before ++ after

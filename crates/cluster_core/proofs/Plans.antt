@@ -40,7 +40,7 @@ time_below [] older time = time
 time_below (e ∷ later) older time = time_below later older time.1
 
 -- a list, turned at the entry at a place
-turned_at : (xs : List Entry) (i : ℕ) (e : Entry) → i < length xs → e ≡ get_or xs i e → reverse xs ≡ reverse (drop (i + 1) xs) ++ e ∷ reverse (take i xs)
+pub turned_at : (xs : List Entry) (i : ℕ) (e : Entry) → i < length xs → e ≡ get_or xs i e → reverse xs ≡ reverse (drop (i + 1) xs) ++ e ∷ reverse (take i xs)
 turned_at xs i e lt is =
     let parts : xs ≡ take (i + 1) xs ++ drop (i + 1) xs = sym (take-append-drop (i + 1) xs) in
     let front : take (i + 1) xs ≡ take i xs ++ e ∷ [] = take_more xs i e lt ∙ ap (λ (x : Entry). take i xs ++ x ∷ []) (sym is) in

@@ -3,3 +3,4 @@ pub mod Decide
 pub mod Falls
 pub mod Options
 pub mod Says
+pub mod Attempts

@@ -5,10 +5,6 @@ use Rattle.std.specs.Option.{is_some, option_and_then}
 use Rattle.std.proofs.lemmas.Slice.Eq.{bytes_eq-Decides}
 use Rattle.cluster_defs.specs.Words.{Id, or_else}
 
-pub none_from : {X : Type 0} (o : Option X) → is_some o ≡ false → o ≡ None
-none_from None h = refl
-none_from (Some x) h = cc
-
 pub or_else-None : {X : Type 0} (o : Option X) → or_else o None ≡ o
 or_else-None None = refl
 or_else-None (Some x) = refl
@@ -36,16 +32,6 @@ then_some g (Some x) y e = (x, refl, e)
 pub if_some : {X : Type 0} (b : Bool) (o : Option X) (x : X) → cond b o None ≡ Some x → (b ≡ true) × (o ≡ Some x)
 if_some true o x e = (refl, e)
 if_some false o x e = cc
-
-pub find_passes : {X : Type 0} (f : X → Bool) (xs : List X) (x : X) → find f xs ≡ Some x → f x ≡ true
-find_passes f [] x e = cc
-find_passes {X} f (y ∷ ys) x e =
-    let go : (b : Bool) → f y ≡ b → cond b (Some y) (find f ys) ≡ Some x → f x ≡ true =
-    λ b. elim b as (λ v. f y ≡ v → cond v (Some y) (find f ys) ≡ Some x → f x ≡ true) [
-      | true ↦ λ passes is. let same : y ≡ x = cc in rw (← same) passes
-      | false ↦ λ _ is. find_passes f ys x is
-    ] in
-    go (f y) refl e
 
 at_first : (p : ℕ → Bool) (x : ℕ) (rest : List ℕ) (n : ℕ) → ((k : ℕ) → slice_get rest k ≡ Some n → p n ≡ true) → (k : ℕ) → p x ≡ true → slice_get (x ∷ rest) k ≡ Some n → p n ≡ true
 at_first p x rest n later zero passes is = let same : x ≡ n = cc in rw (← same) passes

@@ -16,7 +16,8 @@ use Rattle.cluster_defs.specs.Engines.{missed}
 use Rattle.cluster_defs.specs.Tasks.{runs, is_never}
 use Rattle.cluster_defs.specs.Facts.{Facts, is_settled}
 use Rattle.cluster_defs.specs.Scheduling.{due, lose_due, settle_due, fail_due, direct_due, hand_due, settle_as, hand_to, is_final, rests, verdict, verdict_at, failing_id, failing_as, ready_for, direct_engine, engine_for, candidates, load, pick, may_run}
-use Rattle.cluster_defs.proofs.Options.{or_else_some, map_some, then_some, if_some, find_passes, place_passes}
+use Rattle.cluster_defs.proofs.Options.{or_else_some, map_some, then_some, if_some, place_passes}
+use Rattle.cluster_types.proofs.Lists.{found_passes}
 
 -- an id that a search through the known ids comes to
 pub record Found (f : Facts) (id : Id) : Type 0 where
@@ -64,7 +65,7 @@ settle_says : (f : Facts) (d : Entry) → lose_due f ≡ None → settle_due f �
 settle_says f d none e =
     let at = then_some (λ id. settle_as id (verdict f id)) (find (is_final f) f.known) d e in
     let v = map_some (λ v. Settle at.0 v.0 v.1) (verdict f at.0) d at.2 in
-    let final = and_parts _ _ (find_passes (is_final f) f.known at.0 at.1) in
+    let final = and_parts _ _ (found_passes (is_final f) f.known at.0 at.1) in
     let says : SaysSettle f at.0 v.0.0 v.0.1 = record {
       listed = record { test = is_final f; found = at.1 };
       none_lost = none;

@@ -2,7 +2,7 @@
 use Rattle.std.proofs.Common.{◌≡◌, ℕ, ◌+◌, ◌≤◌, List, [], ◌∷◌, ◌++◌, length, map, append-nil, Bool, true, false, cond, not, ◌&&◌, ◌||◌, refl, sym, ap, ◌∙◌, subst, arith, Option, Some, None, bytes_eq}
 use Rattle.std.specs.Prelude.{nat_lt, find, filter, option_map, ◌==◌}
 use Rattle.std.specs.List.{list_all}
-use Rattle.std.proofs.lemmas.Bool.{and_parts, and_from, not-true, false_from_ne_true, both_ways, lt-ltb, ltb-true, ltb-false, eqb-true, eq-eqb}
+use Rattle.std.proofs.lemmas.Bool.{and_parts, and_from, not-true, false_from_ne_true, both_ways, lt-ltb, ltb-true, ltb-false, eqb-true, eq-eqb, or_from}
 use Rattle.std.proofs.lemmas.List.Folds.{list_any-append}
 use Rattle.cluster_types.specs.declared.message.Message.{Message}
 use Rattle.cluster_types.specs.declared.event.Event.{Event}
@@ -28,6 +28,7 @@ use Rattle.cluster_laws.proofs.Kept.{kept_facts}
 use Rattle.cluster_laws.proofs.Closed.{listed_stays}
 use Rattle.cluster_laws.proofs.Copies.{copies_of}
 use Rattle.cluster_laws.proofs.Numbers.{accepted_says, Numbered, numbered, no_copies, AllNew, copies_new, number_given, same_number}
+use Rattle.cluster_types.proofs.Booleans.{or_off_left, or_off_right}
 
 -- KNOWN IDS
 
@@ -36,35 +37,23 @@ Disjoint : List Id → List Id → Type 0
 Disjoint xs [] = Unit {0}
 Disjoint xs (y ∷ ys) = (is_listed y xs ≡ false) × Disjoint xs ys
 
-or_off : (a b : Bool) → a ≡ false → b ≡ false → (a || b) ≡ false
-or_off true b h k = cc
-or_off false b h k = k
-
-off_left : (a b : Bool) → (a || b) ≡ false → a ≡ false
-off_left true b h = cc
-off_left false b h = refl
-
-off_right : (a b : Bool) → (a || b) ≡ false → b ≡ false
-off_right true b h = cc
-off_right false b h = h
-
-turned : (i j : Id) → bytes_eq i j ≡ false → bytes_eq j i ≡ false
+pub turned : (i j : Id) → bytes_eq i j ≡ false → bytes_eq j i ≡ false
 turned i j off = false_from_ne_true _ (λ on. both_ways (bytes_eq i j) off (subst (λ x. bytes_eq x j ≡ true) (same_id j i on) (id_self j)))
 
 unlisted_all : (x : Id) (xs ys : List Id) → Disjoint (x ∷ xs) ys → is_listed x ys ≡ false
 unfolding Disjoint
 unlisted_all x xs [] h = refl
-unlisted_all x xs (y ∷ ys) h = or_off (bytes_eq y x) (is_listed x ys) (turned x y (off_left _ _ h.0)) (unlisted_all x xs ys h.1)
+unlisted_all x xs (y ∷ ys) h = or_from (bytes_eq y x) (is_listed x ys) (turned x y (or_off_left _ _ h.0)) (unlisted_all x xs ys h.1)
 
 disjoint_rest : (x : Id) (xs ys : List Id) → Disjoint (x ∷ xs) ys → Disjoint xs ys
 unfolding Disjoint
 disjoint_rest x xs [] h = tt
-disjoint_rest x xs (y ∷ ys) h = (off_right _ _ h.0, disjoint_rest x xs ys h.1)
+disjoint_rest x xs (y ∷ ys) h = (or_off_right _ _ h.0, disjoint_rest x xs ys h.1)
 
 once_append : (xs ys : List Id) → EachOnce xs → EachOnce ys → Disjoint xs ys → EachOnce (xs ++ ys)
 once_append [] ys a b h = b
 once_append (x ∷ xs) ys a b h =
-    (list_any-append (λ i. bytes_eq i x) xs ys ∙ or_off _ _ a.0 (unlisted_all x xs ys h), once_append xs ys a.1 b (disjoint_rest x xs ys h))
+    (list_any-append (λ i. bytes_eq i x) xs ys ∙ or_from _ _ a.0 (unlisted_all x xs ys h), once_append xs ys a.1 b (disjoint_rest x xs ys h))
 
 copies_once : (number : ℕ) (ids : List Id) → number + length ids ≤ most_ids + 1 → EachOnce (map (λ (c : Copy). c.new) (copies_from number ids))
 copies_once number [] within = tt

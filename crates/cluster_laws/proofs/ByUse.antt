@@ -2,7 +2,7 @@
 use Rattle.std.proofs.Common.{◌≡◌, ℕ, ◌+◌, suc, ◌≤◌, List, [], ◌∷◌, ◌++◌, length, Bool, true, false, cond, not, ◌&&◌, refl, sym, ◌∙◌, subst, arith, Option, Some, None, ⊎_elim}
 use Rattle.std.specs.Prelude.{nat_lt, ◌==◌, filter, option_map}
 use Rattle.std.specs.List.{list_any, list_all}
-use Rattle.std.proofs.lemmas.Bool.{and_parts, and_from, or_cases, or_left, lt-ltb, eq-eqb, eqb-true}
+use Rattle.std.proofs.lemmas.Bool.{and_parts, and_from, or_cases, or_left, lt-ltb, eq-eqb, eqb-true, or_right}
 use Rattle.std.proofs.lemmas.List.Folds.{list_any-append}
 use Rattle.cluster_types.specs.declared.entry.Input.TheVariants.{Open, Up, Down, In, Beat, Time}
 use Rattle.cluster_types.specs.declared.entry.Entry.{Entry}
@@ -13,9 +13,9 @@ use Rattle.cluster_defs.specs.Steps.{next, moved, with_joined}
 use Rattle.cluster_defs.specs.Scheduling.{is_live}
 use Rattle.cluster_defs.specs.Histories.{History, facts}
 use Rattle.cluster_defs.specs.Uses.{joins_as, last_use, Ascends}
-use Rattle.cluster_laws.proofs.Lists.{all-weaker, or_right}
 use Rattle.cluster_laws.proofs.Later.{came, left_next, in_next}
 use Rattle.cluster_laws.proofs.Order.{last_use_within}
+use Rattle.cluster_types.proofs.Lists.{all-weaker}
 
 all-filter : {X : Type 0} (q p : X → Bool) (xs : List X) → list_all q xs ≡ true → list_all q (filter p xs) ≡ true
 all-filter q p [] h = h

@@ -2,8 +2,7 @@
 use Rattle.std.proofs.Common.{◌≡◌, ⊎_elim, ℕ, ◌≤◌, List, [], ◌∷◌, length, Bool, true, false, refl, sym, subst, arith}
 use Rattle.std.specs.Prelude.{◌==◌, max, filter, filter_map, ◌||◌}
 use Rattle.std.specs.List.{list_any, AllByRecursion as Each}
-use Rattle.std.proofs.lemmas.Bool.{or_left, eq-eqb, cases_lt}
-use Rattle.cluster_laws.proofs.Lists.{or_right}
+use Rattle.std.proofs.lemmas.Bool.{or_left, eq-eqb, cases_lt, or_right}
 use Rattle.cluster_types.specs.declared.entry.Input.TheVariants.{Open, Up, Down, In, Beat, Time}
 use Rattle.cluster_types.specs.declared.entry.Entry.TheVariants.{Input, Hand, Settle, Lose}
 use Rattle.cluster_defs.specs.Histories.{History, facts}

@@ -2,7 +2,7 @@
 use Rattle.std.proofs.Common.{◌≡◌, ℕ, List, [], ◌∷◌, ◌++◌, Bool, true, false, cond, ◌&&◌, ◌||◌, refl, ap, ◌∙◌, subst, sym, Option, Some, None, bytes_eq, ⊎_elim}
 use Rattle.std.specs.Prelude.{find, option_map}
 use Rattle.std.specs.Option.{is_some, option_and_then}
-use Rattle.std.proofs.lemmas.Bool.{or_cases, or_left, both_ways}
+use Rattle.std.proofs.lemmas.Bool.{or_cases, or_left, both_ways, or_right}
 use Rattle.std.proofs.lemmas.List.Folds.{list_any-append}
 use Rattle.cluster_types.specs.declared.message.Message.{Message}
 use Rattle.cluster_types.specs.declared.verdict.Verdict.{Verdict}
@@ -145,17 +145,13 @@ pub record Closed (f : Facts) : Type 0 where
   pub idle : (id : Id) → is_settled f id ≡ true → runs (f.task id).last ≡ false
   pub purged : (id : Id) → f.purged id ≡ true → is_settled f id ≡ true
 
-later_any : (a b : Bool) → b ≡ true → (a || b) ≡ true
-later_any true b h = refl
-later_any false b h = h
-
 -- what is found in a list of ids is listed in it
 pub found_listed : (test : Id → Bool) (known : List Id) (id : Id) → find test known ≡ Some id → is_listed id known ≡ true
 found_listed test [] id e = cc
 found_listed test (i ∷ known) id e =
     (elim (test i) as (λ b. cond b (Some i) (find test known) ≡ Some id → (bytes_eq i id || is_listed id known) ≡ true) [
       | true ↦ λ is. let same : i ≡ id = cc in or_left (bytes_eq i id) (is_listed id known) (rw same (id_self id))
-      | false ↦ λ is. later_any (bytes_eq i id) _ (found_listed test known id is)
+      | false ↦ λ is. or_right (bytes_eq i id) _ (found_listed test known id is)
     ]) e
 
 -- an attempt that doesn't run goes on not running

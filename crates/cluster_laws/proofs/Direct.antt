@@ -2,7 +2,7 @@
 use Rattle.std.proofs.Common.{◌≡◌, ℕ, List, [], ◌∷◌, ◌++◌, Bool, true, false, cond, ◌&&◌, ◌||◌, refl, sym, ap, ◌∙◌, subst, Option, Some, None, bytes_eq}
 use Rattle.std.specs.Prelude.{find, option_map, nat_lt, ◌==◌}
 use Rattle.std.specs.Option.{is_some, option_and_then}
-use Rattle.std.proofs.lemmas.Bool.{or_left, eq-eqb}
+use Rattle.std.proofs.lemmas.Bool.{or_left, eq-eqb, or_right}
 use Rattle.std.proofs.lemmas.List.Folds.{list_any-append}
 use Rattle.cluster_types.specs.declared.message.Message.{Message}
 use Rattle.cluster_types.specs.declared.event.Event.{Event}
@@ -27,7 +27,6 @@ use Rattle.cluster_defs.specs.Scheduling.{due, lose_due, is_live, ready_for, dir
 use Rattle.cluster_defs.specs.Histories.{History, facts, Legal}
 use Rattle.cluster_defs.proofs.Options.{map_some}
 use Rattle.cluster_defs.proofs.Says.{SaysLose, due_says}
-use Rattle.cluster_laws.proofs.Lists.{or_right}
 use Rattle.cluster_laws.proofs.Later.{request_stays}
 use Rattle.cluster_laws.proofs.Parts.{Waits, waits, waits_back, none_due, none_waits}
 

@@ -35,6 +35,7 @@ use Rattle.cluster_defs.proofs.Says.{due_says}
 use Rattle.cluster_laws.proofs.Copies.{old_copied, listed_copied}
 use Rattle.cluster_laws.proofs.Safe.{hand_says, hand_live}
 use Rattle.cluster_laws.proofs.Closed.{closed, found_listed, Requested, requested}
+use Rattle.cluster_types.proofs.Options.{some_is}
 
 some_left : {X : Type 0} (o p : Option X) → is_some o ≡ true → is_some (or_else o p) ≡ true
 some_left None p h = cc
@@ -43,10 +44,6 @@ some_left (Some x) p h = refl
 some_right : {X : Type 0} (o p : Option X) → is_some p ≡ true → is_some (or_else o p) ≡ true
 some_right None p h = h
 some_right (Some x) p h = refl
-
-some_is : {X : Type 0} (o : Option X) → is_some o ≡ true → (x : X) × (o ≡ Some x)
-some_is None h = cc
-some_is (Some x) h = (x, refl)
 
 -- BODIES, in any list of entries
 

@@ -16,7 +16,9 @@ use Rattle.cluster_defs.specs.Purges.{purged_by, drops, copied_by, copied_ids, r
 use Rattle.cluster_defs.specs.Steps.{step, next, changes, is_valid_reply, engines_in, with_joined, reply_from}
 use Rattle.cluster_defs.specs.Scheduling.{Allowed, is_kept}
 use Rattle.cluster_defs.specs.Histories.{History, facts, Legal, kept}
-use Rattle.cluster_defs.proofs.Options.{none_from, same_id, or_else-None}
+use Rattle.cluster_defs.proofs.Options.{same_id, or_else-None}
+use Rattle.cluster_types.proofs.Booleans.{or_false}
+use Rattle.cluster_types.proofs.Options.{none_of}
 
 -- what an event that changes nothing doesn't do
 pub record Still (f : Facts) (conn : ℕ) (m : Message) (event : Option Event) : Type 0 where
@@ -37,12 +39,12 @@ still_from f conn m event h =
     let e = or_parts _ _ d.0 in
     let g = or_parts _ _ e.0 in
     record {
-      none_accepted = none_from _ g.0;
-      no_join = none_from _ g.1;
-      no_leave = none_from _ e.1;
-      no_echo = none_from _ d.1;
-      none_purged = none_from _ c.1;
-      none_copied = none_from _ b.1;
+      none_accepted = none_of _ g.0;
+      no_join = none_of _ g.1;
+      no_leave = none_of _ e.1;
+      no_echo = none_of _ d.1;
+      none_purged = none_of _ c.1;
+      none_copied = none_of _ b.1;
       not_valid = a.1;
     }
 
@@ -77,10 +79,6 @@ answer_same f conn m id (Some (Purge all ids)) h = refl
 answer_same f conn m id (Some (Resubmit ids)) h = refl
 answer_same f conn m id (Some (Ask q)) h = refl
 answer_same f conn m id (Some (Reply name header ok declined)) h = rw (off_for f conn id name header h) refl
-
-or_false : (b : Bool) → (b || false) ≡ b
-or_false true = refl
-or_false false = refl
 
 task_same : (f : Facts) (conn : ℕ) (m : Message) (id : Id) (event : Option Event) → Still f conn m event → after_end (left_engine f.engines.live conn event) (after_reply f.engines.live conn id (is_direct_id f id) event (f.task id)) ≡ f.task id
 task_same f conn m id event still = rw still.no_leave (reply_same f conn id (is_direct_id f id) event still.not_valid)

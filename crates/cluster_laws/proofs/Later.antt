@@ -2,7 +2,7 @@
 use Rattle.std.proofs.Common.{◌≡◌, ℕ, ◌+◌, ◌<◌, ◌≤◌, List, [], ◌∷◌, ◌++◌, Bool, true, false, cond, not, ◌&&◌, refl, sym, ◌∙◌, arith, Option, Some, None, bytes_eq, ◌⊎◌, inl, inr, ⊎_elim}
 use Rattle.std.specs.Prelude.{◌==◌, option_map}
 use Rattle.std.specs.List.{list_any}
-use Rattle.std.proofs.lemmas.Bool.{or_cases, eqb-true}
+use Rattle.std.proofs.lemmas.Bool.{or_cases, eqb-true, or_right}
 use Rattle.std.proofs.lemmas.List.Folds.{list_any-append}
 use Rattle.cluster_types.specs.declared.event.Event.{Event}
 use Rattle.cluster_types.specs.declared.event.Event.TheVariants.{Reply}
@@ -23,7 +23,7 @@ use Rattle.cluster_defs.specs.Facts.{Facts, event_on, is_direct_id}
 use Rattle.cluster_defs.specs.Steps.{next}
 use Rattle.cluster_defs.specs.Scheduling.{is_live, excludes}
 use Rattle.cluster_defs.specs.Histories.{History, facts}
-use Rattle.cluster_laws.proofs.Lists.{any-filter, any-map, or_right}
+use Rattle.cluster_laws.proofs.Lists.{any-filter, any-map}
 
 -- ENGINES
 

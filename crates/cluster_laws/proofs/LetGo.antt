@@ -9,11 +9,12 @@ use Rattle.cluster_defs.specs.Facts.{Facts, event_in}
 use Rattle.cluster_defs.specs.Purges.{Copy, copied_from}
 use Rattle.cluster_defs.specs.Histories.{History, facts}
 use Rattle.cluster_defs.specs.Thin.{narrowed, copies_of, gone_from}
-use Rattle.cluster_defs.proofs.Options.{same_id, id_self, find_passes}
+use Rattle.cluster_defs.proofs.Options.{same_id, id_self}
 use Rattle.cluster_laws.proofs.Copies.{AllCopied, all_copied}
 use Rattle.cluster_laws.proofs.Numbers.{AllNew, copies_new, numbered}
 use Rattle.cluster_laws.proofs.Closed.{listed_stays}
 use Rattle.cluster_laws.proofs.ThinStep.{Shut, AllShut, copies_in}
+use Rattle.cluster_types.proofs.Lists.{found_passes}
 
 narrowed_less : (gone : Id → Bool) (copies : List Copy) (id : Id) → narrowed gone copies id ≡ true → gone id ≡ true
 narrowed_less gone copies id h = (and_parts _ _ h).0
@@ -100,7 +101,7 @@ found id old copies h = go (find (λ c. bytes_eq c.new id) copies) refl h
   where
     go : (o : Option Copy) → find (λ (c : Copy). bytes_eq c.new id) copies ≡ o → option_map (λ (c : Copy). c.old) o ≡ Some old → Found id old copies
     go None is k = cc
-    go (Some c) is k = record { copy = c; at = is; new = same_id c.new id (find_passes (λ (d : Copy). bytes_eq d.new id) copies c is); from = cc }
+    go (Some c) is k = record { copy = c; at = is; new = same_id c.new id (found_passes (λ (d : Copy). bytes_eq d.new id) copies c is); from = cc }
 
 made_shut : (gone : Id → Bool) (older : History) (copies : List Copy) → AllNew (facts older).known copies → OldKnown (facts older) copies → (id old : Id) → copied_from id (Some copies) ≡ Some old →
     gone_from (narrowed gone copies) older old ≡ true → gone_from (narrowed gone copies) older id ≡ true

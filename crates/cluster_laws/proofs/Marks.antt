@@ -2,7 +2,7 @@
 use Rattle.std.proofs.Common.{◌≡◌, ℕ, ◌+◌, ◌<◌, ◌≤◌, List, [], ◌∷◌, ◌++◌, map, Bool, true, false, cond, not, ◌&&◌, ◌||◌, Option, Some, None, refl, sym, ap, ◌∙◌, subst, arith}
 use Rattle.std.specs.Prelude.{◌==◌, nat_le, nat_lt, filter}
 use Rattle.std.specs.List.{list_any, AllByRecursion as Each}
-use Rattle.std.proofs.lemmas.Bool.{or_left, eq-eqb, ltb-true, ltb-false}
+use Rattle.std.proofs.lemmas.Bool.{or_left, eq-eqb, ltb-true, ltb-false, or_right}
 use Rattle.std.proofs.lemmas.Bool.Decides.{nat_tests}
 use Rattle.cluster_types.specs.declared.message.Message.{Message}
 use Rattle.cluster_types.specs.declared.event.Event.{Event}
@@ -16,8 +16,8 @@ use Rattle.cluster_defs.specs.Facts.{event_in}
 use Rattle.cluster_defs.specs.Steps.{engines_in, engine_end}
 use Rattle.cluster_defs.specs.Histories.{History, facts}
 use Rattle.cluster_defs.specs.Uses.{joins_as}
-use Rattle.cluster_laws.proofs.Lists.{or_right}
 use Rattle.cluster_laws.specs.Counts.{IsGreatest, is_join, echo_on, credited}
+use Rattle.cluster_types.proofs.Numbers.{apart}
 
 -- an engine with its mark, below the next number
 record Good (h : History) (next : ℕ) (d : Engine) : Type 0 where
@@ -72,16 +72,13 @@ one_more h next (x ∷ live) d good g = (good.0, one_more h next live d good.1 g
 abbrev Means : History → ℕ → ℕ → ℕ → Message → Option Event → Type 0
 Means older conn moment word m event = event_in (facts older) (Input (In conn moment word m)) ≡ event
 
-not_next : (n next : ℕ) → n < next → (next == n) ≡ false
-not_next n next lt = grind (arith, nat_tests)
-
 join_others : (older : History) (conn moment word : ℕ) (m : Message) (uuid : List ℕ) (next : ℕ) (live : List Engine) → Means older conn moment word m (Some (Join uuid)) →
     joined (facts older).engines conn (Some (Join uuid)) ≡ Some uuid → next ≡ (facts older).engines.next → AllGood older next live → AllGood (Input (In conn moment word m) ∷ older) (next + 1) live
 join_others older conn moment word m uuid next [] means is at good = tt
 join_others older conn moment word m uuid next (d ∷ live) means is at good = (
   good_stays older (Input (In conn moment word m)) next (next + 1) d (omega arith)
       (ap (λ o. joins_as (facts older).engines.next (joined (facts older).engines conn o) d.number) means ∙ ap (λ o. joins_as (facts older).engines.next o d.number) is
-      ∙ ap (λ n. n == d.number) (sym at) ∙ not_next d.number next good.0.below)
+      ∙ ap (λ n. n == d.number) (sym at) ∙ apart d.number next good.0.below)
       (ap (λ o. echo_on d.conn (facts older) (Input (In conn moment word m)) o) means) good.0,
   join_others older conn moment word m uuid next live means is at good.1,
 )

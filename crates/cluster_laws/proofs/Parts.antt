@@ -9,7 +9,8 @@ use Rattle.cluster_defs.specs.Dependencies.{met, on_engine}
 use Rattle.cluster_defs.specs.Requests.{Request, is_direct, is_target}
 use Rattle.cluster_defs.specs.Facts.{Facts, is_settled}
 use Rattle.cluster_defs.specs.Scheduling.{due, lose_due, settle_due, fail_due, direct_due, hand_due, hand_to, rests, may_run, may_run_as, is_live, excludes, ready_for, direct_engine}
-use Rattle.cluster_defs.proofs.Options.{if_some, find_passes, same_id}
+use Rattle.cluster_defs.proofs.Options.{if_some, same_id}
+use Rattle.cluster_types.proofs.Lists.{found_passes}
 
 -- the parts of the test whether an id may run
 pub record MayRun (f : Facts) (id : Id) (n : ℕ) : Type 0 where
@@ -94,7 +95,7 @@ no_hand id (Some n) s h = cc
 
 direct_none : (f : Facts) (o : Option Id) → find (λ id. is_some (ready_for f id)) f.known ≡ o → option_and_then (λ id. hand_to id (ready_for f id)) o ≡ None → o ≡ None
 direct_none f None found e = refl
-direct_none f (Some id) found e = absurd (no_hand id (ready_for f id) (find_passes (λ id. is_some (ready_for f id)) f.known id found) e)
+direct_none f (Some id) found e = absurd (no_hand id (ready_for f id) (found_passes (λ id. is_some (ready_for f id)) f.known id found) e)
 
 -- no known direct request waits where none is due
 pub none_waits : (f : Facts) → direct_due f ≡ None → (id : Id) → is_listed id f.known ≡ true → is_some (ready_for f id) ≡ true → ⊥

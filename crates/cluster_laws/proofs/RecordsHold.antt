@@ -3,7 +3,7 @@ use Rattle.std.proofs.Common.{◌≡◌, ℕ, zero, suc, ◌+◌, List, [], ◌�
 use Rattle.std.specs.Prelude.{slice_get, option_map}
 use Rattle.std.specs.List.{position_or_len}
 use Rattle.std.specs.Option.{is_some}
-use Rattle.std.proofs.lemmas.Bool.{or_left, false_from_ne_true, both_ways}
+use Rattle.std.proofs.lemmas.Bool.{or_left, false_from_ne_true, both_ways, or_right}
 use Rattle.cluster_types.specs.Records.{AreRecords}
 use Rattle.cluster_types.specs.declared.record.Record.{Record}
 use Rattle.cluster_types.specs.declared.verdict.Verdict.{Verdict}
@@ -23,7 +23,6 @@ use Rattle.cluster_defs.specs.Outcomes.{number_of, outcome}
 use Rattle.cluster_defs.specs.TaskRecords.{record_of, records_of}
 use Rattle.cluster_defs.specs.Laws.{EachOnce}
 use Rattle.cluster_defs.proofs.Options.{same_id, id_self, some_inj}
-use Rattle.cluster_laws.proofs.Lists.{or_right}
 use Rattle.cluster_laws.proofs.Safe.{hand_open}
 use Rattle.cluster_laws.proofs.Sound.{lost_engine, end_engine, reply_engine}
 use Rattle.cluster_laws.proofs.Life.{get_map}

@@ -12,7 +12,8 @@ use Rattle.cluster_defs.specs.TaskRecords.{record_of, records_of}
 use Rattle.cluster_defs.specs.RecordAnswers.{record_in, gone_as, is_settled_record}
 use Rattle.cluster_defs.specs.RecordPlans.{gone_in, inflight_in, purge_list_in, purge_in, unknown_in, purged_in, resubmit_in}
 use Rattle.cluster_laws.proofs.Closed.{Closed, closed}
-use Rattle.cluster_laws.proofs.RecordsTell.{same_filter, some_map, picked, gone_told, record_is}
+use Rattle.cluster_laws.proofs.RecordsTell.{some_map, picked, gone_told, record_is}
+use Rattle.cluster_types.proofs.Lists.{same_filter}
 
 -- whether an id is settled, by its record
 settled_as : (f : Facts) (id : Id) (b : Bool) → is_listed id f.known ≡ b → (is_settled f id ≡ true → is_listed id f.known ≡ true) → is_settled_record (cond b (Some (record_of f id)) None) ≡ is_settled f id

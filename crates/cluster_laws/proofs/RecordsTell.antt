@@ -31,6 +31,7 @@ use Rattle.cluster_defs.specs.RecordAnswers.{ids_where, record_in, waits_in, run
 use Rattle.cluster_defs.proofs.Options.{same_id}
 use Rattle.cluster_laws.proofs.Copies.{none_pass}
 use Rattle.cluster_laws.proofs.RecordsHold.{settled_engine}
+use Rattle.cluster_types.proofs.Lists.{same_filter, same_map}
 
 -- LISTS
 
@@ -43,14 +44,6 @@ where_is f p (id ∷ ids) =
       | true ↦ ap (λ x. id ∷ x) rest
       | false ↦ rest
     ]
-
-pub same_filter : {X : Type 0} (p q : X → Bool) → ((x : X) → p x ≡ q x) → (xs : List X) → filter p xs ≡ filter q xs
-same_filter p q same [] = refl
-same_filter p q same (x ∷ xs) = rw (same x, same_filter p q same xs) refl
-
-same_map : {X Y : Type 0} (g h : X → Y) → ((x : X) → g x ≡ h x) → (xs : List X) → map g xs ≡ map h xs
-same_map g h same [] = refl
-same_map g h same (x ∷ xs) = rw (same x, same_map g h same xs) refl
 
 same_find : {X : Type 0} (p q : X → Bool) → ((x : X) → p x ≡ q x) → (xs : List X) → find p xs ≡ find q xs
 same_find p q same [] = refl
@@ -66,7 +59,7 @@ some_map g (Some x) = refl
 
 -- QUEUES
 
-runs_there : (n : ℕ) (a : Attempt) → (runs a && is_number n (engine_of a)) ≡ runs_at n a
+pub runs_there : (n : ℕ) (a : Attempt) → (runs a && is_number n (engine_of a)) ≡ runs_at n a
 runs_there n Never = refl
 runs_there n (Running m) = refl
 runs_there n (EndedOk m) = refl

@@ -1,6 +1,6 @@
 -- What each hand-out and each settle of a legal history keeps to.
 use Rattle.std.proofs.Common.{◌≡◌, ℕ, [], ◌∷◌, Bool, true, false, cond, refl, Option, Some, None, ⊎_elim}
-use Rattle.std.proofs.lemmas.Bool.{or_left, eq-eqb}
+use Rattle.std.proofs.lemmas.Bool.{or_left, eq-eqb, or_right}
 use Rattle.cluster_types.specs.declared.entry.Entry.TheVariants.{Input, Hand, Settle, Lose}
 use Rattle.cluster_defs.specs.Words.{Id, is_number}
 use Rattle.cluster_defs.specs.Requests.{Request, is_direct}
@@ -9,7 +9,6 @@ use Rattle.cluster_defs.specs.Scheduling.{may_run_as, is_live, direct_engine}
 use Rattle.cluster_defs.specs.Histories.{History, facts, Legal}
 use Rattle.cluster_defs.specs.Safety.{Once, AfterHeld, FollowHeld, TargetsHeld, after_met, follow_met, fits_target}
 use Rattle.cluster_defs.proofs.Says.{SaysHand, due_says, hand_rests}
-use Rattle.cluster_laws.proofs.Lists.{or_right}
 use Rattle.cluster_laws.proofs.Parts.{may_parts, runs_parts, waits}
 use Rattle.cluster_laws.proofs.Direct.{direct_live}
 

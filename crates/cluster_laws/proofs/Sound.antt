@@ -28,9 +28,10 @@ use Rattle.cluster_defs.specs.Purges.{Copy, copied_by, copied_from, request_copi
 use Rattle.cluster_defs.specs.Steps.{next}
 use Rattle.cluster_defs.specs.Scheduling.{is_live}
 use Rattle.cluster_defs.specs.Histories.{History, facts, Legal}
-use Rattle.cluster_laws.proofs.Lists.{all-weaker, numbers-below}
+use Rattle.cluster_laws.proofs.Lists.{numbers-below}
 use Rattle.cluster_laws.proofs.Later.{came, next_rises}
 use Rattle.cluster_laws.proofs.Safe.{hand_live}
+use Rattle.cluster_types.proofs.Lists.{all-weaker}
 
 pub record Sound (f : Facts) : Type 0 where
   pub live : (n : ℕ) → is_live f n ≡ true → n < f.engines.next

@@ -22,6 +22,8 @@ use Rattle.cluster_defs.specs.Steps.{engine_end, task_after}
 use Rattle.cluster_defs.specs.Histories.{History, facts}
 use Rattle.cluster_defs.specs.Lives.{is_open}
 use Rattle.cluster_laws.specs.Counts.{beginnings, is_badly, is_decline, replies, ends_at, spends_in, spends, declines}
+use Rattle.cluster_types.proofs.Booleans.{or_false}
+use Rattle.cluster_defs.proofs.Attempts.{at_runs}
 
 abbrev one_if : Bool → ℕ
 one_if true = 1
@@ -46,14 +48,6 @@ lost_excludes (EndedBadly n) t = refl
 lost_excludes (Lost n) t = refl
 lost_excludes (Declined n) t = refl
 
-at_runs : (n : ℕ) (a : Attempt) → runs_at n a ≡ true → runs a ≡ true
-at_runs n (Running m) at = refl
-at_runs n Never at = cc
-at_runs n (EndedOk m) at = cc
-at_runs n (EndedBadly m) at = cc
-at_runs n (Lost m) at = cc
-at_runs n (Declined m) at = cc
-
 end_spends : (f : Facts) (end : Option ℕ) (id : Id) → (after_end end (f.task id)).spent ≡ (f.task id).spent + one_if (ends_at f end id)
 end_spends f None id = omega arith
 end_spends f (Some n) id = by (runs_at n (f.task id).last) refl
@@ -69,10 +63,6 @@ end_excludes f (Some n) t =
       | true ↦ lost_excludes t.last t
       | false ↦ refl
     ]
-
-or_none : (b : Bool) → (b || false) ≡ b
-or_none true = refl
-or_none false = refl
 
 -- the attempt for which a reply counts is current
 counts_home : (live : List Engine) (conn : ℕ) (header : List ℕ) (a : Attempt) (t : Task) → t.last ≡ a → counts live conn header t ≡ true → is_number conn (home live a) ≡ true
@@ -123,7 +113,7 @@ record Steps (f : Facts) (e : Entry) (event : Option Event) (id : Id) : Type 0 w
 
 by_end : (f : Facts) (end : Option ℕ) (id : Id) (c : Bool) → c ≡ false → (after_end end (f.task id)).spent ≡ (f.task id).spent + one_if (ends_at f end id || c)
 by_end f end id true off = cc
-by_end f end id false off = end_spends f end id ∙ ap (λ b. (f.task id).spent + one_if b) (sym (or_none (ends_at f end id)))
+by_end f end id false off = end_spends f end id ∙ ap (λ b. (f.task id).spent + one_if b) (sym (or_false (ends_at f end id)))
 
 nothing_spent : (n : ℕ) → n ≡ n + 0
 nothing_spent n = omega arith
@@ -137,7 +127,7 @@ in_steps f conn moment word m (Some (Reply name header ok declined)) id =
     let way = ending (is_direct_id f id) ok declined in
     record {
       spent = reply_spends f.engines.live conn header way (f.task id) b (λ on. (and_parts (bytes_eq name id) _ on).1)
-          ∙ ap (λ c. (f.task id).spent + one_if c) (sym (or_none ((b && is_badly way) || false) ∙ or_none (b && is_badly way)));
+          ∙ ap (λ c. (f.task id).spent + one_if c) (sym (or_false ((b && is_badly way) || false) ∙ or_false (b && is_badly way)));
       excluded = λ n. reply_excludes header way (f.task id) n b;
     }
 in_steps f conn moment word m (Some (Join uuid)) id = record { spent = nothing_spent (f.task id).spent; excluded = λ n. refl }
@@ -170,7 +160,7 @@ end_steps : (f : Facts) (e : Entry) (id : Id) → is_open e ≡ false → task_a
 end_steps f e id off is quiet = record {
   spent = ap (λ (t : Task). t.spent) is ∙ end_spends f (engine_end f.engines.live e None) id
       ∙ ap (λ b. (f.task id).spent + one_if b) (sym (ap (λ b. (b || ends_at f (engine_end f.engines.live e None) id) || (is_open e && runs (f.task id).last)) (quiet is_badly)
-      ∙ ap (λ b. ends_at f (engine_end f.engines.live e None) id || (b && runs (f.task id).last)) off ∙ or_none (ends_at f (engine_end f.engines.live e None) id)));
+      ∙ ap (λ b. ends_at f (engine_end f.engines.live e None) id || (b && runs (f.task id).last)) off ∙ or_false (ends_at f (engine_end f.engines.live e None) id)));
   excluded = λ n. ap (excludes n) is ∙ ap (list_any (λ m. m == n)) (end_excludes f (engine_end f.engines.live e None) (f.task id))
       ∙ sym (ap (λ b. (b && runs_at n (f.task id).last) || excludes n (f.task id)) (quiet is_decline));
 }

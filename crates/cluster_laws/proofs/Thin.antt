@@ -19,6 +19,7 @@ use Rattle.cluster_defs.specs.Steps.{changes, reply_from}
 use Rattle.cluster_defs.specs.Thin.{no_content, short_reply, with_content, thin_request, thin_reply, with_bodies}
 use Rattle.cluster_defs.proofs.Options.{same_id}
 use Rattle.cluster_laws.proofs.ThinEvent.{with_body, is_demand, demand_event, reply_event_same}
+use Rattle.cluster_types.proofs.Booleans.{and_left}
 
 abbrev pub Bodies : Type 0
 Bodies = Id → Option Body
@@ -147,10 +148,6 @@ choice_reply purged c x y old name id off on =
       | false ↦ λ _. refl
     ] refl
 
-and_first : (a b : Bool) → (a && b) ≡ true → a ≡ true
-and_first true b h = refl
-and_first false b h = cc
-
 thin_answer : (gone purged : Id → Bool) (f : Facts) (conn : ℕ) (m : Message) (name header : Id) (ok declined : Bool) → event_on f conn m ≡ Some (Reply name header ok declined) →
     Thinned gone purged f conn m (thin_reply purged f conn (Some (Reply name header ok declined)) m) (Some (Reply name header ok declined))
 thin_answer gone purged f conn m name header ok declined is = go (purged name && counts f.engines.live conn header (f.task name)) refl
@@ -162,7 +159,7 @@ thin_answer gone purged f conn m name header ok declined is = go (purged name &&
       is = refl;
       event = reply_thin f conn m [] name header ok declined is;
       body = λ id g. refl;
-      reply = λ id p old. choice_reply purged (λ i. counts f.engines.live conn header (f.task i)) _ _ old name id p (and_first _ _ on);
+      reply = λ id p old. choice_reply purged (λ i. counts f.engines.live conn header (f.task i)) _ _ old name id p (and_left _ _ on);
     }
     go false on = record { content = m.content; buffers = m.buffers; is = refl; event = is; body = λ id g. refl; reply = λ id p old. refl }
 

@@ -27,9 +27,10 @@ use Rattle.cluster_defs.specs.Steps.{next}
 use Rattle.cluster_defs.specs.Scheduling.{settle_as, is_final, verdict, verdict_at, may_run_as, direct_engine}
 use Rattle.cluster_defs.specs.Histories.{History, facts, Legal}
 use Rattle.cluster_defs.specs.Safety.{one_if, hands, declines_in, is_declined, declines, allowance, Tries}
-use Rattle.cluster_defs.proofs.Options.{same_id, find_passes}
+use Rattle.cluster_defs.proofs.Options.{same_id}
 use Rattle.cluster_defs.proofs.Says.{SaysHand, due_says}
 use Rattle.cluster_laws.proofs.Parts.{may_parts, runs_parts, waits}
+use Rattle.cluster_types.proofs.Lists.{found_passes}
 
 -- an attempt that is current, or that ended well, is a hand-out that was not spent
 abbrev pub going : Attempt → ℕ
@@ -193,7 +194,7 @@ verdict_none id (Some v) h e = cc
 
 no_final : (f : Facts) (o : Option Id) → find (is_final f) f.known ≡ o → option_and_then (λ id. settle_as id (verdict f id)) o ≡ None → o ≡ None
 no_final f None found e = refl
-no_final f (Some id) found e = absurd (verdict_none id (verdict f id) ((and_parts _ _ (find_passes (is_final f) f.known id found)).0) e)
+no_final f (Some id) found e = absurd (verdict_none id (verdict f id) ((and_parts _ _ (found_passes (is_final f) f.known id found)).0) e)
 
 not_ended_ok : (over : Bool) (a : Attempt) → runs a ≡ false → is_some (verdict_at over a) ≡ false → going a ≡ 0
 not_ended_ok over Never r v = refl

@@ -26,7 +26,8 @@ use Rattle.cluster_state.proofs.Lists.{map_listed}
 use Rattle.cluster_state.proofs.Pieces.{look_is}
 use Rattle.cluster_state.proofs.Blank.{blank}
 use Rattle.cluster_state.proofs.Exact.{unsettled, unpurged}
-use Rattle.cluster_state.proofs.Told.{noted_is, or_false}
+use Rattle.cluster_state.proofs.Told.{noted_is}
+use Rattle.cluster_types.proofs.Booleans.{or_false}
 
 -- PLACES
 

@@ -1,7 +1,7 @@
 -- Of an id that isn't known, a legal history says nothing.
 use Rattle.std.proofs.Common.{◌≡◌, ℕ, List, [], ◌∷◌, ◌++◌, Bool, true, false, cond, ◌&&◌, ◌||◌, refl, ap, ◌∙◌, subst, bytes_eq, Option, Some, None}
 use Rattle.std.specs.Prelude.{find, option_map}
-use Rattle.std.proofs.lemmas.Bool.{false_from_ne_true, both_ways}
+use Rattle.std.proofs.lemmas.Bool.{false_from_ne_true, both_ways, or_left, or_right}
 use Rattle.std.proofs.lemmas.List.Folds.{list_any-append}
 use Rattle.cluster_types.specs.declared.message.Message.{Message}
 use Rattle.cluster_types.specs.declared.event.Event.{Event}
@@ -21,7 +21,7 @@ use Rattle.cluster_defs.specs.Histories.{History, facts, Legal}
 use Rattle.cluster_defs.proofs.Options.{same_id}
 use Rattle.cluster_defs.proofs.Says.{due_says}
 use Rattle.cluster_laws.proofs.Closed.{found_listed, listed_stays}
-use Rattle.cluster_state.proofs.Lists.{or_left, or_right}
+use Rattle.cluster_types.proofs.Booleans.{or_off_left, or_off_right}
 
 pub record Blank (f : Facts) (id : Id) : Type 0 where
   pub request : f.request_of id ≡ None
@@ -39,22 +39,14 @@ left_off xs ys id off = false_from_ne_true _ (λ on. both_ways (is_listed id (xs
 front_off : (xs ys : List Id) (id : Id) → is_listed id (xs ++ ys) ≡ false → is_listed id xs ≡ false
 front_off xs ys id off = false_from_ne_true _ (λ on. both_ways (is_listed id (xs ++ ys)) off (list_any-append (λ i. bytes_eq i id) xs ys ∙ or_left _ _ on))
 
-first_off : (a b : Bool) → (a || b) ≡ false → a ≡ false
-first_off true b h = cc
-first_off false b h = refl
-
-second_off : (a b : Bool) → (a || b) ≡ false → b ≡ false
-second_off true b h = cc
-second_off false b h = h
-
 -- a request makes one of its own id alone
 none_made : (f : Facts) (conn moment : ℕ) (m : Message) (id : Id) (d : Option Demand) → is_listed id (accepted_id d) ≡ false → request_from f conn moment m id d ≡ None
 none_made f conn moment m id None h = refl
-none_made f conn moment m id (Some d) h = rw (first_off (bytes_eq d.submission.id id) false h) refl
+none_made f conn moment m id (Some d) h = rw (or_off_left (bytes_eq d.submission.id id) false h) refl
 
 none_bodied : (m : Message) (id : Id) (d : Option Demand) → is_listed id (accepted_id d) ≡ false → body_from m id d ≡ None
 none_bodied m id None h = refl
-none_bodied m id (Some d) h = rw (first_off (bytes_eq d.submission.id id) false h) refl
+none_bodied m id (Some d) h = rw (or_off_left (bytes_eq d.submission.id id) false h) refl
 
 none_copied : (id : Id) (c : Option (List Copy)) → is_listed id (copied_ids c) ≡ false → copied_from id c ≡ None
 none_copied id None h = refl
@@ -62,7 +54,7 @@ none_copied id (Some copies) h = ap (option_map (λ (c : Copy). c.old)) (in_list
   where
     in_list : (cs : List Copy) → is_listed id (copied_ids (Some cs)) ≡ false → find (λ (c : Copy). bytes_eq c.new id) cs ≡ None
     in_list [] k = refl
-    in_list (c ∷ cs) k = rw (first_off (bytes_eq c.new id) _ k) (in_list cs (second_off (bytes_eq c.new id) _ k))
+    in_list (c ∷ cs) k = rw (or_off_left (bytes_eq c.new id) _ k) (in_list cs (or_off_right (bytes_eq c.new id) _ k))
 
 end_new : (end : Option ℕ) → after_end end new_task ≡ new_task
 end_new None = refl

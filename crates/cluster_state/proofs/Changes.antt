@@ -11,7 +11,7 @@ use Rattle.cluster_defs.specs.Facts.{Facts}
 use Rattle.cluster_defs.specs.Acceptance.{acceptance, is_accepted}
 use Rattle.cluster_defs.specs.Purges.{purged_by, copied_by}
 use Rattle.cluster_defs.specs.Steps.{changes}
-use Rattle.cluster_state.proofs.Told.{or_false}
+use Rattle.cluster_types.proofs.Booleans.{or_false}
 
 chosen : {T : Type 0} (b : Bool) (x : T) → is_some (cond b (Some x) None) ≡ b
 chosen true x = refl

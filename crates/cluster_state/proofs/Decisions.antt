@@ -15,7 +15,7 @@ use Rattle.cluster_defs.specs.Facts.{Facts, is_settled, is_direct_id}
 use Rattle.cluster_defs.specs.Steps.{step}
 use Rattle.cluster_defs.specs.Histories.{History, facts, Legal}
 use Rattle.cluster_defs.specs.Outcomes.{number_of}
-use Rattle.cluster_defs.proofs.Options.{none_from, or_else-None, id_self}
+use Rattle.cluster_defs.proofs.Options.{or_else-None, id_self}
 use Rattle.cluster_defs.proofs.Says.{due_says}
 use Rattle.cluster_laws.proofs.Apart.{known_once}
 use Rattle.cluster_laws.proofs.Closed.{closed, Closed}
@@ -23,6 +23,7 @@ use Rattle.task_table.specs.Seen.{Seen, attempted, handed_to, ended_on, changed,
 use Rattle.cluster_state.specs.Plain.{look, plain_of, handed_out, settled_at, settled_out, engine_ended}
 use Rattle.cluster_state.proofs.Lists.{changed_one, map_all, map_twice}
 use Rattle.cluster_state.proofs.Pieces.{seen_from, look_is}
+use Rattle.cluster_types.proofs.Options.{none_of}
 
 -- A HAND
 
@@ -57,7 +58,7 @@ unpurged f id is off = false_from_ne_true _ (λ on. both_ways (is_settled f id) 
 
 settle_here : (f : Facts) (id : Id) (v : Verdict) (c : Cause) → Closed f → is_settled f id ≡ false → look (after_settle f id v c) id ≡ settled_at v c f.moment (look f id)
 settle_here f id v c is off =
-    let none : f.settled id ≡ None = none_from (f.settled id) off in
+    let none : f.settled id ≡ None = none_of (f.settled id) off in
     let gone : f.purged id ≡ false = unpurged f id is off in
     look_is (after_settle f id v c) id ∙ by_cause c none gone ∙ sym (ap (settled_at v c f.moment) (look_is f id))
   where

@@ -18,15 +18,12 @@ use Rattle.task_table.specs.Seen.{purged_out, changed}
 use Rattle.cluster_state.specs.Plain.{look, plain_of, told, noted, purged_tasks, dropped_by}
 use Rattle.cluster_state.proofs.Lists.{changed_one, map_all}
 use Rattle.cluster_state.proofs.Pieces.{seen_from, look_is}
-use Rattle.cluster_state.proofs.Told.{noted_is, or_false}
+use Rattle.cluster_state.proofs.Told.{noted_is}
+use Rattle.cluster_types.proofs.Booleans.{or_true, or_false}
 
 -- the facts, once some ids are dropped
 abbrev after_drop : Facts → List Id → Facts
 after_drop f ids = record f { purged = λ id. f.purged id || is_listed id ids }
-
-or_true : (b : Bool) → (b || true) ≡ true
-or_true true = refl
-or_true false = refl
 
 or_twice : (a b c : Bool) → ((a || (b || false)) || c) ≡ (a || (b || c))
 or_twice true b c = refl

@@ -6,11 +6,12 @@ use Rattle.cluster_defs.specs.Words.{Id, is_listed}
 use Rattle.cluster_defs.specs.Tasks.{new_task}
 use Rattle.cluster_defs.specs.Facts.{Facts}
 use Rattle.cluster_defs.specs.Histories.{History, facts, Legal}
-use Rattle.cluster_defs.proofs.Options.{none_from, same_id}
+use Rattle.cluster_defs.proofs.Options.{same_id}
 use Rattle.cluster_laws.proofs.Closed.{closed, Closed}
 use Rattle.task_table.specs.Seen.{Seen, seen_in}
 use Rattle.cluster_state.specs.Plain.{look, plain_of, facts_in}
 use Rattle.cluster_state.proofs.Blank.{blank}
+use Rattle.cluster_types.proofs.Options.{none_of}
 
 -- what is seen of an id is what the history says of it, where it is known
 pub seen_is : (f : Facts) (ids : List Id) (id : Id) → seen_in (map (look f) ids) id ≡ cond (is_listed id ids) (Some (look f id)) None
@@ -26,7 +27,7 @@ ids_are f [] = refl
 ids_are f (i ∷ ids) = ap (λ is. i ∷ is) (ids_are f ids)
 
 pub unsettled : (f : Facts) (id : Id) → Closed f → is_listed id f.known ≡ false → f.settled id ≡ None
-unsettled f id is off = none_from (f.settled id) (false_from_ne_true _ (λ on. both_ways (is_listed id f.known) off (is.listed id on)))
+unsettled f id is off = none_of (f.settled id) (false_from_ne_true _ (λ on. both_ways (is_listed id f.known) off (is.listed id on)))
 
 pub unpurged : (f : Facts) (id : Id) → Closed f → is_listed id f.known ≡ false → f.purged id ≡ false
 unpurged f id is off = false_from_ne_true _ (λ on. both_ways (is_listed id f.known) off (is.listed id (is.purged id on)))

@@ -27,10 +27,6 @@ same_length (x ∷ xs) (y ∷ ys) h =
       | false ↦ λ k. cc
     ]) h
 
-pub some_copied : {T : Type 0} (o : Option (Bor T)) → is_some o ≡ is_some (option_copied o)
-some_copied None = refl
-some_copied (Some x) = refl
-
 -- at a place that both have, the two there tell, and the rest
 pub same_step : (xs ys : List (List ℕ)) (i : ℕ) (x y : List ℕ) → i < length xs → i < length ys → x ≡ slice_index_or xs i x → y ≡ slice_index_or ys i y →
     same_lists (drop i xs) (drop i ys) ≡ (bytes_eq x y && same_lists (drop (i + 1) xs) (drop (i + 1) ys))

@@ -1,23 +1,13 @@
 -- Lists of what is seen, where one id or all of them change.
 use Rattle.std.proofs.Common.{◌≡◌, List, [], ◌∷◌, map, Bool, true, false, cond, ◌||◌, refl, sym, ap, subst, bytes_eq}
-use Rattle.std.proofs.lemmas.Bool.{false_from_ne_true, both_ways}
+use Rattle.std.proofs.lemmas.Bool.{false_from_ne_true, both_ways, or_right, or_left}
 use Rattle.cluster_defs.specs.Words.{Id, is_listed}
 use Rattle.cluster_defs.specs.Facts.{Facts}
 use Rattle.cluster_defs.specs.Laws.{EachOnce}
 use Rattle.cluster_defs.proofs.Options.{same_id, id_self}
 use Rattle.task_table.specs.Seen.{Seen, changed}
 use Rattle.cluster_state.specs.Plain.{look}
-
-pub turned : (i j : Id) → bytes_eq i j ≡ false → bytes_eq j i ≡ false
-turned i j off = false_from_ne_true _ (λ on. both_ways (bytes_eq i j) off (subst (λ x. bytes_eq x j ≡ true) (same_id j i on) (id_self j)))
-
-pub or_right : (a b : Bool) → b ≡ true → (a || b) ≡ true
-or_right true b h = refl
-or_right false b h = h
-
-pub or_left : (a b : Bool) → a ≡ true → (a || b) ≡ true
-or_left true b h = refl
-or_left false b h = cc
+use Rattle.cluster_laws.proofs.Apart.{turned}
 
 -- all listed ids look the same
 pub map_listed : (a b : Id → Seen) (ids : List Id) → ((i : Id) → is_listed i ids ≡ true → a i ≡ b i) → map a ids ≡ map b ids

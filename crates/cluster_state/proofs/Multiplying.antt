@@ -22,12 +22,15 @@ use Rattle.cluster_laws.proofs.Closed.{closed}
 use Rattle.cluster_laws.proofs.Copies.{Copied, AllCopied, all_copied}
 use Rattle.task_table.specs.Seen.{begun, seen_in}
 use Rattle.cluster_state.specs.Plain.{look, plain_of, told, noted, copy_of, copies_in, copied_out}
-use Rattle.cluster_state.proofs.Lists.{map_listed, turned}
+use Rattle.cluster_state.proofs.Lists.{map_listed}
 use Rattle.cluster_state.proofs.Pieces.{look_is}
 use Rattle.cluster_state.proofs.Blank.{blank}
 use Rattle.cluster_state.proofs.Exact.{seen_is, unsettled, unpurged}
-use Rattle.cluster_state.proofs.Told.{noted_is, or_false}
+use Rattle.cluster_state.proofs.Told.{noted_is}
 use Rattle.cluster_state.proofs.Adding.{place_front, place_back, kept_first, has_request, has_body}
+use Rattle.cluster_types.proofs.Options.{some_is}
+use Rattle.cluster_laws.proofs.Apart.{turned}
+use Rattle.cluster_types.proofs.Booleans.{or_false}
 
 abbrev after_copies : Facts → ℕ → ℕ → ℕ → Message → List Id → Option (List Copy) → Facts
 after_copies f conn moment word m ids c = record f {
@@ -89,10 +92,6 @@ find_back (d ∷ front) rest c h =
     second_off : (a b : Bool) → (a || b) ≡ false → b ≡ false
     second_off true b k = cc
     second_off false b k = k
-
-some_is : {X : Type 0} (o : Option X) → is_some o ≡ true → (x : X) × (o ≡ Some x)
-some_is None h = cc
-some_is (Some x) h = (x, refl)
 
 -- what is read of copies: all of them, and one of them with the ones before and behind it
 pub record Among (h : History) (m : Message) (ids : List Id) (all front rest : List Copy) (c : Copy) : Type 0 where

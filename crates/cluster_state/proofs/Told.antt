@@ -18,17 +18,15 @@ use Rattle.cluster_defs.specs.Acceptance.{accepted}
 use Rattle.cluster_defs.specs.Purges.{purged_by, copied_by}
 use Rattle.cluster_defs.specs.Steps.{step, changes, engines_in, with_joined, reply_from}
 use Rattle.cluster_defs.specs.Outcomes.{number_of}
-use Rattle.cluster_defs.proofs.Options.{or_else-None, none_from, same_id, id_self}
+use Rattle.cluster_defs.proofs.Options.{or_else-None, same_id, id_self}
 use Rattle.cluster_laws.proofs.Closed.{Closed, home_idle}
 use Rattle.task_table.specs.Seen.{replied_with, changed}
 use Rattle.cluster_state.specs.Plain.{Plain, look, plain_of, told, noted, engine_ended, joined_by, echoed_by, replied_by}
 use Rattle.cluster_state.proofs.Lists.{changed_one, map_all}
 use Rattle.cluster_state.proofs.Pieces.{seen_from, look_is}
 use Rattle.cluster_state.proofs.Inputs.{ends_seen}
-
-pub or_false : (b : Bool) → (b || false) ≡ b
-or_false true = refl
-or_false false = refl
+use Rattle.cluster_types.proofs.Booleans.{or_false}
+use Rattle.cluster_types.proofs.Options.{none_of}
 
 -- the facts after a message that makes no task and lets none go
 abbrev pub after_quiet : Facts → ℕ → ℕ → ℕ → Message → Option Event → Facts
@@ -129,7 +127,7 @@ reply_other f conn moment word m name header ok declined id off =
 -- a reply that counts is for a task that isn't settled
 counts_open : (f : Facts) (conn : ℕ) (header : List ℕ) (name : Id) → Closed f → counts f.engines.live conn header (f.task name) ≡ true → f.settled name ≡ None
 counts_open f conn header name is on =
-    none_from (f.settled name) (false_from_ne_true _ (λ some. both_ways (counts f.engines.live conn header (f.task name)) (home_idle f.engines.live (f.task name).last conn _ (is.idle name some)) on))
+    none_of (f.settled name) (false_from_ne_true _ (λ some. both_ways (counts f.engines.live conn header (f.task name)) (home_idle f.engines.live (f.task name).last conn _ (is.idle name some)) on))
 
 reply_here : (f : Facts) (conn moment word : ℕ) (m : Message) (name : Id) (header : List ℕ) (ok declined : Bool) → Closed f → counts f.engines.live conn header (f.task name) ≡ true →
     look (after_quiet f conn moment word m (Some (Reply name header ok declined))) name ≡ replied_with header (ending (is_direct_id f name) ok declined) (parts_of m) (look f name)

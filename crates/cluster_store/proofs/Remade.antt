@@ -21,17 +21,12 @@ use Rattle.cluster_store.specs.Remaking.{IsDecision, IsRemade, Refuses}
 use Rattle.cluster_store.proofs.Fits.{length_more}
 use Rattle.cluster_store.proofs.Stepping.{Step, step_of}
 use Rattle.cluster_store.proofs.Waits.{is_nil, kept_some}
+use Rattle.cluster_types.proofs.Lists.{front_at}
 
 -- LISTS
 
 pub turned : (e : Entry) (es : List Entry) (h : History) → reverse (e ∷ es) ++ h ≡ reverse es ++ e ∷ h
 turned e es h = ap (λ (xs : List Entry). xs ++ h) (reverse-append (e ∷ []) es) ∙ append_assoc (reverse es) (e ∷ []) h
-
-take_get : {X : Type 0} (xs : List X) (n : ℕ) (x : X) → slice_get xs n ≡ Some x → take (suc n) xs ≡ take n xs ++ x ∷ []
-take_get [] zero x is = cc
-take_get [] (suc n) x is = cc
-take_get (y ∷ ys) zero x is = let same : y ≡ x = cc in ap (λ z. z ∷ []) same
-take_get (y ∷ ys) (suc n) x is = ap (λ zs. y ∷ zs) (take_get ys n x is)
 
 pub record Item {X : Type 0} (xs : List X) (n : ℕ) : Type 0 where
   pub item : X
@@ -128,7 +123,7 @@ differs h ds behind n each more there same other s =
     let d = item_at ds n more in
     let e = item_at behind n there in
     let is : due (facts (reverse (take n behind) ++ h)) ≡ Some d.item = ap (λ (xs : List Entry). due (facts (reverse xs ++ h))) (sym same) ∙ next_due h ds n d.item each d.is in
-    let allowed = last_allowed h (take n behind) e.item (subst (MayStand h) (take_get behind n e.item e.is) s) in
+    let allowed = last_allowed h (take n behind) e.item (subst (MayStand h) (front_at behind n e.item e.is) s) in
     other (e.is ∙ ap (λ (x : Entry). Some x) (allowed_due (reverse (take n behind) ++ h) e.item d.item is allowed) ∙ sym d.is)
 
 -- and they don't rest

@@ -26,7 +26,7 @@ firsts : (mark : ℕ) (ws : List Waiting) → map (λ (p : Out × Bool). p.0) (m
 firsts mark [] = refl
 firsts mark (w ∷ ws) = ap (λ (xs : List Out). w.out ∷ xs) (firsts mark ws)
 
-firsts_by : (mark : ℕ) (ss : List Sending) → map (λ (p : Out × Bool). p.0) (map (judged_by mark) ss) ≡ map (λ (s : Sending). s.1) ss
+pub firsts_by : (mark : ℕ) (ss : List Sending) → map (λ (p : Out × Bool). p.0) (map (judged_by mark) ss) ≡ map (λ (s : Sending). s.1) ss
 firsts_by mark [] = refl
 firsts_by mark (s ∷ ss) = ap (λ (xs : List Out). s.1 ∷ xs) (firsts_by mark ss)
 

@@ -16,8 +16,10 @@ use Rattle.clap.specs.declared.parser.matches.ArgMatches.{ArgMatches}
 use Rattle.clap.proofs.WalkLemmas.{raw_values-rows}
 use Rattle.command_words.specs.Items.{Item, place, choice, dashed, is_formed, is_known, items_of, known, known_items, place_in, value_under}
 use Rattle.command_words.specs.Simple.{HasItems, has_option, simple_of, values_of, word_id}
-use Rattle.command_words.proofs.Walk.{IsWell, Judged, Verdict, both, put, put_item, run, same_bytes, stand}
-use Rattle.command_words.proofs.Rules.{apart, faultless, faulty, none_added_for, or_true, read_for, rows_for, shape_for, simple_and_free}
+use Rattle.command_words.proofs.Walk.{IsWell, Judged, Verdict, put, put_item, run, same_bytes, stand}
+use Rattle.command_words.proofs.Rules.{apart, faultless, faulty, none_added_for, read_for, rows_for, shape_for, simple_and_free}
+use Rattle.std.proofs.lemmas.Bool.{and_parts}
+use Rattle.cluster_types.proofs.Booleans.{or_true}
 
 -- THE VALUES OF AN ID
 
@@ -87,7 +89,7 @@ gathers : (options : List Text) (id : Text) (g : Item → Option Text)
     → (items : List Item) → list_all (is_known options) items ≡ true → (rows : List Row) → values_at id (fold put_item rows items) ≡ values_at id rows ++ filter_map g items
 gathers options id g each [] k rows = sym (append-nil (values_at id rows))
 gathers options id g each (item ∷ items) k rows =
-    let parts = both (is_known options item) (list_all (is_known options) items) k in
+    let parts = and_parts (is_known options item) (list_all (is_known options) items) k in
     gathers options id g each items parts.1 (put_item rows item) ∙ ap (λ (xs : List Text). xs ++ filter_map g items) (each rows item parts.0) ∙ gather (values_at id rows) (filter_map g items) (g item)
 
 other_way : (a b : Text) → bytes_eq a b ≡ false → bytes_eq b a ≡ false
@@ -140,7 +142,7 @@ module _ (options : List Text) (none : has_option options word_id ≡ false) whe
     comes_well : (r : Result ArgMatches Error) → Parses r → (items : List Item) → list_all (is_known options) items ≡ true
         → IsWell (shape_for name options) options (read_for name options none) (stand nothing_held idle) words (fold put_item [] items) → Comes r (Some items)
     comes_well (Ok m) p items k w =
-        let simple = (both (is_simple (simple_of name options)) (is_free_app (built (simple_of name options))) (simple_and_free name options)).0 in
+        let simple = (and_parts (is_simple (simple_of name options)) (is_free_app (built (simple_of name options))) (simple_and_free name options)).0 in
         (from_rows m items k ((p.0 simple).0 ∙ none_added_for name options (rows_for name options none words) ∙ w.rows_are), tt)
     comes_well (Err e) p items k w = (tt, memory_alone e (Some items) (subst (λ (kinds : Kinds). HasKind kinds e) (faultless name options none words (fold put_item [] items) w) p.1))
 

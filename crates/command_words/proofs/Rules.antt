@@ -12,6 +12,7 @@ use Rattle.clap.specs.Takes.{is_given}
 use Rattle.clap.specs.Faults.{check_fault, defaults_fault, entered_fault, fault_of, is_simple_and_free, settle_fault, walk_fault}
 use Rattle.command_words.specs.Simple.{has_option, option_rule, simple_of, word_id, word_rule}
 use Rattle.command_words.proofs.Walk.{IsRead, IsWell, fault_from, first_nil, second_nil, option_filled, stand, word_filled}
+use Rattle.cluster_types.proofs.Booleans.{or_false, or_true}
 
 -- ITS RULES
 
@@ -21,14 +22,6 @@ rules_for options = map option_filled options ++ word_filled ∷ []
 rules_filled : (options : List Text) → filled_from 1 (map option_rule options ++ word_rule ∷ []) ≡ rules_for options
 rules_filled [] = refl
 rules_filled (o ∷ os) = ap (λ (rs : List Rule). option_filled o ∷ rs) (rules_filled os)
-
-or_false : (b : Bool) → (b || false) ≡ b
-or_false true = refl
-or_false false = refl
-
-pub or_true : (b : Bool) → (b || true) ≡ true
-or_true true = refl
-or_true false = refl
 
 both_same : {X : Type 0} (b : Bool) (x : X) → cond b x x ≡ x
 both_same true x = refl

@@ -11,6 +11,8 @@ use Rattle.clap.specs.Faults.{settle_fault, turn_fault, use_fault, walk_fault}
 use Rattle.command_words.specs.Items.{Item, place, choice, dashed, is_formed, is_known, ahead, items_of}
 use Rattle.command_words.specs.Simple.{option_rule, word_id, word_rule, has_option}
 use Rattle.command_words.proofs.Words.{Form, IsNamed, IsOption, IsPlain, IsWhole, form_of, items_alone, items_dashed, items_name, items_parted, named, plain, plain_item, plain_name, whole}
+use Rattle.std.proofs.lemmas.Bool.{and_parts}
+use Rattle.cluster_types.proofs.Booleans.{and_false}
 
 -- an option and the positional words, as building leaves them
 abbrev pub option_filled : Text → Rule
@@ -61,14 +63,6 @@ first_nil (k ∷ ks) b e = absurd (true≢false (ap is_cons e))
 pub second_nil : (a b : Kinds) → or_else a b ≡ [] → b ≡ []
 second_nil [] b e = e
 second_nil (k ∷ ks) b e = absurd (true≢false (ap is_cons e))
-
-pub both : (a b : Bool) → (a && b) ≡ true → (a ≡ true) × (b ≡ true)
-both true b e = (refl, e)
-both false b e = absurd (true≢false (sym e))
-
-and_false : (b : Bool) → (b && false) ≡ false
-and_false true = refl
-and_false false = refl
 
 pub same_bytes : (t : Text) → bytes_eq t t ≡ true
 same_bytes t = (bytes_eq-Decides t t).1 refl
@@ -287,8 +281,8 @@ module _ (s : Shape) (options : List Text) (r : IsRead s.rules options) where
 
   pub run : (words : List Text) → list_all is_formed words ≡ true → Runs words
   run [] f = run_none
-  run (word ∷ []) f = run_one word (form_of word (both (is_formed word) true f).0)
+  run (word ∷ []) f = run_one word (form_of word (and_parts (is_formed word) true f).0)
   run (word ∷ next ∷ rest) f =
-      let g = both (is_formed word) (is_formed next && list_all is_formed rest) f in
-      let h = both (is_formed next) (list_all is_formed rest) g.1 in
+      let g = and_parts (is_formed word) (is_formed next && list_all is_formed rest) f in
+      let h = and_parts (is_formed next) (list_all is_formed rest) g.1 in
       run_more word next rest (form_of word g.0) (form_of next h.0) (run rest h.1) (run (next ∷ rest) g.1)

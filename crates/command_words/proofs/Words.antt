@@ -4,6 +4,7 @@ use Rattle.std.specs.List.{position_or_len, before_first, after_first}
 use Rattle.std.specs.Str.{bytes_eq}
 use Rattle.clap.specs.Lexer.{long_of, short_of}
 use Rattle.command_words.specs.Items.{place, choice, dash, dashes, dashed, is_dashed, is_formed, is_equals, has_equals, is_name, alone, ahead, items_of}
+use Rattle.std.proofs.lemmas.Bool.{false_from_ne_true}
 
 -- a word without a dash ahead
 pub record IsPlain (word : List ℕ) : Type 0 where
@@ -34,15 +35,11 @@ pub data Form (word : List ℕ) : Type 0 where
   named : (name : List ℕ) → IsNamed word name → Form word
   whole : (name value : List ℕ) → IsWhole word name value → Form word
 
-not_true : (b : Bool) → (b ≡ true → ⊥) → b ≡ false
-not_true true n = absurd (n refl)
-not_true false n = refl
-
 -- an octet is a dash, or no test finds one
 dash_or : (c : ℕ) → (c ≡ 45) ⊎ ((eqb c 45 ≡ false) × (eqb 45 c ≡ false))
 dash_or c = elim (eqb c 45) as (λ b. eqb c 45 ≡ b → (c ≡ 45) ⊎ ((eqb c 45 ≡ false) × (eqb 45 c ≡ false))) [
   | true ↦ λ e. inl (eqb-true c 45 e)
-  | false ↦ λ e. inr (e, not_true (eqb 45 c) (λ f. true≢false (sym (eq-eqb c 45 (sym (eqb-true 45 c f))) ∙ e)))
+  | false ↦ λ e. inr (e, false_from_ne_true (eqb 45 c) (λ f. true≢false (sym (eq-eqb c 45 (sym (eqb-true 45 c f))) ∙ e)))
 ] refl
 
 plain_at : (c : ℕ) (cs : List ℕ) → eqb c 45 ≡ false → eqb 45 c ≡ false → IsPlain (c ∷ cs)

@@ -3,6 +3,7 @@ use Rattle.std.proofs.Common.{◌≡◌, ℕ, suc, zero, ◌+◌, ◌≤◌, min
 use Rattle.std.specs.Prelude.{◌==◌, ◌⊎◌, Option, Some, None, option_map}
 use Rattle.std.proofs.lemmas.Bool.{eq-eqb, eqb-true}
 use Rattle.database_text.specs.Comparison.{first_difference, end_difference}
+use Rattle.cluster_types.proofs.Numbers.{chosen, swapped}
 
 -- ---- what is in front doesn't matter
 
@@ -16,20 +17,11 @@ end_behind at (x ∷ front) xs ys = rw (eq-eqb x x refl) (end_behind (at + 1) fr
 
 -- ---- either text may come first
 
-same_turned : (x y : ℕ) → (x == y) ≡ (y == x)
-same_turned x y = elim (x == y) as (λ b. (x == y) ≡ b → b ≡ (y == x)) [
-  | true ↦ λ e. sym (eq-eqb y x (sym (eqb-true x y e)))
-  | false ↦ λ e. elim (y == x) as (λ b. (y == x) ≡ b → false ≡ b) [
-    | true ↦ λ f. sym e ∙ eq-eqb x y (sym (eqb-true y x f))
-    | false ↦ λ f. refl
-  ] refl
-] refl
-
 pub first_turned : (at : ℕ) (xs ys : List ℕ) → first_difference at xs ys ≡ first_difference at ys xs
 first_turned at [] [] = refl
 first_turned at [] (y ∷ ys) = refl
 first_turned at (x ∷ xs) [] = refl
-first_turned at (x ∷ xs) (y ∷ ys) = rw (same_turned x y, first_turned (at + 1) xs ys) refl
+first_turned at (x ∷ xs) (y ∷ ys) = rw (swapped x y, first_turned (at + 1) xs ys) refl
 
 -- ---- more behind a text
 
@@ -57,10 +49,6 @@ first_shifted k at (x ∷ xs) (y ∷ ys) =
     (ap (λ (n : ℕ). first_difference n xs ys) (omega arith) ∙ first_shifted k (at + 1) xs ys)
 
 -- ---- no difference, and the same octets
-
-chosen : {A : Type 0} (b : Bool) (x y z : A) → cond b x y ≡ z → ((b ≡ true) × (x ≡ z)) ⊎ ((b ≡ false) × (y ≡ z))
-chosen true x y z e = inl (refl, e)
-chosen false x y z e = inr (refl, e)
 
 pub first_none : (at : ℕ) (xs ys : List ℕ) → first_difference at xs ys ≡ None → (n : ℕ) → n ≤ length xs → n ≤ length ys → take n xs ≡ take n ys
 first_none at xs ys e zero le_xs le_ys = refl

@@ -16,16 +16,12 @@ use Rattle.record_codec.proofs.Lengths.{length-be32}
 use Rattle.task_journal.specs.declared.gate.Gate.TheVariants.{Open}
 use Rattle.task_journal.specs.Journal.{holding, records_at, gate_in, found_from, head, StandsFor}
 use Rattle.task_journal.proofs.Batches.{records_again, count_fits}
-use Rattle.task_journal.proofs.Crash.{closed_gate}
+use Rattle.task_journal.proofs.Crash.{closed_gate, number_is}
 use Rattle.task_journal.proofs.Gates.{found_skip}
 use Rattle.task_journal.proofs.On.{journal_headed}
 use Rattle.database_text.specs.Compact.{most_octets, has_room, batches_from, batch_front, open_batch, compacted, FitsBatch, HasJournal}
 
 -- ---- a batch
-
-number_is : (n : ℕ) (rest : List ℕ) → n < 2 ^ 32 → from_be_bytes w32 (take 4 (be32 n ++ rest)) ≡ n
-unfolding be32
-number_is n rest lt = ap (from_be_bytes w32) (take_at (be32 n) rest 4 refl) ∙ from_be_bytes-to_be_bytes_4 n lt
 
 -- what stands behind the gate of a batch
 inner : List Entry → List ℕ

@@ -8,16 +8,13 @@ use Rattle.std.specs.Result.{OnErr}
 use Rattle.edges.specs.Streams.{Added}
 use Rattle.database_text.specs.Sent.{SentSome}
 use Rattle.database_text.specs.Texts.{WroteFront}
+use Rattle.edges.proofs.Additions.{added_both}
 
 -- of a whole, a part was written, and the rest is still to come
 pub record Sent (whole : List ℕ) (before now : Option (List ℕ)) (rest : List ℕ) : Type 0 where
   pub front : List ℕ
   pub parts : whole ≡ front ++ rest
   pub added : Added front before now
-
-pub added_both : (a b : List ℕ) (u v w : Option (List ℕ)) → Added a u v → Added b v w → Added (a ++ b) u w
-added_both a b None v w p q = rw (q, p) refl
-added_both a b (Some xs) v w p q = rw (q, p) (ap Some (append_assoc xs a b))
 
 pub front_take : (whole : List ℕ) (n : ℕ) (u v : Option (List ℕ)) → Added (take n whole) u v → WroteFront whole u v
 front_take whole n u v p = record { front = take n whole; rest = drop n whole; parts = sym (take-append-drop n whole); added = p }
@@ -75,7 +72,3 @@ sent_line list u v lines s entry more is = record {
 -- a front of a part is one of the whole
 pub front_on : {part : List ℕ} {u v : Option (List ℕ)} → WroteFront part u v → (more : List ℕ) → WroteFront (part ++ more) u v
 front_on p more = record { front = p.front; rest = p.rest ++ more; parts = ap (λ (xs : List ℕ). xs ++ more) p.parts ∙ append_assoc p.front p.rest more; added = p.added }
-
-pub at_err : {T E Q : Type 0} (r : Result T E) → Q → OnErr r Q
-at_err (Ok x) q = tt
-at_err (Err e) q = q

@@ -14,9 +14,10 @@ use Rattle.task_journal.proofs.Loops.{regroup, none_before, fails_along}
 use Rattle.task_journal.proofs.Finding.{bind_fails}
 use Rattle.database_text.specs.Texts.{WroteFront}
 use Rattle.database_text.specs.Given.{Gave, HasEnded, OfText}
-use Rattle.database_text.proofs.Standing.{found_is, one_list}
+use Rattle.database_text.proofs.Standing.{found_is}
 use Rattle.edges.specs.Streams.{Added}
 use Rattle.database_text.proofs.Fronts.{Sent, front_on, sent_none, sent_all, sent_more, sent_front, sent_line, sent_wrote}
+use Rattle.cluster_store.proofs.Opens.{same_stands}
 
 -- nothing came yet
 pub gave_none : (tells : Type 0) (content : List ℕ) (total : Result Found OpenFault) (at : Standing) → (tells → IsOn at content) → (tells → to_come at content ≡ total) → Gave tells content total at []
@@ -69,7 +70,7 @@ of_part {list = list} g P all = (
 -- a fact of all lines
 pub of_whole : {tells : Type 0} {content : List ℕ} {at : Standing} {list : List Entry} → Gave tells content (journal content) at list → (tells → HasEnded content at) → (P : List ℕ → Type 0) → P (text list) → OfText tells content P
 of_whole {content = content} {list = list} g ended P is =
-    ((list, is), λ told whole stands. subst (λ (xs : List Entry). P (text xs)) (one_list content list whole (gave_all g ended told) stands) is)
+    ((list, is), λ told whole stands. subst (λ (xs : List Entry). P (text xs)) (same_stands content list whole (gave_all g ended told) stands) is)
 
 -- a front of the lines that came is one of all lines
 pub front_part : {tells : Type 0} {content : List ℕ} {at : Standing} {list : List Entry} → Gave tells content (journal content) at list → (u v : Option (List ℕ)) → WroteFront (text list) u v → tells → (whole : List Entry) → StandsFor content whole

@@ -6,22 +6,11 @@ use denote.Ref.{Bor}
 use Rattle.cluster_defs.specs.Words.{Id}
 use Rattle.cluster_defs.specs.Purges.{Copy}
 use Rattle.cluster_defs.specs.Thin.{narrowed}
-
-or_false : (b : Bool) → (b || false) ≡ b
-or_false true = refl
-or_false false = refl
+use Rattle.cluster_types.proofs.Booleans.{or_false, and_true, and_false}
 
 or_again : (a b c : Bool) → ((a || b) || c) ≡ (a || (b || c))
 or_again true b c = refl
 or_again false b c = refl
-
-and_true : (b : Bool) → (b && true) ≡ b
-and_true true = refl
-and_true false = refl
-
-and_false : (b : Bool) → (b && false) ≡ false
-and_false true = refl
-and_false false = refl
 
 -- of a list and one item more
 any_more : {X : Type 0} (p : X → Bool) (xs : List X) (x : X) → list_any p (xs ++ x ∷ []) ≡ (list_any p xs || p x)

@@ -1,4 +1,4 @@
-mod Fronts
+pub mod Fronts
 mod Giving
 mod Printing
 mod Places

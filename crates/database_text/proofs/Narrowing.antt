@@ -7,10 +7,7 @@ use Rattle.cluster_defs.specs.Thin.{narrowed}
 use Rattle.database_text.specs.declared.notes.Note.{Note}
 use Rattle.database_text.specs.declared.notes.Note.TheVariants.{Nothing, Accepts, Answers, Makes}
 use Rattle.database_text.specs.Thinning.{copies_in, gone_through}
-
-and_true : (b : Bool) → (b && true) ≡ b
-and_true true = refl
-and_true false = refl
+use Rattle.cluster_types.proofs.Booleans.{and_true}
 
 -- where no copies are made nothing is held
 narrowed_none : (gone : Id → Bool) → narrowed gone [] ≡ gone

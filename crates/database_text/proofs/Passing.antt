@@ -17,6 +17,7 @@ use Rattle.entry_outs.specs.Reached.{IsNext}
 use Rattle.database_text.specs.declared.notes.Note.{Note}
 use Rattle.database_text.specs.Notes.{note_of, notes_of}
 use Rattle.database_text.proofs.Histories.{turned}
+use Rattle.cluster_core.proofs.Plans.{turned_at}
 
 -- the data are those of the history, and the notes those of its entries
 pub record IsPassed (h : History) (p : Plain) (notes : List Note) : Type 0 where
@@ -52,12 +53,6 @@ passed_more h e p q notes note legal time is noted after =
       time = subst (λ (x : Plain). x.moment ≤ last_moment) (sym stands) (moment_more (facts h) e (event_in (facts h) e) before time);
       notes_are = reverse-append notes (note ∷ []) ∙ ap (λ ns. note ∷ ns) is.notes_are ∙ ap (λ n. n ∷ notes_of h) (noted ∙ ap (λ f. note_of f e) told);
     }
-
--- a list, turned at the entry at a place
-turned_at : (xs : List Entry) (i : ℕ) (e : Entry) → i < length xs → e ≡ get_or xs i e → reverse xs ≡ reverse (drop (i + 1) xs) ++ e ∷ reverse (take i xs)
-turned_at xs i e lt is =
-    ap reverse (sym (take-append-drop (i + 1) xs)) ∙ reverse-append (take (i + 1) xs) (drop (i + 1) xs)
-    ∙ ap (λ ys. reverse (drop (i + 1) xs) ++ ys) (turned xs i e lt is)
 
 legal_at : (xs : List Entry) (i : ℕ) (e : Entry) → i < length xs → e ≡ get_or xs i e → Legal (reverse xs) → Legal (e ∷ reverse (take i xs))
 legal_at xs i e lt is legal = legal_below (reverse (drop (i + 1) xs)) (e ∷ reverse (take i xs)) (subst Legal (turned_at xs i e lt is) legal)

@@ -13,10 +13,6 @@ use Rattle.database_text.specs.Texts.{IsDamaged}
 pub found_is : (a b : Found) → ◌≡◌ {A = Result Found OpenFault} (Ok a) (Ok b) → a ≡ b
 found_is a b e = cc
 
--- a disk stands for one list
-pub one_list : (octets : List ℕ) (a b : List Entry) → StandsFor octets a → StandsFor octets b → a ≡ b
-one_list octets a b p q = ap (λ (f : Found). f.entries) (found_is (holding a p.0) (holding b q.0) (sym p.1 ∙ q.1))
-
 ok_is_no_fault : (found : Found) (fault : OpenFault) → ◌≡◌ {A = Result Found OpenFault} (Ok found) (Err fault) → ⊥
 ok_is_no_fault found fault e = cc
 

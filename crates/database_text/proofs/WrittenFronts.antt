@@ -11,14 +11,7 @@ use Rattle.std.specs.List.{flat_map}
 use Rattle.task_journal.specs.Journal.{head}
 use Rattle.database_text.specs.Compact.{open_batch, batches, closing, compacted}
 use Rattle.database_text.specs.Sent.{Sent, SentSome}
-
-added_none : (w : Option (List ℕ)) → Added [] w w
-added_none None = refl
-added_none (Some xs) = ap Some (sym (append-nil xs))
-
-added_both : (a b : List ℕ) (u v w : Option (List ℕ)) → Added a u v → Added b v w → Added (a ++ b) u w
-added_both a b None v w p q = rw (q, p) refl
-added_both a b (Some xs) v w p q = rw (q, p) (ap Some (append_assoc xs a b))
+use Rattle.edges.proofs.Additions.{added_none, added_both}
 
 -- nothing is written yet
 pub sent_none : (whole : List ℕ) (w : Option (List ℕ)) → Sent whole w w whole
@@ -53,14 +46,6 @@ record_off list i entry pending more lt at is =
     let step : suc i ≡ i + 1 = omega arith in
     let next : drop i list ≡ entry ∷ drop (i + 1) list = drop-cons list i entry lt ∙ ap (λ (e : Entry). e ∷ drop (suc i) list) (sym at) ∙ ap (λ (n : ℕ). entry ∷ drop n list) step in
     rw (next, is) (sym (append_assoc pending (spelling entry) (spellings (drop (i + 1) list))))
-
-pub at_err : {T E Q : Type 0} (r : Result T E) → Q → OnErr r Q
-at_err (Ok x) q = tt
-at_err (Err e) q = q
-
-pub at_ok : {T E Q : Type 0} (r : Result T E) → Q → OnOk r Q
-at_ok (Ok x) q = q
-at_ok (Err e) q = tt
 
 -- the rest is written
 pub sent_done : {whole : List ℕ} {u v : Option (List ℕ)} {rest : List ℕ} → Sent whole u v rest → (w : Option (List ℕ)) → Added rest v w → Added whole u w

@@ -12,11 +12,11 @@ ghost use Rattle.database_text.specs.Texts.{IsDamaged, IsRefusal, Told, DiffersA
 ghost use Rattle.database_text.specs.Given.{Gave, HasEnded, OfText};
 ghost use Rattle.database_text.specs.Compared.{IsAhead, turns};
 
+use crate::comparison::Comparison;
 use crate::database::{add_line, ending_at, whole_on};
 use command_words::ending::Ending;
 use disk_model::disk::Disk;
 use edges::source::{Got, Source};
-use crate::comparison::Comparison;
 use std::alloc::{AllocError, Global};
 use task_journal::cursor::{Cursor, Placed};
 use task_journal::fault::OpenFault;

@@ -13,15 +13,15 @@ ghost use Rattle.database_text.specs.Texts.{IsRefusal, WroteFront};
 ghost use Rattle.database_text.specs.Compacted.{thin_list, compact_octets, HoldsNoFit, IsUnfitAt, IsCompacted};
 
 use crate::database::list_on;
+use crate::fault::WriteError;
+use crate::thinning::thinned;
+use crate::writing::write_journal;
 use cluster_types::entry::{Entries, Entry};
 use command_words::ending::Ending;
-use crate::fault::WriteError;
-use crate::writing::write_journal;
 use disk_model::disk::Disk;
 use edges::sink::Sink;
 use load_schemes::chooser::Chooser;
 use std::alloc::{AllocError, Global};
-use crate::thinning::thinned;
 
 /// The entries of a list without what purges let go.
 #[tactic(auto, unfolding(crate::specs::Compacted::thin_list))]

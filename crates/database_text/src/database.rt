@@ -11,11 +11,11 @@ ghost use Rattle.task_journal.specs.Reads.{OnlyReads};
 ghost use Rattle.database_text.specs.Texts.{IsDamaged, IsRefusal};
 ghost use Rattle.database_text.specs.Compacted.{IsUnfitAt};
 
+use crate::lines::put_line;
 use cluster_store::opening::read_list;
 use cluster_types::entry::Entries;
 use command_words::ending::Ending;
 use disk_model::disk::Disk;
-use crate::lines::put_line;
 use load_schemes::chooser::Chooser;
 use std::alloc::{AllocError, Global};
 use task_journal::cursor::{Cursor, Placed};

@@ -10,10 +10,10 @@ use cluster_types::event::Event;
 use cluster_types::message::Ids;
 use cluster_types::sequence::Sequence;
 use cluster_types::text::Text;
+use resubmission::distinct::once;
 use std::alloc::{AllocError, Global};
 use std::marker::Model;
 use task_attempts::attempts::one_more;
-use resubmission::distinct::once;
 
 /// A new id, with the old one whose request it got.
 #[derive(Drop)]

@@ -3,36 +3,24 @@ use Rattle.std.proofs.Common.{◌≡◌, ap, sym, ◌∙◌, ℕ, List, [], ◌�
 use Rattle.std.specs.Prelude.{find, nat_eq}
 use Rattle.std.specs.List.{list_any}
 use Rattle.std.specs.Option.{is_some}
-use Rattle.std.proofs.lemmas.Bool.{eqb-true}
+use Rattle.std.proofs.lemmas.Bool.{eqb-true, or_right, or_left}
 use Rattle.cluster_defs.specs.Words.{Id}
 use Rattle.cluster_defs.specs.declared.settled.Settled.{Settled}
 use Rattle.cluster_defs.specs.Dependencies.{same_engine, apart, scattered}
+use Rattle.cluster_types.proofs.Lists.{any_never, found_passes}
 
 pub same_truth : (a b : Bool) → (a ≡ true → b ≡ true) → (b ≡ true → a ≡ true) → a ≡ b
 same_truth true b to from = sym (to refl)
 same_truth false true to from = from refl
 same_truth false false to from = refl
 
-pub right_of : (a b : Bool) → b ≡ true → (a || b) ≡ true
-right_of true b h = refl
-right_of false b h = h
-
-pub left_of : (a b : Bool) → a ≡ true → (a || b) ≡ true
-left_of true b h = refl
-left_of false b h = cc
-
--- nothing passes a test that is never passed
-pub any_never : {X : Type 0} (p : X → Bool) → ((x : X) → p x ≡ false) → (xs : List X) → list_any p xs ≡ false
-any_never p off [] = refl
-any_never p off (x ∷ xs) = rw (off x) (any_never p off xs)
-
 -- what is found is one of them
 pub found_any : {X : Type 0} (p q : X → Bool) (xs : List X) (x : X) → find p xs ≡ Some x → q x ≡ true → list_any q xs ≡ true
 found_any p q [] x e h = cc
 found_any {X} p q (y ∷ ys) x e h =
     (elim (p y) as (λ b. cond b (Some y) (find p ys) ≡ Some x → (q y || list_any q ys) ≡ true) [
-      | true ↦ λ here. let same : y ≡ x = cc in left_of _ _ (ap q same ∙ h)
-      | false ↦ λ rest. right_of _ _ (found_any p q ys x rest h)
+      | true ↦ λ here. let same : y ≡ x = cc in or_left _ _ (ap q same ∙ h)
+      | false ↦ λ rest. or_right _ _ (found_any p q ys x rest h)
     ]) e
 
 -- one that passes, and what passes of it passes of some
@@ -45,8 +33,8 @@ pub any_among : {X : Type 0} (p : X → Bool) (xs : List X) → list_any p xs �
 any_among p [] h = cc
 any_among {X} p (x ∷ xs) h =
     (elim (p x) as (λ b. p x ≡ b → (b || list_any p xs) ≡ true → Among p (x ∷ xs)) [
-      | true ↦ λ on _. record { one = x; passes = on; again = λ q is. left_of _ _ is }
-      | false ↦ λ _ rest. let a = any_among p xs rest in record { one = a.one; passes = a.passes; again = λ q is. right_of _ _ (a.again q is) }
+      | true ↦ λ on _. record { one = x; passes = on; again = λ q is. or_left _ _ is }
+      | false ↦ λ _ rest. let a = any_among p xs rest in record { one = a.one; passes = a.passes; again = λ q is. or_right _ _ (a.again q is) }
     ]) refl h
 
 -- SCATTERED
@@ -77,14 +65,6 @@ first_apart s ids first f is found =
 at_first : (s : Id → Option Settled) (ids : List Id) (first : Id) (o : Option Settled) → s first ≡ o → is_some o ≡ true → find (λ i. is_some (s i)) ids ≡ Some first → list_any (λ j. apart o (s j)) ids ≡ scattered s ids
 at_first s ids first None is on found = cc
 at_first s ids first (Some f) is on found = first_apart s ids first f is found
-
-found_passes : {X : Type 0} (p : X → Bool) (xs : List X) (x : X) → find p xs ≡ Some x → p x ≡ true
-found_passes p [] x e = cc
-found_passes {X} p (y ∷ ys) x e =
-    (elim (p y) as (λ b. p y ≡ b → cond b (Some y) (find p ys) ≡ Some x → p x ≡ true) [
-      | true ↦ λ on is. let same : y ≡ x = cc in ap p (sym same) ∙ on
-      | false ↦ λ _ is. found_passes p ys x is
-    ]) refl e
 
 -- two of some ids finished on different engines where one did on another than the first that finished
 pub scattered_by_first : (s : Id → Option Settled) (ids : List Id) (first : Id) → find (λ i. is_some (s i)) ids ≡ Some first → list_any (λ j. apart (s first) (s j)) ids ≡ scattered s ids

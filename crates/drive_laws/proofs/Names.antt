@@ -2,7 +2,7 @@
 use Rattle.std.proofs.Common.{◌≡◌, inl, inr, ℕ, List, [], ◌∷◌, ◌++◌, map, Bool, true, false, cond, not, ◌||◌, ◌&&◌, Option, Some, None, refl, ap, ◌∙◌, subst}
 use Rattle.std.specs.Prelude.{filter, bytes_eq, is_none, nat_le, length}
 use Rattle.std.specs.List.{AllByRecursion as Each}
-use Rattle.std.proofs.lemmas.Bool.{or_left}
+use Rattle.std.proofs.lemmas.Bool.{or_left, or_right}
 use Rattle.std.proofs.lemmas.List.Folds.{list_any-append}
 use Rattle.cluster_types.specs.declared.message.Message.{Message}
 use Rattle.cluster_types.specs.declared.event.Event.{Event}
@@ -33,7 +33,6 @@ use Rattle.cluster_defs.proofs.Options.{id_self}
 use Rattle.cluster_defs.proofs.Says.{due_says}
 use Rattle.cluster_laws.proofs.Closed.{found_listed, listed_stays}
 use Rattle.cluster_laws.proofs.Copies.{AllCopied, all_copied}
-use Rattle.cluster_laws.proofs.Lists.{or_right}
 use Rattle.drive_laws.specs.Names.{IsKnown, IsAbout, IsAboutKnown}
 
 -- LISTS

@@ -12,6 +12,8 @@ use Rattle.cluster_store.specs.Worlds.{MayGo, world_after}
 use Rattle.cluster_store.proofs.Taking.{ends_within}
 use Rattle.drive_laws.specs.Sent.{HasSent}
 use Rattle.drive_laws.proofs.Going.{world_on, may_on, sent_on, sent_none}
+use Rattle.tape_drive.proofs.Sorting.{first_on}
+use Rattle.cluster_types.proofs.Numbers.{swapped}
 
 -- what waits to be sent to a connection: all behind what was sent
 pub record Waits (w : World) (order : List Out) (conn : ℕ) : Type 0 where
@@ -61,14 +63,8 @@ end_behind : (xs ys : List Sending) (s : Sending) (n : ℕ) → list_all (λ s. 
 end_behind [] ys s n all = leb-true (kept_end s.0) n (and_parts (nat_le (kept_end s.0) n) (list_all (λ s. nat_le (kept_end s.0) n) ys) all).0
 end_behind (x ∷ xs) ys s n all = end_behind xs ys s n (and_parts (nat_le (kept_end x.0) n) (list_all (λ s. nat_le (kept_end s.0) n) (xs ++ s ∷ ys)) all).1
 
-swapped : (a b : ℕ) → (a == b) ≡ (b == a)
-swapped a b = grind (arith, nat_tests)
-
 one_less : (o : Out) (os : List Out) (conn : ℕ) → (conn_of o == conn) ≡ false → outs_on conn (o ∷ os) ≡ outs_on conn os
 one_less o os conn off = ap (λ b. cond b (o ∷ outs_on conn os) (outs_on conn os)) off
-
-one_here : (o : Out) (os : List Out) → outs_on (conn_of o) (o ∷ os) ≡ o ∷ outs_on (conn_of o) os
-one_here o os = ap (λ b. cond b (o ∷ outs_on (conn_of o) os) (outs_on (conn_of o) os)) (eq-eqb (conn_of o) (conn_of o) refl)
 
 -- one is sent
 record OneSent (w : World) (o : Out) (os : List Out) : Type 0 where
@@ -92,7 +88,7 @@ send_one w o os up safe waits = record {
     v = waits (conn_of o)
 
     here : Split (waits (conn_of o)).waiting o (outs_on (conn_of o) os)
-    here = split v.waiting o (outs_on c os) (v.outs ∙ one_here o os)
+    here = split v.waiting o (outs_on c os) (v.outs ∙ first_on o os)
 
     s : Sending
     s = here.first

@@ -15,7 +15,7 @@ use Rattle.cluster_store.specs.Held.{judged_by}
 use Rattle.cluster_store.specs.Worlds.{MayGo, world_after}
 use Rattle.cluster_store.proofs.Lived.{step_grows}
 use Rattle.cluster_store.proofs.Stepping.{Step, step_of, step_longer}
-use Rattle.cluster_store.proofs.Taking.{end_fits}
+use Rattle.cluster_store.proofs.Taking.{end_fits, firsts_by}
 use Rattle.cluster_store.proofs.Waits.{Sent, sent_before, marked, stepped as stepped_waits}
 use Rattle.tape_drive.specs.Sends.{by_connection}
 use Rattle.tape_drive.specs.Steps.{may_come, stepped, step_outs, stepped_all}
@@ -23,16 +23,13 @@ use Rattle.tape_drive.proofs.Ordered.{kept_on}
 use Rattle.drive_laws.specs.Sent.{IsAtRest, HasSent, GoesOn, steps_outs}
 use Rattle.drive_laws.proofs.Going.{world_on, may_on, sent_on, sent_none, goes_on, goes_nowhere}
 use Rattle.drive_laws.proofs.Sending.{Waits, IsSent, send_all}
+use Rattle.tape_drive.proofs.Unsent.{none_sent}
 
 -- WHAT A STEP ADDS
 
 marks_off : (b : Bool) (os : List Out) → map (λ (p : Out × Bool). p.0) (marked b os) ≡ os
 marks_off b [] = refl
 marks_off b (o ∷ os) = ap (λ (xs : List Out). o ∷ xs) (marks_off b os)
-
-marks_off_by : (mark : ℕ) (ss : List Sending) → map (λ (p : Out × Bool). p.0) (map (judged_by mark) ss) ≡ map (λ (s : Sending). s.1) ss
-marks_off_by mark [] = refl
-marks_off_by mark (s ∷ ss) = ap (λ (xs : List Out). s.1 ∷ xs) (marks_off_by mark ss)
 
 -- what a step sends to a connection stands behind what was sent before it
 record Adds (old new : History) (outs : List Out) (conn : ℕ) : Type 0 where
@@ -44,7 +41,7 @@ adds_of : (mark : ℕ) (old new : History) (base : List Sending) (b : Bool) (con
 adds_of mark old new base b conn same s = record {
   added = s.added;
   are = s.are ∙ ap (λ (xs : List Sending). xs ++ s.added) same;
-  outs_are = sym (marks_off_by mark s.added) ∙ ap (map (λ (p : Out × Bool). p.0)) s.judged_so ∙ marks_off b (outs_on conn (outs_from (length old) new));
+  outs_are = sym (firsts_by mark s.added) ∙ ap (map (λ (p : Out × Bool). p.0)) s.judged_so ∙ marks_off b (outs_on conn (outs_from (length old) new));
 }
 
 before_is : (old : History) (e : Entry) (conn : ℕ) → is_open e ≡ false → sent_before old e conn ≡ sendings_to old conn
@@ -114,16 +111,12 @@ step_goes w input rests may off = record {
     is : world_after w (all_sent.moves ++ Flush (decide_all (Input input ∷ w.history)) ∷ grown.0) ≡ world_after (safe_world w (decide_all (Input input ∷ w.history))) all_sent.moves
     is = world_on w all_sent.moves (Flush new ∷ grown.0) ∙ ap (λ (v : World). world_after v all_sent.moves) safe_is
 
-no_outs : (h : History) → outs_from (length h) h ≡ []
-no_outs [] = refl
-no_outs (e ∷ older) = ap (λ b. cond b [] (outs_from (suc (length older)) older ++ outs (e ∷ older))) (lt-ltb (length older) (suc (length older)) (omega arith))
-
 -- an input that may come is served, another leaves all as it was
 pub input_goes : (w : World) (input : InputType) → IsAtRest w → is_open (Input input) ≡ false → GoesOn w (stepped w.history input) (by_connection (step_outs w.history input))
 input_goes w input rests off =
     elim (may_come w.history input) as (λ b. may_come w.history input ≡ b → GoesOn w (cond b (decide_all (Input input ∷ w.history)) w.history) (by_connection (outs_from (length w.history) (cond b (decide_all (Input input ∷ w.history)) w.history)))) [
       | true ↦ λ may. step_goes w input rests may off
-      | false ↦ λ may. subst (GoesOn w w.history) (ap by_connection (sym (no_outs w.history))) (goes_nowhere w w.history refl rests)
+      | false ↦ λ may. subst (GoesOn w w.history) (ap by_connection (sym (none_sent w.history))) (goes_nowhere w w.history refl rests)
     ] refl
 
 -- inputs that are no Open

@@ -4,33 +4,13 @@ use Rattle.std.specs.Prelude.{filter}
 use Rattle.std.specs.List.{list_any}
 use Rattle.std.proofs.lemmas.List.{get_or_default}
 use Rattle.std.proofs.lemmas.List.Edits.{map_over_more}
-
-pub right_of : (a b : Bool) → b ≡ true → (a || b) ≡ true
-right_of true b h = refl
-right_of false b h = h
-
-pub left_of : (a b : Bool) → a ≡ true → (a || b) ≡ true
-left_of true b h = refl
-left_of false b h = cc
-
--- nothing passes a test that is never passed
-pub any_never : {X : Type 0} (p : X → Bool) → ((x : X) → p x ≡ false) → (xs : List X) → list_any p xs ≡ false
-any_never p off [] = refl
-any_never p off (x ∷ xs) = rw (off x) (any_never p off xs)
+use Rattle.cluster_types.proofs.Lists.{any_never}
 
 -- one that passes, and what passes of it passes of some
 pub record Among {X : Type 0} (p : X → Bool) (xs : List X) : Type 0 where
   pub one : X
   pub passes : p one ≡ true
   pub again : (q : X → Bool) → q one ≡ true → list_any q xs ≡ true
-
-pub any_among : {X : Type 0} (p : X → Bool) (xs : List X) → list_any p xs ≡ true → Among p xs
-any_among p [] h = cc
-any_among {X} p (x ∷ xs) h =
-    (elim (p x) as (λ b. p x ≡ b → (b || list_any p xs) ≡ true → Among p (x ∷ xs)) [
-      | true ↦ λ on _. record { one = x; passes = on; again = λ q is. left_of _ _ is }
-      | false ↦ λ _ rest. let a = any_among p xs rest in record { one = a.one; passes = a.passes; again = λ q is. right_of _ _ (a.again q is) }
-    ]) refl h
 
 pub any_and : {X : Type 0} (b : Bool) (q : X → Bool) (xs : List X) → list_any (λ x. b && q x) xs ≡ (b && list_any q xs)
 any_and true q xs = refl
@@ -39,14 +19,6 @@ any_and false q xs = any_never (λ x. false) (λ x. refl) xs
 pub any_same : {X : Type 0} (p q : X → Bool) → ((x : X) → p x ≡ q x) → (xs : List X) → list_any p xs ≡ list_any q xs
 any_same p q same [] = refl
 any_same p q same (x ∷ xs) = rw (same x, any_same p q same xs) refl
-
-pub filter_alike : {X : Type 0} (p q : X → Bool) → ((x : X) → p x ≡ q x) → (xs : List X) → filter p xs ≡ filter q xs
-filter_alike p q same [] = refl
-filter_alike p q same (x ∷ xs) = rw (same x, filter_alike p q same xs) refl
-
-pub map_alike : {X Y : Type 0} (f g : X → Y) → ((x : X) → f x ≡ g x) → (xs : List X) → map f xs ≡ map g xs
-map_alike f g same [] = refl
-map_alike f g same (x ∷ xs) = rw (same x, map_alike f g same xs) refl
 
 pub map_map : {X Y Z : Type 0} (g : Y → Z) (f : X → Y) (xs : List X) → map g (map f xs) ≡ map (λ x. g (f x)) xs
 map_map g f [] = refl

@@ -11,16 +11,12 @@ use Rattle.task_table.specs.Loading.{load_in, Counts}
 use Rattle.due_decisions.specs.declared.rooms.Room.{Room}
 use Rattle.cluster_defs.specs.Scheduling.{leaves_room}
 use Rattle.due_decisions.specs.Table.{rooms_in}
-use Rattle.due_decisions.proofs.Lists.{map_alike}
-
-or_turn : (a b c : Bool) → (a || (b || c)) ≡ (b || (a || c))
-or_turn true true c = refl
-or_turn true false c = refl
-or_turn false b c = refl
+use Rattle.cluster_types.proofs.Booleans.{or_swap}
+use Rattle.cluster_types.proofs.Lists.{same_map}
 
 any_push : {X : Type 0} (p : X → Bool) (xs : List X) (x : X) → (p x || list_any p xs) ≡ list_any p (xs ++ x ∷ [])
 any_push p [] x = refl
-any_push p (y ∷ xs) x = or_turn (p x) (p y) (list_any p xs) ∙ ap (λ b. p y || b) (any_push p xs x)
+any_push p (y ∷ xs) x = or_swap (p x) (p y) (list_any p xs) ∙ ap (λ b. p y || b) (any_push p xs x)
 
 -- a room more
 pub open_more : (rs : List Room) (r : Room) (old new : List Bool) → ((n : ℕ) → is_set old n ≡ list_any (λ r. r.engine == n) rs) → ((n : ℕ) → is_set new n ≡ (r.engine == n || is_set old n)) → (n : ℕ) → is_set new n ≡ list_any (λ r. r.engine == n) (rs ++ r ∷ [])
@@ -30,5 +26,5 @@ open_more rs r old new is sets n = sets n ∙ ap (λ b. r.engine == n || b) (is 
 pub rooms_counted : (ts : List Seen) (counts by_use : List ℕ) (engines : List Engine) (hwm : ℕ) → Counts ts counts
     → filter (λ (r : Room). leaves_room hwm r.load) (map (λ n. let r : Room = record { engine = n; load = count_of counts n } in r) (filter (λ n. lists_number n engines) by_use)) ≡ rooms_in ts engines hwm by_use
 rooms_counted ts counts by_use engines hwm is =
-    ap (filter (λ (r : Room). leaves_room hwm r.load)) (map_alike (λ n. let r : Room = record { engine = n; load = count_of counts n } in r) (λ n. let r : Room = record { engine = n; load = load_in ts n } in r)
+    ap (filter (λ (r : Room). leaves_room hwm r.load)) (same_map (λ n. let r : Room = record { engine = n; load = count_of counts n } in r) (λ n. let r : Room = record { engine = n; load = load_in ts n } in r)
     (λ n. ap (λ l. let r : Room = record { engine = n; load = l } in r) (is n)) (filter (λ n. lists_number n engines) by_use))

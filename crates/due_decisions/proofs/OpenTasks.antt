@@ -5,8 +5,8 @@ use Rattle.std.specs.Ordering.{nat_cmp}
 use Rattle.std.specs.BTreeMap.{is_at}
 use Rattle.std.specs.List.{list_any}
 use Rattle.std.specs.Option.{is_some}
-use Rattle.std.proofs.lemmas.Bool.{both_ways, ne_eqb, eq-eqb}
-use Rattle.place_sets.proofs.Covering.{found_none, off_from}
+use Rattle.std.proofs.lemmas.Bool.{both_ways, ne_eqb, eq-eqb, false_from_ne_true, or_left, or_right}
+use Rattle.place_sets.proofs.Covering.{found_none}
 use Rattle.place_sets.specs.Sets.{has, holds, holds_at}
 use Rattle.place_sets.specs.Lanes.{in_lane, in_some}
 use Rattle.place_sets.proofs.Leasts.{lane_among}
@@ -26,7 +26,9 @@ use Rattle.task_table.specs.Fitting.{hopeless_as, late_as, is_tied}
 use Rattle.due_decisions.specs.declared.rooms.Room.{Room}
 use Rattle.due_decisions.specs.Table.{settled_in, alone, among, failing_in, ready_as, ready, takes_as, takes, fits, hopeless, late, rooms_for}
 use Rattle.due_decisions.proofs.LaneSteps.{in_none}
-use Rattle.due_decisions.proofs.Lists.{any_and, any_same, any_among, left_of, right_of, filter_alike, filter_none}
+use Rattle.due_decisions.proofs.Lists.{any_and, any_same, filter_none}
+use Rattle.dependency_sets.proofs.Scattered.{any_among}
+use Rattle.cluster_types.proofs.Lists.{same_filter}
 
 regroup : (b k fo ta e : Bool) → (b && (k && fo && ta) && e) ≡ (b && k && (fo && ta && e))
 regroup true true fo ta e = refl
@@ -50,7 +52,7 @@ fits_some ts t rooms = sym (any_same (λ r. fits ts t r.engine) (λ r. ready ts 
 
 -- the rooms that take a task that is ready are those where it may run, and there are none where it isn't
 pub rooms_ready : (ts : List Seen) (t : Seen) (rooms : List Room) → ready ts t ≡ true → filter (λ r. takes ts t r.engine) rooms ≡ rooms_for ts rooms t
-rooms_ready ts t rooms on = filter_alike (λ (r : Room). takes ts t r.engine) (λ r. fits ts t r.engine) (λ r. sym (fits_split ts t r.engine ∙ ap (λ b. b && takes ts t r.engine) on)) rooms
+rooms_ready ts t rooms on = same_filter (λ (r : Room). takes ts t r.engine) (λ r. fits ts t r.engine) (λ r. sym (fits_split ts t r.engine ∙ ap (λ b. b && takes ts t r.engine) on)) rooms
 
 pub rooms_unready : (ts : List Seen) (t : Seen) (rooms : List Room) → ready ts t ≡ false → [] ≡ rooms_for ts rooms t
 rooms_unready ts t rooms off = sym (filter_none (λ (r : Room). fits ts t r.engine) (λ r. fits_split ts t r.engine ∙ ap (λ b. b && takes ts t r.engine) off) rooms)
@@ -103,14 +105,14 @@ fits_covers ts rooms m is i on =
     let a = any_among (λ (r : Room). fits ts t r.engine) rooms fit in
     let n = a.one.engine in
     ⊎_elim
-    (λ here. left_of (has m.free i) (in_some looks m.lanes i) here)
-    (λ here. right_of (has m.free i) (in_some looks m.lanes i) (lane_among looks m.lanes n i (a.again (λ r. r.engine == n) (eq-eqb n n refl)) here))
+    (λ here. or_left (has m.free i) (in_some looks m.lanes i) here)
+    (λ here. or_right (has m.free i) (in_some looks m.lanes i) (lane_among looks m.lanes n i (a.again (λ r. r.engine == n) (eq-eqb n n refl)) here))
     (is.free n i (held (λ u. fits ts u n) (slice_get ts i) t at a.passes)))
 
 -- where no set of those that may run has a place, none may
 pub none_fit : (ts : List Seen) (m : Marks) → Marked ts m → m.free.keys ≡ [] → m.lanes ≡ [] → (rooms : List Room) → find (λ t. list_any (λ r. fits ts t r.engine) rooms) ts ≡ None
 none_fit ts m is free lanes rooms =
-    sym (found_none (λ (t : Seen). list_any (λ (r : Room). fits ts t r.engine) rooms) ts (λ i. off_from (holds_at (λ (t : Seen). list_any (λ (r : Room). fits ts t r.engine) rooms) ts i) (λ on.
+    sym (found_none (λ (t : Seen). list_any (λ (r : Room). fits ts t r.engine) rooms) ts (λ i. false_from_ne_true (holds_at (λ (t : Seen). list_any (λ (r : Room). fits ts t r.engine) rooms) ts i) (λ on.
     holds_one (λ t. list_any (λ r. fits ts t r.engine) rooms) (slice_get ts i) on (λ t at fit.
     let a = any_among (λ (r : Room). fits ts t r.engine) rooms fit in
     let n = a.one.engine in
@@ -160,6 +162,6 @@ fails_covers ts live now m is i on =
     let w = in_some (λ n. not (lists_number n live)) m.watches i in
     let l = in_some (λ n. nat_le n now) m.deadlines i in
     ⊎_elim
-    (λ dead. left_of (d || w) l (⊎_elim (λ here. left_of d w here) (λ some. right_of d w (lane_among (λ n. not (lists_number n live)) m.watches some.0 i some.1 some.2)) (is.hopeless live i (held (hopeless ts live) (slice_get ts i) t at dead))))
-    (λ after. ⊎_elim (λ here. left_of (d || w) l (left_of d w here)) (λ some. right_of (d || w) l (lane_among (λ n. nat_le n now) m.deadlines some.0 i some.1 some.2)) (is.late now i (held (late now) (slice_get ts i) t at after)))
+    (λ dead. or_left (d || w) l (⊎_elim (λ here. or_left d w here) (λ some. or_right d w (lane_among (λ n. not (lists_number n live)) m.watches some.0 i some.1 some.2)) (is.hopeless live i (held (hopeless ts live) (slice_get ts i) t at dead))))
+    (λ after. ⊎_elim (λ here. or_left (d || w) l (or_left d w here)) (λ some. or_right (d || w) l (lane_among (λ n. nat_le n now) m.deadlines some.0 i some.1 some.2)) (is.late now i (held (late now) (slice_get ts i) t at after)))
     (request_fails ts live now t.attempts t.row.id (rests (alone t) t.row.id) t.request fails))

@@ -22,7 +22,8 @@ use Rattle.cluster_state.specs.Plain.{look, tasks_of, plain_of}
 use Rattle.cluster_state.proofs.Exact.{exact}
 use Rattle.due_decisions.specs.declared.rooms.Room.{Room}
 use Rattle.due_decisions.specs.Table.{settled_in, alone, final_at, settle_of, settle_in, failing_in, fail_of, fail_in, direct_of, direct_in, loads, load_in, rooms_in, fits, rooms_for, picked, hand_of, hand_in, due_in}
-use Rattle.due_decisions.proofs.Lists.{filter_alike, map_alike, map_map, filter_map, filter_filter}
+use Rattle.due_decisions.proofs.Lists.{map_map, filter_map, filter_filter}
+use Rattle.cluster_types.proofs.Lists.{same_filter, same_map}
 
 -- LISTS OF WHAT IS SEEN
 
@@ -106,7 +107,7 @@ rooms_same : (f : Facts) → Told f → rooms_in (tasks_of f) f.engines.live f.h
 unfolding room_of
 rooms_same f is =
     let ns = filter (λ n. lists_number n f.engines.live) f.by_use in
-    ap (filter (λ (r : Room). leaves_room f.hwm r.load)) (map_alike (λ n. record { engine = n; load = load_in (tasks_of f) n }) (room_of f) (λ n. ap (λ l. let r : Room = record { engine = n; load = l } in r) (load_same f is n)) ns)
+    ap (filter (λ (r : Room). leaves_room f.hwm r.load)) (same_map (λ n. record { engine = n; load = load_in (tasks_of f) n }) (room_of f) (λ n. ap (λ l. let r : Room = record { engine = n; load = l } in r) (load_same f is n)) ns)
     ∙ filter_map (λ (r : Room). leaves_room f.hwm r.load) (room_of f) ns
     ∙ ap (map (room_of f)) (filter_filter (λ n. room_left f n) (λ n. lists_number n f.engines.live) f.by_use)
 
@@ -139,7 +140,7 @@ rooms_for_same f is id =
     ap (λ rs. rooms_for ts rs (look f id)) (rooms_same f is)
     ∙ filter_map (λ (r : Room). fits ts (look f id) r.engine) (room_of f) (filter ms f.by_use)
     ∙ ap (map (room_of f)) (filter_filter test ms f.by_use
-    ∙ filter_alike (λ n. test n && ms n) (may_run f id)
+    ∙ same_filter (λ n. test n && ms n) (may_run f id)
     (λ n. ap (λ b. b && ms n) (fits_same f is id n) ∙ turn (rests f id) (may_run_as f id n (f.request_of id)) (is_live f n) (not (excludes f id n)) (room_left f n)) f.by_use)
 
 picked_same : (f : Facts) (cs : List ℕ) → picked f.scheme f.word (map (room_of f) cs) ≡ slice_get cs (pick f.scheme (map (load f) cs) f.word)

@@ -8,9 +8,9 @@ ghost use Rattle.cluster_defs.specs.Engines.{lists_number};
 ghost use Rattle.cluster_defs.specs.Scheduling.{leaves_room};
 ghost use Rattle.due_decisions.specs.Table.{rooms_in};
 
+use engine_registry::registry::Registry;
 use place_sets::counts::count;
 use place_sets::flags::set;
-use engine_registry::registry::Registry;
 use std::alloc::{AllocError, Global};
 use task_table::tasks::Tasks;
 

@@ -4,6 +4,7 @@ use Rattle.std.proofs.lemmas.List.{length-drop}
 use Rattle.std.proofs.lemmas.List.{take-append-le, drop-append-le}
 use Rattle.std.proofs.Math.Seq.{drop-append_seam}
 use Rattle.edges.specs.Frames.{cut, start_at, AreEnds}
+use Rattle.cluster_types.proofs.Numbers.{only_part}
 
 -- there are as many frames as ends
 pub cut_length : (from : ℕ) (ends octets : List ℕ) → length (cut from ends octets) ≡ length ends
@@ -14,9 +15,6 @@ cut_length from (end ∷ ends) octets = ap suc (cut_length end ends octets)
 pub ends_within : (from : ℕ) (ends octets : List ℕ) → AreEnds from ends octets → from ≤ length octets
 ends_within from [] octets h = omega (arith)
 ends_within from (end ∷ ends) octets h = let a : end ≤ length octets = ends_within end ends octets h.1 in omega (arith)
-
-only_part : (a b : ℕ) → (a + b) - a ≡ b
-only_part a b = omega arith
 
 take_all : (xs : List ℕ) → take (length xs) xs ≡ xs
 take_all [] = refl

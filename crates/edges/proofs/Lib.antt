@@ -2,3 +2,4 @@ pub mod FramePlaces
 pub mod Pieces
 pub mod DateLemmas
 pub mod DateRows
+pub mod Additions

@@ -23,6 +23,7 @@ use Rattle.engine_core.specs.Contents.{failed_content, executed_content, value_c
 use Rattle.engine_core.specs.Headers.{message_id}
 use Rattle.engine_core.specs.State.{is_uuid, Session, Standing}
 use Rattle.engine_core.specs.Answer.{plain_message, AnswersExecution, Answers}
+use Rattle.edges.proofs.DateRows.{first as first_date}
 
 no_uuid : is_uuid [] ≡ false
 no_uuid = refl
@@ -97,10 +98,6 @@ first_reply msg_type parent content =
 
 abbrev header : List ℕ → List ℕ
 header msg_type = codes "{\"msg_id\":\"a\",\"msg_type\":\"" ++ msg_type ++ codes "\"}"
-
-first_date : date_of 0 ≡ codes "1970-01-01T00:00:00.000Z"
-unfolding from_month from_year civil_date date_digits day_text time_text date_of
-first_date = refl
 
 -- the whole answers to a type that isn't supported, to `6*7`, and to a reply
 apply_answer : Answers (engine 0 0) (plain_message (header (codes "apply_request")) (codes "{}") []) 0 (Some (first_reply (codes "apply_reply") (header (codes "apply_request")) (codes "{\"status\":\"error\",\"execution_count\":0,\"ename\":\"NotSupported\",\"evalue\":\"apply_request\",\"traceback\":[]}"))) (engine 0 1)

@@ -2,19 +2,12 @@
 use Rattle.std.proofs.Common.{◌≡◌, ap, sym, ◌∙◌, ℕ, zero, suc, ◌<◌, ◌≤◌, List, [], ◌∷◌, ◌++◌, length, map, set, get_or, Bool, true, false, cond, not, ◌&&◌, ◌||◌, refl, subst, Option, Some, None, arith}
 use Rattle.std.specs.Prelude.{find, filter, slice_get, nat_lt, ◌==◌}
 use Rattle.std.specs.List.{list_any}
-use Rattle.std.proofs.lemmas.Bool.{both_ways, eqb-true, eq-eqb, ne_eqb}
+use Rattle.std.proofs.lemmas.Bool.{both_ways, eqb-true, eq-eqb, ne_eqb, and_parts, and_from}
 use Rattle.cluster_defs.specs.declared.engine.Engine.{Engine}
 use Rattle.cluster_defs.specs.Engines.{raises, marked, engine_on}
 use Rattle.engine_registry.specs.Places.{passing, engine_at}
 use Rattle.engine_registry.specs.Lone.{are_apart}
-
-both_of : (a b : Bool) → (a && b) ≡ true → (a ≡ true) × (b ≡ true)
-both_of true b h = (refl, h)
-both_of false b h = cc
-
-and_of : (a b : Bool) → a ≡ true → b ≡ true → (a && b) ≡ true
-and_of true b one two = two
-and_of false b one two = one
+use Rattle.cluster_types.proofs.Booleans.{or_false}
 
 off_of : (b : Bool) → not b ≡ true → b ≡ false
 off_of true h = sym h
@@ -53,11 +46,11 @@ any_more p (x ∷ xs) e h off =
 pub apart_more : (live : List Engine) (e : Engine) → are_apart live ≡ true → engine_on live e.conn ≡ None → are_apart (live ++ e ∷ []) ≡ true
 apart_more [] e apart none = refl
 apart_more (x ∷ xs) e apart none =
-    let parts = both_of (not (list_any (λ f. f.conn == x.conn) xs)) (are_apart xs) apart in
+    let parts = and_parts (not (list_any (λ f. f.conn == x.conn) xs)) (are_apart xs) apart in
     (elim (x.conn == e.conn) as (λ b. (x.conn == e.conn) ≡ b → cond b (Some x) (engine_on xs e.conn) ≡ None → are_apart (x ∷ (xs ++ e ∷ [])) ≡ true) [
       | true ↦ λ on h. cc
       | false ↦ λ off h.
-          and_of (not (list_any (λ f. f.conn == x.conn) (xs ++ e ∷ []))) (are_apart (xs ++ e ∷ []))
+          and_from (not (list_any (λ f. f.conn == x.conn) (xs ++ e ∷ []))) (are_apart (xs ++ e ∷ []))
           (ap not (any_more (λ f. f.conn == x.conn) xs e (off_of _ parts.0) (turned x.conn e.conn off)))
           (apart_more xs e parts.1 h)
     ]) refl none
@@ -77,11 +70,11 @@ any_less p q (x ∷ xs) h =
 pub apart_less : (q : Engine → Bool) (live : List Engine) → are_apart live ≡ true → are_apart (filter q live) ≡ true
 apart_less q [] h = h
 apart_less q (x ∷ xs) h =
-    let parts = both_of (not (list_any (λ f. f.conn == x.conn) xs)) (are_apart xs) h in
+    let parts = and_parts (not (list_any (λ f. f.conn == x.conn) xs)) (are_apart xs) h in
     either (q x) (ap not (any_less (λ f. f.conn == x.conn) q xs (off_of _ parts.0))) (apart_less q xs parts.1)
   where
     either : (c : Bool) → not (list_any (λ f. f.conn == x.conn) (filter q xs)) ≡ true → are_apart (filter q xs) ≡ true → are_apart (cond c (x ∷ filter q xs) (filter q xs)) ≡ true
-    either true one two = and_of _ _ one two
+    either true one two = and_from _ _ one two
     either false one two = two
 
 -- ECHOES
@@ -140,13 +133,13 @@ has_at conn (x ∷ xs) (suc i) e lt is on =
 pub one_marked : (conn beat : ℕ) (live : List Engine) (i : ℕ) (e : Engine) → are_apart live ≡ true → i < length live → e ≡ get_or live i e → (e.conn == conn) ≡ true → set live i (marked conn beat e) ≡ map (marked conn beat) live
 one_marked conn beat [] i e apart lt is on = absurd (omega arith)
 one_marked conn beat (x ∷ xs) zero e apart lt is on =
-    let parts = both_of (not (list_any (λ f. f.conn == x.conn) xs)) (are_apart xs) apart in
+    let parts = and_parts (not (list_any (λ f. f.conn == x.conn) xs)) (are_apart xs) apart in
     let same : e ≡ x = is in
     let at : x.conn ≡ conn = eqb-true x.conn conn (subst (λ (y : Engine). (y.conn == conn) ≡ true) same on) in
     let none : list_any (λ f. f.conn == conn) xs ≡ false = subst (λ c. list_any (λ f. f.conn == c) xs ≡ false) at (off_of _ parts.0) in
     rw (none_marked conn beat xs (none_any (λ f. f.conn == conn) xs none), same) refl
 one_marked conn beat (x ∷ xs) (suc i) e apart lt is on =
-    let parts = both_of (not (list_any (λ f. f.conn == x.conn) xs)) (are_apart xs) apart in
+    let parts = and_parts (not (list_any (λ f. f.conn == x.conn) xs)) (are_apart xs) apart in
     let there : list_any (λ f. f.conn == conn) xs ≡ true = has_at conn xs i e (omega arith) is on in
     let rest : set xs i (marked conn beat e) ≡ map (marked conn beat) xs = one_marked conn beat xs i e parts.1 (omega arith) is on in
     (elim (x.conn == conn) as (λ b. (x.conn == conn) ≡ b → (x ∷ set xs i (marked conn beat e)) ≡ (marked conn beat x ∷ map (marked conn beat) xs)) [
@@ -171,19 +164,15 @@ none_raised conn beat (x ∷ xs) h =
 pub none_on : (conn beat : ℕ) (live : List Engine) → engine_on live conn ≡ None → list_any (raises conn beat) live ≡ false
 none_on conn beat live none = none_raised conn beat live (any_none (λ f. f.conn == conn) live none)
 
-or_none : (a : Bool) → (a || false) ≡ a
-or_none true = refl
-or_none false = refl
-
 pub one_raised : (conn beat : ℕ) (live : List Engine) (e : Engine) → are_apart live ≡ true → engine_on live conn ≡ Some e → list_any (raises conn beat) live ≡ nat_lt e.mark beat
 one_raised conn beat [] e apart is = cc
 one_raised conn beat (x ∷ xs) e apart is =
-    let parts = both_of (not (list_any (λ f. f.conn == x.conn) xs)) (are_apart xs) apart in
+    let parts = and_parts (not (list_any (λ f. f.conn == x.conn) xs)) (are_apart xs) apart in
     (elim (x.conn == conn) as (λ b. (x.conn == conn) ≡ b → cond b (Some x) (engine_on xs conn) ≡ Some e → ((b && nat_lt x.mark beat) || list_any (raises conn beat) xs) ≡ nat_lt e.mark beat) [
       | true ↦ λ same is.
           let first : x ≡ e = cc in
           let none : list_any (raises conn beat) xs ≡ false = none_raised conn beat xs (subst (λ c. list_any (λ f. f.conn == c) xs ≡ false) (eqb-true x.conn conn same) (off_of _ parts.0)) in
-          rw none (or_none (nat_lt x.mark beat) ∙ ap (λ (y : Engine). nat_lt y.mark beat) first)
+          rw none (or_false (nat_lt x.mark beat) ∙ ap (λ (y : Engine). nat_lt y.mark beat) first)
       | false ↦ λ _ is. one_raised conn beat xs e parts.1 is
     ]) refl is
 

@@ -168,10 +168,6 @@ tells_mapped {K} test m live f same tells = λ k.
 
 -- PLACES THAT ARE SET
 
-pub has_one : {X : Type 0} (o : Option X) (x : X) → Some x ≡ o → is_some o ≡ true
-has_one None x e = cc
-has_one (Some y) x e = refl
-
 -- the place of a key that has one
 pub pointed : {X : Type 0} (f : Id → Option X) (i j : Id) (v o : Option X) → is_some (f i) ≡ true → o ≡ cond (bytes_eq i j) v (f j) → o ≡ cond (bytes_eq i j && is_some (f j)) v (f j)
 pointed f i j v o there is =
@@ -197,7 +193,3 @@ some_any p (x ∷ xs) =
       | true ↦ refl
       | false ↦ some_any p xs
     ]
-
-pub some_copied : {T : Type 0} (o : Option (Bor T)) → is_some o ≡ is_some (option_copied o)
-some_copied None = refl
-some_copied (Some b) = refl

@@ -2,13 +2,13 @@
 
 ghost use Rattle.std.specs.Prelude.{◌≡◌, []};
 
-use link_commands::client_session::ask_over;
-use link_commands::status::is_ok;
 use cluster_types::sequence::Sequence;
 use cluster_types::shared_message::SharedMessage;
 use edges::memory::{MemSink, MemSource};
-use link_commands::end::SessionEnd;
 use hmac_sign::Key;
+use link_commands::client_session::ask_over;
+use link_commands::end::SessionEnd;
+use link_commands::status::is_ok;
 use std::alloc::Global;
 use std::process::Abort;
 use std::sync::Wait;

@@ -2,9 +2,9 @@
 
 use edges::memory::{MemSink, MemSource};
 use engine_core::engine::Engine;
+use hmac_sign::Key;
 use link_commands::end::SessionEnd;
 use link_commands::engine_session::serve_engine;
-use hmac_sign::Key;
 use std::alloc::Global;
 use std::process::Abort;
 use std::sync::Wait;

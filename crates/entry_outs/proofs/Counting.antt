@@ -24,14 +24,8 @@ use Rattle.task_table.specs.Tallying.{direct_class, finished_class, waiting_clas
 use Rattle.task_table.specs.declared.tallies.Tallies.{Tallies}
 use Rattle.entry_outs.specs.Reached.{Reached}
 use Rattle.entry_outs.specs.Shown.{LoadsShown}
-
-and_true : (b : Bool) → (b && true) ≡ b
-and_true true = refl
-and_true false = refl
-
-and_false : (b : Bool) → (b && false) ≡ false
-and_false true = refl
-and_false false = refl
+use Rattle.cluster_types.proofs.Booleans.{and_true, and_false}
+use Rattle.cluster_laws.proofs.RecordsTell.{runs_there}
 
 -- A COUNT AND A LIST
 
@@ -96,14 +90,6 @@ queue_kept ts tallies n lengths told shown queue completed tasks =
     λ i. record { queue = one i; completed = two i; tasks = three i }
 
 -- LOADS
-
-runs_there : (n : ℕ) (a : Attempt) → (runs a && is_number n (engine_of a)) ≡ runs_at n a
-runs_there n Never = refl
-runs_there n (Running m) = refl
-runs_there n (EndedOk m) = refl
-runs_there n (EndedBadly m) = refl
-runs_there n (Lost m) = refl
-runs_there n (Declined m) = refl
 
 idle_there : (n : ℕ) (a : Attempt) → runs a ≡ false → runs_at n a ≡ false
 idle_there n a idle = sym (runs_there n a) ∙ ap (λ b. b && is_number n (engine_of a)) idle

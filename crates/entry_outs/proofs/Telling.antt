@@ -35,7 +35,7 @@ use Rattle.cluster_defs.specs.Outs.{pass_to, owner_conn, answer_out, repeat_out}
 use Rattle.cluster_defs.specs.TaskRecords.{record_of, records_of}
 use Rattle.cluster_defs.specs.RecordAnswers.{answer_in}
 use Rattle.cluster_defs.specs.RecordPlans.{purge_list_in, purge_in, resubmit_in}
-use Rattle.cluster_defs.proofs.Options.{none_from, some_inj, id_self}
+use Rattle.cluster_defs.proofs.Options.{some_inj, id_self}
 use Rattle.cluster_defs.proofs.Says.{due_says}
 use Rattle.cluster_laws.proofs.Apart.{live_ascend}
 use Rattle.cluster_laws.proofs.RecordsHold.{records_hold}
@@ -59,6 +59,7 @@ use Rattle.resubmission.specs.declared.plan.Renaming.{Renaming}
 use Rattle.resubmission.specs.declared.plan.ResubmitRefusal.{ResubmitRefusal}
 use Rattle.resubmission.specs.declared.plan.ResubmitRefusal.TheVariants.{OutOfMemory}
 use Rattle.std.proofs.lemmas.Bool.{both_ways}
+use Rattle.cluster_types.proofs.Options.{none_of}
 
 -- WHAT THE DATA STAND FOR
 
@@ -189,7 +190,7 @@ outcome_none p id is = rw is refl
 -- of an id that is settled now
 settle_look : (f : Facts) (id : Id) (v : Verdict) (c : Cause) → is_settled f id ≡ false →
     outcome_for (settled_as v c f.moment (f.task id)) c (look f id) ≡ outcome (step f (Settle id v c) None) id
-settle_look f id v c off = by_cause c (none_from (f.settled id) off)
+settle_look f id v c off = by_cause c (none_of (f.settled id) off)
   where
     by_cause : (k : Cause) → f.settled id ≡ None → outcome_for (settled_as v k f.moment (f.task id)) k (look f id) ≡ outcome (step f (Settle id v k) None) id
     by_cause Reply none = rw (none, id_self id) refl

@@ -10,8 +10,8 @@ ghost use Rattle.entry_outs.specs.Shown.{LoadsShown};
 use cluster_state::state::State;
 use cluster_types::record::{Record, Records};
 use cluster_types::text::Text;
-use place_sets::counts::count;
 use hub_queries::lengths::{Lengths, QueueCounts};
+use place_sets::counts::count;
 use task_table::tasks::Tasks;
 
 /// The records of all tasks of a cluster, in order of number.

@@ -8,6 +8,8 @@ use mathlib.Core.Logic.{⊎_elim}
 use Rattle.cluster_types.specs.declared.entry.Entry.{Entry}
 use Rattle.history_lock.specs.declared.known.Content.{Content}
 use Rattle.history_lock.specs.History.{is_open_entry, Rises, greater, Extends, merged}
+use Rattle.cluster_types.proofs.Booleans.{or_off_right}
+use Rattle.std.proofs.lemmas.Bool.{or_from}
 
 greater_at : (xs ys : List ℕ) (k : ℕ) → get_or (greater xs ys) k 0 ≡ max (get_or xs k 0) (get_or ys k 0)
 greater_at [] ys k = sym (max-eq_right (omega arith))
@@ -24,18 +26,6 @@ rises_right xs ys k = rw (greater_at xs ys k) (le-max_right _ _)
 rises_both : (xs ys zs : List ℕ) → Rises xs zs → Rises ys zs → Rises (greater xs ys) zs
 rises_both xs ys zs p q k = rw (greater_at xs ys k) (max-le (p k) (q k))
 
-or_right : (a b : Bool) → (a || b) ≡ false → b ≡ false
-or_right true b e = absurd (true≢false e)
-or_right false b e = e
-
-or_left : (a b : Bool) → (a || b) ≡ false → a ≡ false
-or_left true b e = e
-or_left false b e = refl
-
-or_both : (a b : Bool) → a ≡ false → b ≡ false → (a || b) ≡ false
-or_both true b p q = p
-or_both false b p q = q
-
 -- of two ends of one list the longer ends with the shorter
 ends : (p q xs ys : List Entry) → p ++ xs ≡ q ++ ys → length xs ≤ length ys → (r : List Entry) × (ys ≡ r ++ xs) × (p ≡ q ++ r)
 ends p [] xs ys e le = (p, sym e, refl)
@@ -49,7 +39,7 @@ pub extends_on : (a b c : Content) → Extends a b → Extends b c → Extends a
 extends_on a b c p q = record {
   beyond = q.beyond ++ p.beyond;
   list = q.list ∙ (ap (λ l. q.beyond ++ l) p.list ∙ sym (append_assoc q.beyond p.beyond a.list));
-  no_open = rw (list_any-append is_open_entry q.beyond p.beyond) (or_both _ _ q.no_open p.no_open);
+  no_open = rw (list_any-append is_open_entry q.beyond p.beyond) (or_from _ _ q.no_open p.no_open);
   counts = λ k. le_trans (p.counts k) (q.counts k);
 }
 
@@ -57,7 +47,7 @@ extends_on a b c p q = record {
 raised : (a b c : Content) (counts : List ℕ) → Extends a c → Extends b c → length a.list ≤ length b.list → Rises a.counts counts → Extends a (record { list = b.list; counts = counts })
 raised a b c counts p q le rise =
     let t = ends p.beyond q.beyond a.list b.list (sym p.list ∙ q.list) le in
-    record { beyond = t.0; list = t.1; no_open = or_right (list_any is_open_entry q.beyond) (list_any is_open_entry t.0) (sym (list_any-append is_open_entry q.beyond t.0) ∙ (ap (list_any is_open_entry) (sym t.2) ∙ p.no_open)); counts = rise }
+    record { beyond = t.0; list = t.1; no_open = or_off_right (list_any is_open_entry q.beyond) (list_any is_open_entry t.0) (sym (list_any-append is_open_entry q.beyond t.0) ∙ (ap (list_any is_open_entry) (sym t.2) ∙ p.no_open)); counts = rise }
 
 abbrev Between : Content → Content → Content → List Entry → Type 0
 Between a b c l = Extends a (record { list = l; counts = greater a.counts b.counts }) × Extends b (record { list = l; counts = greater a.counts b.counts })

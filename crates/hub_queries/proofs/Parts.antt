@@ -11,23 +11,7 @@ use Rattle.cluster_defs.specs.RecordAnswers.{lives_in}
 use Rattle.jupyter_header.specs.Comma.{comma}
 use Rattle.resubmission.specs.Plans.{copy_of, pair_of}
 use Rattle.resubmission.specs.declared.plan.Renaming.{Renaming}
-
-pub parted_more : (pieces : List (List ℕ)) (piece : List ℕ) → parted (pieces ++ piece ∷ []) ≡ parted pieces ++ (comma (length pieces) ++ piece)
-parted_more [] piece = append-nil piece
-parted_more (first ∷ rest) piece =
-    let some : (suc (length rest) == 0) ≡ false = grind arith in
-    let more : flat_map (λ p. 44 ∷ p) (rest ++ piece ∷ []) ≡ flat_map (λ p. 44 ∷ p) rest ++ (44 ∷ piece) =
-    flat_map-append (λ p. 44 ∷ p) rest (piece ∷ []) ∙ ap (λ z. flat_map (λ p. 44 ∷ p) rest ++ z) (append-nil (44 ∷ piece)) in
-    rw some (ap (λ z. first ++ z) more ∙ sym (append_assoc first (flat_map (λ p. 44 ∷ p) rest) (44 ∷ piece)))
-
--- one more member of a list that is parted by commas
-pub members_more : {X : Type 0} (f : X → List ℕ) (xs : List X) (place : ℕ) (x : X) → place < length xs → x ≡ get_or xs place x
-    → parted (map f (take (place + 1) xs)) ≡ parted (map f (take place xs)) ++ (comma place ++ f x)
-members_more f xs place x inside is =
-    let one : take (place + 1) xs ≡ take place xs ++ x ∷ [] = take_more xs place x inside ∙ ap (λ z. take place xs ++ z ∷ []) (sym is) in
-    let long : length (map f (take place xs)) ≡ place = length-map (take place xs) f ∙ length-take-le place xs (omega arith) in
-    ap (λ z. parted (map f z)) one ∙ ap parted (map-append f (take place xs) (x ∷ []))
-    ∙ parted_more (map f (take place xs)) (f x) ∙ ap (λ n. parted (map f (take place xs)) ++ (comma n ++ f x)) long
+use Rattle.jupyter_header.proofs.Commas.{parted_more}
 
 -- one more item that a function may leave out
 kept_one : {Y : Type 0} (o : Option Y) → cons_option o [] ≡ option_to_list o

@@ -1,7 +1,7 @@
 -- One more record in the rows of a queue reply.
 use Rattle.std.proofs.Common.{◌≡◌, ◌<◌, ℕ, suc, zero, List, [], ◌∷◌, ◌++◌, length, map, set, get_or, Option, Some, None, Bool, true, false, true≢false, not, ◌&&◌, ◌||◌, if◌then◌else◌, nat_eq, is_some, refl, sym, ap, ◌∙◌, arith, append-nil}
 use Rattle.std.specs.List.{list_any}
-use Rattle.std.proofs.lemmas.Bool.{ne_eqb, eqb-false}
+use Rattle.std.proofs.lemmas.Bool.{ne_eqb, eqb-false, or_parts}
 use Rattle.std.proofs.lemmas.Bool.Decides.{nat_tests}
 use Rattle.cluster_types.specs.declared.record.Record.{Record}
 use Rattle.cluster_defs.specs.Words.{Id, is_number}
@@ -37,10 +37,6 @@ rows_without verbose rs r (n ∷ ns) h =
     let off : is_number n r.engine ≡ false = ap (is_number n) h in
     rw (row_same verbose rs r n off) (ap (λ z. row_of verbose rs n ∷ z) (rows_without verbose rs r ns h))
 
-or_off : (a b : Bool) → (a || b) ≡ false → (a ≡ false) × (b ≡ false)
-or_off true b h = absurd (true≢false h)
-or_off false b h = (refl, h)
-
 flip : (a b : ℕ) → nat_eq a b ≡ false → nat_eq b a ≡ false
 flip a b h = ne_eqb b a (λ e. eqb-false a b h (sym e))
 
@@ -49,7 +45,7 @@ pub rows_off : (verbose : Bool) (rs : List Record) (r : Record) (number : ℕ) (
     → r.engine ≡ Some number → list_any (λ m. nat_eq m number) ns ≡ false → map (row_of verbose (rs ++ r ∷ [])) ns ≡ map (row_of verbose rs) ns
 rows_off verbose rs r number [] on off = refl
 rows_off verbose rs r number (n ∷ ns) on off =
-    let both = or_off (nat_eq n number) (list_any (λ m. nat_eq m number) ns) off in
+    let both = or_parts (nat_eq n number) (list_any (λ m. nat_eq m number) ns) off in
     let here : is_number n r.engine ≡ false = ap (is_number n) on ∙ flip n number both.0 in
     rw (row_same verbose rs r n here) (ap (λ z. row_of verbose rs n ∷ z) (rows_off verbose rs r number ns on both.1))
 

@@ -12,6 +12,7 @@ use Rattle.cluster_defs.specs.Queries.{refusal, is_hub, is_too_long, limited}
 use Rattle.hub_queries.specs.declared.weights.Measure.{Measure}
 use Rattle.hub_queries.specs.declared.weights.Measure.TheVariants.{Text, BufferCount, BufferOctets}
 use Rattle.hub_queries.specs.Weights.{measure, weight, is_heavy}
+use Rattle.std.proofs.lemmas.Bool.{and_parts}
 
 pub weight_append : (by : Measure) (rs ss : List Settled) → weight by (rs ++ ss) ≡ weight by rs + weight by ss
 weight_append by [] ss = let same : weight by ss ≡ 0 + weight by ss = omega arith in same
@@ -93,10 +94,6 @@ heavy_is_long pending completed rs heavy =
     (more_passes 58 (weight BufferCount rs) (length buffers) (omega (arith, count_is rs)))
     heavy
 
-both : (a b : Bool) → (a && b) ≡ true → (a ≡ true) × (b ≡ true)
-both true b h = (refl, h)
-both false b h = absurd (true≢false (sym h))
-
 gives_way : (channel : Channel) (a : Answer) → is_hub channel ≡ true → is_too_long a ≡ true → refusal (codes "ReplyTooLong") [] [] ≡ limited channel a
 gives_way channel a hub long = rw (hub, long) refl
 
@@ -104,5 +101,5 @@ gives_way channel a hub long = rw (hub, long) refl
 pub heavy_gives_way : (channel : Channel) (pending completed : List Id) (rs : List Settled) → (is_hub channel && is_heavy rs) ≡ true
     → refusal (codes "ReplyTooLong") [] [] ≡ limited channel (record { content = result_content pending completed rs; buffers = flat_map (λ r. r.outcome.buffers) rs })
 heavy_gives_way channel pending completed rs h =
-    let parts = both (is_hub channel) (is_heavy rs) h in
+    let parts = and_parts (is_hub channel) (is_heavy rs) h in
     gives_way channel (record { content = result_content pending completed rs; buffers = flat_map (λ r. r.outcome.buffers) rs }) parts.0 (heavy_is_long pending completed rs parts.1)

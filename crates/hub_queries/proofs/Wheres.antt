@@ -6,10 +6,7 @@ use Rattle.std.proofs.lemmas.List.Elements.{filter-append}
 use Rattle.cluster_defs.proofs.Options.{some_inj}
 use Rattle.cluster_types.specs.declared.record.Record.{Record}
 use Rattle.cluster_defs.specs.RecordAnswers.{ids_where}
-
-one : (p : Record → Bool) (r : Record) (b : Bool) → map (λ (s : Record). s.id) (if b then r ∷ [] else []) ≡ (if b then r.id ∷ [] else [])
-one p r true = refl
-one p r false = refl
+use Rattle.resubmission.proofs.Wheres.{one}
 
 pub where_append : (p : Record → Bool) (rs : List Record) (r : Record) → ids_where p (rs ++ r ∷ []) ≡ ids_where p rs ++ (if p r then r.id ∷ [] else [])
 where_append p rs r =

@@ -25,10 +25,10 @@ use cluster_types::text::Text;
 use cluster_types::verdict::{Cause, Verdict};
 use jupyter_header::contents::texts_list;
 use jupyter_header::write::quoted;
-use std::alloc::{AllocError, Global};
-use std::marker::Model;
 use resubmission::distinct::once;
 use resubmission::standing::{Standing, ids_that};
+use std::alloc::{AllocError, Global};
+use std::marker::Model;
 
 /// What is written of settled tasks so far: their number, their members parted by commas, and their buffers.
 #[derive(Debug, Drop)]

@@ -7,7 +7,7 @@ use Rattle.json.specs.Print.{quoted}
 use Rattle.message_defs.specs.Texts.{parted}
 use Rattle.jupyter_header.specs.Comma.{comma}
 
-parted_more : (pieces : List (List ℕ)) (piece : List ℕ) → parted (pieces ++ piece ∷ []) ≡ parted pieces ++ (comma (length pieces) ++ piece)
+pub parted_more : (pieces : List (List ℕ)) (piece : List ℕ) → parted (pieces ++ piece ∷ []) ≡ parted pieces ++ (comma (length pieces) ++ piece)
 parted_more [] piece = append-nil piece
 parted_more (first ∷ rest) piece =
     let some : (suc (length rest) == 0) ≡ false = grind arith in

@@ -3,3 +3,4 @@ pub mod Short
 pub mod Commas
 pub mod Onces
 pub mod Borrowed
+pub mod CommasMore

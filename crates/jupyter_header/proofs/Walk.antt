@@ -11,7 +11,7 @@ off front (x ∷ y ∷ []) h = absurd (true≢false (sym h))
 off front (x ∷ y ∷ z ∷ rest) h = rw h refl
 
 -- any other octet stays
-on : (front : List ℕ) (x : ℕ) (rest : List ℕ) → (begins_with_fraction (x ∷ rest) && ends_in_timeout front) ≡ false → whole_behind front (x ∷ rest) ≡ x ∷ whole_behind (front ++ x ∷ []) rest
+pub on : (front : List ℕ) (x : ℕ) (rest : List ℕ) → (begins_with_fraction (x ∷ rest) && ends_in_timeout front) ≡ false → whole_behind front (x ∷ rest) ≡ x ∷ whole_behind (front ++ x ∷ []) rest
 on front x [] h = refl
 on front x (y ∷ rest) h = rw h refl
 

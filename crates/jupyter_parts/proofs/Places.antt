@@ -2,6 +2,7 @@
 use Rattle.std.proofs.Common.{◌≡◌, ◌<◌, ◌+◌, ℕ, zero, suc, List, [], ◌∷◌, ◌++◌, length, take, drop, find, slice_get, Some, Err, true, false, bytes_eq, arith, refl, ap, add-one}
 use Rattle.jupyter_parts.specs.Signed.{is_delimiter, identities, behind, is_target, signature, message_in}
 use Rattle.jupyter_parts.specs.declared.fault.PartsError.TheVariants.{TooFewParts, BadSignature}
+use Rattle.cluster_types.proofs.Lists.{front_at}
 
 rest_at : {A : Type 0} (xs : List A) (i : ℕ) (x : A) → slice_get xs i ≡ Some x → drop i xs ≡ x ∷ drop (suc i) xs
 rest_at [] i x h = cc
@@ -10,11 +11,6 @@ rest_at (y ∷ ys) (suc i) x h = rest_at ys i x h
 
 pub rest_from : {A : Type 0} (xs : List A) (i : ℕ) (x : A) → slice_get xs i ≡ Some x → (next : ℕ) → next ≡ i + 1 → drop i xs ≡ x ∷ drop next xs
 rest_from xs i x h next e = rw (e, add-one) (rest_at xs i x h)
-
-front_at : {A : Type 0} (xs : List A) (i : ℕ) (x : A) → slice_get xs i ≡ Some x → take (suc i) xs ≡ take i xs ++ x ∷ []
-front_at [] i x h = cc
-front_at (y ∷ ys) zero x h = cc
-front_at (y ∷ ys) (suc i) x h = ap (λ z. y ∷ z) (front_at ys i x h)
 
 pub front_to : {A : Type 0} (xs : List A) (i : ℕ) (x : A) → slice_get xs i ≡ Some x → (next : ℕ) → next ≡ i + 1 → take next xs ≡ take i xs ++ x ∷ []
 front_to xs i x h next e = rw (e, add-one) (front_at xs i x h)

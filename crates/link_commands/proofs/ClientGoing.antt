@@ -7,12 +7,13 @@ use Rattle.edges.specs.Streams.{Added, Took}
 use Rattle.edges.proofs.Pieces.{took_more}
 use Rattle.link_commands.specs.EngineSession.{AddedFront}
 use Rattle.link_commands.proofs.EngineGoing.{took_none}
-use Rattle.link_commands.proofs.EngineHearing.{added_more, added_none, front_behind, front_whole}
+use Rattle.link_commands.proofs.EngineHearing.{front_behind, front_whole}
 use Rattle.link_commands.proofs.Order.{quiet_gives, with_identity}
 use Rattle.zmtp_frames.specs.Greeting.{own_greeting}
 use Rattle.zmtp_peer.specs.declared.fault.PeerFault.{PeerFault}
 use Rattle.zmtp_peer.specs.PeerStream.{Talk, begins, talked, sent, identity, or_later, messages, fault_of}
 use Rattle.zmtp_peer.proofs.Pieces.{talked_append, sent_append, identity_append, messages_append}
+use Rattle.edges.proofs.Additions.{added_both, added_none}
 
 -- THE ANSWER WITH ONE PIECE MORE
 
@@ -89,7 +90,7 @@ added_piece : (key : List ℕ) (request : Message) (octets piece : List ℕ) (t 
     Added (due key request octets) old new → Added (due_for key request t piece) new next → Added (due key request (octets ++ piece)) old next
 added_piece key request octets piece t old new next is added more =
     subst (λ (xs : List ℕ). Added xs old next) (sym (due_more key request octets piece))
-    (added_more (due key request octets) (due_for key request (talked begins octets) piece) old new next added
+    (added_both (due key request octets) (due_for key request (talked begins octets) piece) old new next added
     (subst (λ (u : Talk). Added (due_for key request u piece) new next) is more))
 
 -- the answer with one piece more

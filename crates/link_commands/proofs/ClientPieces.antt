@@ -7,15 +7,16 @@ use Rattle.edges.specs.Streams.{Added}
 use Rattle.link_commands.specs.declared.end.SessionEnd.{SessionEnd}
 use Rattle.link_commands.specs.declared.end.SessionEnd.TheVariants.{LinkFault}
 use Rattle.link_commands.specs.EngineSession.{AddedFront}
-use Rattle.link_commands.proofs.EngineHearing.{added_more, added_none, front_behind}
+use Rattle.link_commands.proofs.EngineHearing.{front_behind}
 use Rattle.zmtp_peer.specs.PeerStream.{Talk, sent, identity}
+use Rattle.edges.proofs.Additions.{added_both, added_none}
 
 pub nothing_written : (xs : List ℕ) (x : Option (List ℕ)) → AddedFront xs x x
 nothing_written xs x = record { front = []; rest = xs; parts = refl; added = added_none x }
 
 -- octets behind others that were written
 pub ok_behind : {T E : Type 0} (r : Result T E) (a b : List ℕ) (x y z : Option (List ℕ)) → Added a x y → OnOk r (Added b y z) → OnOk r (Added (a ++ b) x z)
-ok_behind (Ok t) a b x y z first more = added_more a b x y z first more
+ok_behind (Ok t) a b x y z first more = added_both a b x y z first more
 ok_behind (Err e) a b x y z first more = tt
 
 pub err_behind : {T E : Type 0} (r : Result T E) (a b : List ℕ) (x y z : Option (List ℕ)) → Added a x y → OnErr r (AddedFront b y z) → OnErr r (AddedFront (a ++ b) x z)

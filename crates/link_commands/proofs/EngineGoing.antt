@@ -9,7 +9,8 @@ use Rattle.zmtp_peer.specs.declared.fault.PeerFault.{PeerFault}
 use Rattle.zmtp_peer.specs.PeerStream.{Talk, begins, talked, sent, messages, fault_of}
 use Rattle.zmtp_peer.proofs.Pieces.{talked_append, messages_append}
 use Rattle.link_commands.specs.EngineSession.{Writes, AddedFront, WrotePiece, WroteOfPiece, IsWhole, IsFront}
-use Rattle.link_commands.proofs.EngineHearing.{with_piece, added_more, front_behind, front_whole}
+use Rattle.link_commands.proofs.EngineHearing.{with_piece, front_behind, front_whole}
+use Rattle.edges.proofs.Additions.{added_both}
 
 -- octets were read, and all that is due for them was written
 pub record Going (key : List ℕ) (before : Standing) (left rest old new : Option (List ℕ)) (after : Standing) (t : Talk) : Type 0 where
@@ -60,7 +61,7 @@ goes_on key before mid after left rest later old new next t piece g took w =
       talk_is = ap (λ (u : Talk). talked u piece) g.talk_is ∙ sym (talked_append begins g.octets piece);
       writes = subst (λ (ms : List (List (List ℕ))). Writes key before (g.octets ++ piece) ms (g.written ++ sent (talked begins g.octets) piece ++ p.opening ++ p.answers) after) (sym (messages_append begins g.octets piece))
           (with_piece key before mid after g.octets piece g.written p.opening p.answers (messages (talked begins g.octets) piece) g.writes p.opens p.hears);
-      added = subst (λ (xs : List ℕ). Added xs old next) (regroup g.written (sent (talked begins g.octets) piece) p.opening p.answers) (added_more g.written (sent (talked begins g.octets) piece ++ p.opening ++ p.answers) old new next g.added p.added);
+      added = subst (λ (xs : List ℕ). Added xs old next) (regroup g.written (sent (talked begins g.octets) piece) p.opening p.answers) (added_both g.written (sent (talked begins g.octets) piece ++ p.opening ++ p.answers) old new next g.added p.added);
     }
 
 pub ends_with : (key : List ℕ) (before after : Standing) (left rest old new : Option (List ℕ)) (t : Talk) (fault : Option PeerFault) →

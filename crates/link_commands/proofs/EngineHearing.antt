@@ -12,6 +12,7 @@ use Rattle.zmtp_peer.specs.PeerStream.{Talk, begins, talked, sent, identity, mes
 use Rattle.zmtp_peer.proofs.Pieces.{sent_append, identity_append}
 use Rattle.link_commands.specs.EngineSession.{octets_of, Hears, HearAll, IsJoin, Opens, Writes, AddedFront, WroteAll, WroteSome, WrotePiece, WroteOfPiece}
 use Rattle.link_commands.proofs.Order.{quiet_gives, with_identity, without_identity}
+use Rattle.edges.proofs.Additions.{added_none, added_both}
 
 pub hear_append : (key : List ℕ) (before mid after : Standing) (xs ys : List (List (List ℕ))) (o p : List ℕ) → HearAll key before xs o mid → HearAll key mid ys p after → HearAll key before (xs ++ ys) (o ++ p) after
 hear_append key before mid after [] ys o p h k = rw h.0 (subst (λ (s : Standing). HearAll key s ys p after) h.1 k)
@@ -77,16 +78,12 @@ with_piece key before mid after octets piece written opening answers heard w ope
 
 -- OCTETS THAT ARE WRITTEN
 
-pub added_more : (a b : List ℕ) (x y z : Option (List ℕ)) → Added a x y → Added b y z → Added (a ++ b) x z
-added_more a b None y z first next = next ∙ rw first refl
-added_more a b (Some written) y z first next = next ∙ rw first (ap Some (append_assoc written a b))
-
 pub front_behind : (a b : List ℕ) (x y z : Option (List ℕ)) → Added a x y → AddedFront b y z → AddedFront (a ++ b) x z
 front_behind a b x y z first f = record {
   front = a ++ f.front;
   rest = f.rest;
   parts = ap (λ (o : List ℕ). a ++ o) f.parts ∙ sym (append_assoc a f.front f.rest);
-  added = added_more a f.front x y z first f.added;
+  added = added_both a f.front x y z first f.added;
 }
 
 pub front_of_more : (a b : List ℕ) (x y : Option (List ℕ)) → AddedFront a x y → AddedFront (a ++ b) x y
@@ -94,10 +91,6 @@ front_of_more a b x y f = record { front = f.front; rest = f.rest ++ b; parts = 
 
 pub front_whole : (a : List ℕ) (x y : Option (List ℕ)) → Added a x y → AddedFront a x y
 front_whole a x y added = record { front = a; rest = []; parts = sym (append-nil a); added = added }
-
-pub added_none : (x : Option (List ℕ)) → Added [] x x
-added_none None = refl
-added_none (Some written) = ap Some (sym (append-nil written))
 
 -- PARTS OF WHAT IS DUE FOR A PIECE
 
@@ -148,7 +141,7 @@ answers_of_piece key before t piece opening x y u v added opens more some = reco
   opens = opens;
   parts = some.parts;
   hears = some.hears;
-  added = front_behind (sent t piece ++ opening) some.octets x u v (added_more (sent t piece) opening x y u added more) some.added;
+  added = front_behind (sent t piece ++ opening) some.octets x u v (added_both (sent t piece) opening x y u added more) some.added;
 }
 
 pub piece_is_done : (key : List ℕ) (before after : Standing) (t : Talk) (piece opening answers : List ℕ) (x y u v : Option (List ℕ)) → Added (sent t piece) x y → Opens key before.uuid (identity t piece) opening → Added opening y u → HearAll key before (messages t piece) answers after → Added answers u v → WrotePiece key before t piece x v after
@@ -157,18 +150,10 @@ piece_is_done key before after t piece opening answers x y u v added opens more 
   answers = answers;
   opens = opens;
   hears = hears;
-  added = added_more (sent t piece ++ opening) answers x u v (added_more (sent t piece) opening x y u added more) last;
+  added = added_both (sent t piece ++ opening) answers x u v (added_both (sent t piece) opening x y u added more) last;
 }
 
 -- ERRORS
-
-pub at_err : {T E Q : Type 0} (r : Result T E) → Q → OnErr r Q
-at_err (Ok x) q = tt
-at_err (Err e) q = q
-
-pub at_ok : {T E Q : Type 0} (r : Result T E) → Q → OnOk r Q
-at_ok (Ok x) q = q
-at_ok (Err e) q = tt
 
 -- MESSAGES OF A LIST, ONE MORE
 
@@ -205,7 +190,7 @@ pub all_next : (key : List ℕ) (before mid after : Standing) (messages : List (
 all_next key before mid after messages i frames p x y z lt at w h added = (
   w.0 ++ p,
   subst (λ (ms : List (List (List ℕ))). HearAll key before ms (w.0 ++ p) after) (sym (take_more messages i frames lt at)) (hear_one key before mid after (take i messages) frames w.0 p w.1 h),
-  added_more w.0 p x y z w.2 added,
+  added_both w.0 p x y z w.2 added,
 )
 
 pub unjoined : (key uuid : List ℕ) (moment : ℕ) (x : Option (List ℕ)) → moment ≤ last_moment → (octets : List ℕ) × IsJoin key uuid octets × AddedFront octets x x

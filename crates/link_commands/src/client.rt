@@ -8,13 +8,13 @@ ghost use Rattle.link_commands.specs.ClientEnds.{IsPrinted, ClientEnds};
 ghost use Rattle.link_commands.specs.Links.{IsDialled};
 
 use crate::actions::{channel_for, message_for};
-use crate::random::drawn;
 use crate::client_session::ask_over;
+use crate::end::SessionEnd;
+use crate::random::drawn;
 use crate::status::is_ok;
 use cluster_types::shared_message::SharedMessage;
 use command_words::standing::Action;
 use edges::sink::{Sink, WriteFailed, write_all};
-use crate::end::SessionEnd;
 use hmac_sign::Key;
 use std::alloc::{AllocError, Global};
 use std::sync::Wait;

@@ -6,10 +6,10 @@ ghost use Rattle.engine_core.specs.State.{is_uuid};
 ghost use Rattle.link_commands.specs.EngineEnds.{EngineEnds};
 ghost use Rattle.link_commands.specs.Links.{IsDialled};
 
-use engine_core::engine::Engine;
-use engine_core::error::EngineError;
 use crate::end::SessionEnd;
 use crate::engine_session::serve_engine;
+use engine_core::engine::Engine;
+use engine_core::error::EngineError;
 use hmac_sign::Key;
 use std::alloc::Global;
 use std::sync::Wait;

@@ -8,8 +8,8 @@ ghost use Rattle.zmtp_peer.specs.declared.fault.PeerFault.{PeerFault as Fault};
 ghost use Rattle.zmtp_peer.specs.PeerStream.{talked, fault_of};
 ghost use Rattle.link_commands.specs.EngineSession.{IsJoin, Opens, IsWhole, IsFront, AddedFront, WrotePiece, WroteOfPiece};
 
-use crate::engine_answers::answer_all;
 use crate::end::SessionEnd;
+use crate::engine_answers::answer_all;
 use crate::writing::{octets_of, write};
 use cluster_types::octets::Octets;
 use edges::sink::Sink;

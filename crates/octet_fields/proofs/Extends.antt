@@ -8,6 +8,7 @@ use Rattle.cluster_types.specs.declared.config.Channel.TheVariants.{Hub, Task, M
 use Rattle.octet_fields.specs.declared.stop.Stop.{Stop}
 use Rattle.octet_fields.specs.declared.stop.Stop.TheVariants.{Short, Bad}
 use Rattle.octet_fields.specs.Reading.{Read, ◌>>=◌, octet_at, number_at, front_at, str8_at, blob_at, channel_at}
+use Rattle.cluster_types.proofs.Numbers.{chosen}
 
 pub record Extends {A : Type 0} (f : List ℕ → Read A) : Type 0 where
   pub whole : (xs ys : List ℕ) (a : A) (rest : List ℕ) → f xs ≡ Ok (a, rest) → f (xs ++ ys) ≡ Ok (a, rest ++ ys)
@@ -20,10 +21,6 @@ pub record Extends {A : Type 0} (f : List ℕ → Read A) : Type 0 where
 -- so many octets, and what they mean
 abbrev pub gather : {A : Type 0} → ℕ → (List ℕ → A) → List ℕ → Read A
 gather n v octets = if nat_lt (length octets) n then Err (Short (n - length octets)) else Ok (v (take n octets), drop n octets)
-
-chosen : {A : Type 0} (b : Bool) (x y z : A) → cond b x y ≡ z → ((b ≡ true) × (x ≡ z)) ⊎ ((b ≡ false) × (y ≡ z))
-chosen true x y z e = inl (refl, e)
-chosen false x y z e = inr (refl, e)
 
 gather_whole : {A : Type 0} (n : ℕ) (v : List ℕ → A) (xs ys : List ℕ) (a : A) (rest : List ℕ) → gather n v xs ≡ Ok (a, rest) → gather n v (xs ++ ys) ≡ Ok (a, rest ++ ys)
 gather_whole n v xs ys a rest e =

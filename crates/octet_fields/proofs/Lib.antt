@@ -3,3 +3,4 @@ pub mod Extends
 pub mod Joins
 pub mod Keeping
 pub mod Takes
+pub mod Widths

@@ -7,11 +7,11 @@ use Rattle.std.specs.List.{AllByRecursion}
 use Rattle.std.specs.List.Sorted.{IsStrictlySortedBy}
 use Rattle.std.specs.BTreeSet.{BTreeSet}
 use Rattle.std.specs.BTreeMap.{is_at}
-use Rattle.std.proofs.lemmas.Bool.{both_ways}
+use Rattle.std.proofs.lemmas.Bool.{both_ways, or_right, false_from_ne_true}
 use Rattle.std.proofs.lemmas.List.Sums.{sum_by-cons}
 use Rattle.std.proofs.lemmas.Map.Keys.{sorted_head, sorted_tail}
 use Rattle.place_sets.specs.Sets.{holds_at, Covers}
-use Rattle.place_sets.proofs.Covering.{member, first_or_later, same_place, above, off_from, lt_not}
+use Rattle.place_sets.proofs.Covering.{member, first_or_later, same_place, above, lt_not}
 
 count_cons : {X : Type 0} (p : X → Bool) (x : X) (xs : List X) → count_by p (x ∷ xs) ≡ cond (p x) 1 0 + count_by p xs
 count_cons p x xs = sum_by-cons (λ y. cond (p y) 1 0) x xs
@@ -22,17 +22,13 @@ self_is i = grind (arith)
 member_first : (m : ℕ) (ms : List ℕ) → member (m ∷ ms) m ≡ true
 member_first m ms = rw (self_is m) refl
 
-or_later : (b c : Bool) → c ≡ true → (b || c) ≡ true
-or_later true c h = refl
-or_later false c h = h
-
 plus_off : (b : Bool) (n : ℕ) → b ≡ false → cond b 1 0 + n ≡ n
 plus_off true n h = cc
 plus_off false n h = omega arith
 
 count_off : (q : ℕ → Bool) (ms : List ℕ) → ((i : ℕ) → member ms i ≡ true → q i ≡ false) → count_by q ms ≡ 0
 count_off q [] off = refl
-count_off q (m ∷ ms) off = count_cons q m ms ∙ plus_off (q m) (count_by q ms) (off m (member_first m ms)) ∙ count_off q ms (λ i on. off i (or_later (is_at (nat_cmp i) m) (member ms i) on))
+count_off q (m ∷ ms) off = count_cons q m ms ∙ plus_off (q m) (count_by q ms) (off m (member_first m ms)) ∙ count_off q ms (λ i on. off i (or_right (is_at (nat_cmp i) m) (member ms i) on))
 
 past : (at i : ℕ) → at ≤ i → at + (i - at) ≡ i
 past at i le = omega arith
@@ -52,7 +48,7 @@ module _ {X : Type 0} (p : X → Bool) (q : ℕ → Bool) where
   count_from [] at ms sorted low is covers = count_off q ms (λ i on. ap q (sym (past at i (low i on))) ∙ is (i - at))
   count_from (x ∷ xs) at [] sorted low is covers =
       let here : at + 0 ≡ at = omega arith in
-      let off : p x ≡ false = off_from (p x) (λ on. both_ways false refl (covers at (omega arith) (ap q (sym here) ∙ is 0 ∙ on))) in
+      let off : p x ≡ false = false_from_ne_true (p x) (λ on. both_ways false refl (covers at (omega arith) (ap q (sym here) ∙ is 0 ∙ on))) in
       let rest = count_from xs (suc at) [] sorted (λ i on. cc) (λ i. let e : suc at + i ≡ at + suc i = omega arith in ap q e ∙ is (suc i)) (λ i le on. covers i (omega (arith, le)) on) in
       rest ∙ sym (count_cons p x xs ∙ plus_off (p x) (count_by p xs) off)
   count_from (x ∷ xs) at (m ∷ ms) sorted low is covers =
@@ -66,7 +62,7 @@ module _ {X : Type 0} (p : X → Bool) (q : ℕ → Bool) where
       (λ i le on. first_or_later (is_at (nat_cmp i) m) (member ms i) (covers i (omega (arith, le)) on) (λ e. let e2 : i ≡ m = same_place i m e in absurd (omega (arith, le, e2, same))) (λ later. later)) in
       count_cons q m ms ∙ ap (λ b. cond b 1 0 + count_by q ms) first ∙ ap (λ n. cond (p x) 1 0 + n) rest ∙ sym (count_cons p x xs))
       (λ (lt : at < m).
-      let off : p x ≡ false = off_from (p x) (λ on. let le : m ≤ at = at_least m ms at (sorted_head nat_cmp m ms sorted) (covers at (omega arith) (ap q (sym here) ∙ is 0 ∙ on)) in lt_not at (omega (arith, lt, le))) in
+      let off : p x ≡ false = false_from_ne_true (p x) (λ on. let le : m ≤ at = at_least m ms at (sorted_head nat_cmp m ms sorted) (covers at (omega arith) (ap q (sym here) ∙ is 0 ∙ on)) in lt_not at (omega (arith, lt, le))) in
       let rest = count_from xs (suc at) (m ∷ ms) sorted (λ i on. let le : m ≤ i = at_least m ms i (sorted_head nat_cmp m ms sorted) on in omega (arith, lt, le)) shift (λ i le on. covers i (omega (arith, le)) on) in
       rest ∙ sym (count_cons p x xs ∙ plus_off (p x) (count_by p xs) off))
       (by_le at m (low m (member_first m ms)))

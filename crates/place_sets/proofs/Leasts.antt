@@ -8,12 +8,12 @@ use Rattle.std.specs.Option.{option_and_then}
 use Rattle.std.specs.Map.{lookup}
 use Rattle.std.specs.BTreeMap.{is_at}
 use Rattle.std.specs.BTreeSet.{BTreeSet}
-use Rattle.std.proofs.lemmas.Bool.{both_ways}
+use Rattle.std.proofs.lemmas.Bool.{both_ways, or_right, or_left, and_from, false_from_ne_true}
 use Rattle.std.proofs.lemmas.Map.Keys.{sorted_head, sorted_tail}
 use Rattle.place_sets.specs.Sets.{has, holds_at}
 use Rattle.place_sets.specs.Lanes.{LaneList, in_set, in_lane, in_some}
 use Rattle.place_sets.specs.Least.{IsLeast}
-use Rattle.place_sets.proofs.Covering.{member, first_or_later, same_place, above, off_from, found_none}
+use Rattle.place_sets.proofs.Covering.{member, first_or_later, same_place, above, found_none}
 use Rattle.place_sets.proofs.Changing.{least_found}
 
 -- the first member that passes is the least
@@ -48,34 +48,22 @@ least_none test = λ i on. cc
 
 -- the least of fewer places that are all where the test holds
 pub least_of : (test among all : ℕ → Bool) (o : Option ℕ) → IsLeast test among o → ((i : ℕ) → all i ≡ true → test i ≡ true → among i ≡ true) → IsLeast test all o
-least_of test among all None least in_it = λ i on. off_from (test i) (λ passes. both_ways (test i) (least i (in_it i on passes)) passes)
+least_of test among all None least in_it = λ i on. false_from_ne_true (test i) (λ passes. both_ways (test i) (least i (in_it i on passes)) passes)
 least_of test among all (Some p) least in_it = (least.0, λ i on passes. least.1 i (in_it i on passes) passes)
 
 -- the item at the least of the places where the test holds is the first that passes
 pub least_is : {X : Type 0} (p : X → Bool) (xs : List X) (among : ℕ → Bool) (o : Option ℕ) → IsLeast (holds_at p xs) among o → ((i : ℕ) → holds_at p xs i ≡ true → among i ≡ true) → option_and_then (slice_get xs) o ≡ find p xs
-least_is p xs among None least covers = found_none p xs (λ i. off_from (holds_at p xs i) (λ on. both_ways (holds_at p xs i) (least i (covers i on)) on))
+least_is p xs among None least covers = found_none p xs (λ i. false_from_ne_true (holds_at p xs i) (λ on. both_ways (holds_at p xs i) (least i (covers i on)) on))
 least_is p xs among (Some i) least covers = least_found p xs i least.0 (λ j on. least.1 j (covers j on) on)
 
 -- LANES
-
-or_left : (b c : Bool) → b ≡ true → (b || c) ≡ true
-or_left true c h = refl
-or_left false c h = cc
-
-or_right : (b c : Bool) → c ≡ true → (b || c) ≡ true
-or_right true c h = refl
-or_right false c h = h
-
-both : (b c : Bool) → b ≡ true → c ≡ true → (b && c) ≡ true
-both true c one two = two
-both false c one two = one
 
 -- the lane of a number that passes is one of them
 pub lane_among : (looks : ℕ → Bool) (lanes : LaneList) (n i : ℕ) → looks n ≡ true → in_lane lanes n i ≡ true → in_some looks lanes i ≡ true
 lane_among looks [] n i on here = cc
 lane_among looks (e ∷ es) n i on here =
     (elim (is_at (nat_cmp n) e.0) as (λ b. is_at (nat_cmp n) e.0 ≡ b → in_set (cond b (Some e.1) (lookup (is_at (nat_cmp n)) es)) i ≡ true → in_some looks (e ∷ es) i ≡ true) [
-      | true ↦ λ same has_it. or_left (looks e.0 && has e.1 i) (in_some looks es i) (both (looks e.0) (has e.1 i) (ap looks (sym (same_place n e.0 same)) ∙ on) has_it)
+      | true ↦ λ same has_it. or_left (looks e.0 && has e.1 i) (in_some looks es i) (and_from (looks e.0) (has e.1 i) (ap looks (sym (same_place n e.0 same)) ∙ on) has_it)
       | false ↦ λ _ later. or_right (looks e.0 && has e.1 i) (in_some looks es i) (lane_among looks es n i on later)
     ]) refl here
 

@@ -4,26 +4,22 @@ use Rattle.std.specs.Prelude.{count_by, slice_get, option_map}
 use Rattle.std.specs.Ordering.{nat_cmp}
 use Rattle.std.specs.List.Sorted.{IsStrictlySortedBy}
 use Rattle.std.specs.BTreeMap.{is_at}
-use Rattle.std.proofs.lemmas.Bool.{both_ways}
+use Rattle.std.proofs.lemmas.Bool.{both_ways, or_right, false_from_ne_true}
 use Rattle.std.proofs.lemmas.List.Sums.{sum_by-cons}
 use Rattle.std.proofs.lemmas.Map.Keys.{sorted_head, sorted_tail}
 use Rattle.place_sets.specs.Sets.{holds, holds_at, at_place, at_places}
-use Rattle.place_sets.proofs.Covering.{member, above, off_from, lt_not}
+use Rattle.place_sets.proofs.Covering.{member, above, lt_not}
 use Rattle.place_sets.proofs.Changing.{count_changed, count_past}
 use Rattle.place_sets.proofs.Sweeping.{apart_at, here_at, others}
 
 count_cons : (q : ℕ → Bool) (m : ℕ) (ms : List ℕ) → count_by q (m ∷ ms) ≡ cond (q m) 1 0 + count_by q ms
 count_cons q m ms = sum_by-cons (λ k. cond (q k) 1 0) m ms
 
-or_later : (b c : Bool) → c ≡ true → (b || c) ≡ true
-or_later true c h = refl
-or_later false c h = h
-
 -- tests that are alike at the members
 count_alike : (q r : ℕ → Bool) (ms : List ℕ) → ((i : ℕ) → member ms i ≡ true → q i ≡ r i) → count_by q ms ≡ count_by r ms
 count_alike q r [] same = refl
 count_alike q r (m ∷ ms) same =
-    count_cons q m ms ∙ ap (λ b. cond b 1 0 + count_by q ms) (same m (first m)) ∙ ap (λ n. cond (r m) 1 0 + n) (count_alike q r ms (λ i on. same i (or_later (is_at (nat_cmp i) m) (member ms i) on))) ∙ sym (count_cons r m ms)
+    count_cons q m ms ∙ ap (λ b. cond b 1 0 + count_by q ms) (same m (first m)) ∙ ap (λ n. cond (r m) 1 0 + n) (count_alike q r ms (λ i on. same i (or_right (is_at (nat_cmp i) m) (member ms i) on))) ∙ sym (count_cons r m ms)
   where
     self_is : (i : ℕ) → is_at (nat_cmp i) i ≡ true
     self_is i = grind (arith)
@@ -43,7 +39,7 @@ module _ {X : Type 0} (p : X → Bool) (f : X → X) where
       let ys = at_place f m xs in
       let zs = at_places f ms ys in
       let up : (i : ℕ) → member ms i ≡ true → m < i = λ i on. above m ms i (sorted_head nat_cmp m ms sorted) on in
-      let out : member ms m ≡ false = off_from (member ms m) (λ on. lt_not m (up m on)) in
+      let out : member ms m ≡ false = false_from_ne_true (member ms m) (λ on. lt_not m (up m on)) in
       let rest = recounted ms ys (sorted_tail nat_cmp m ms sorted) in
       let one = one_changed m xs (slice_get xs m) refl in
       let there : slice_get zs m ≡ option_map f (slice_get xs m) = others f ms ys m out ∙ here_at f m xs in

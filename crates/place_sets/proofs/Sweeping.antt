@@ -5,10 +5,10 @@ use Rattle.std.specs.Ordering.{nat_cmp}
 use Rattle.std.specs.List.Sorted.{IsStrictlySortedBy}
 use Rattle.std.specs.BTreeSet.{BTreeSet}
 use Rattle.std.specs.BTreeMap.{is_at}
-use Rattle.std.proofs.lemmas.Bool.{both_ways}
+use Rattle.std.proofs.lemmas.Bool.{both_ways, false_from_ne_true}
 use Rattle.std.proofs.lemmas.Map.Keys.{sorted_head, sorted_tail}
 use Rattle.place_sets.specs.Sets.{has, holds, holds_at, Covers, Apart, at_place, at_places}
-use Rattle.place_sets.proofs.Covering.{member, first_or_later, same_place, above, off_from, lt_not}
+use Rattle.place_sets.proofs.Covering.{member, first_or_later, same_place, above, lt_not}
 
 pub same_lists : {X : Type 0} (xs ys : List X) → ((i : ℕ) → slice_get xs i ≡ slice_get ys i) → xs ≡ ys
 same_lists [] [] same = refl
@@ -41,7 +41,7 @@ map_get f (x ∷ xs) (suc i) = map_get f xs i
 pub others : {X : Type 0} (f : X → X) (ms : List ℕ) (xs : List X) (i : ℕ) → member ms i ≡ false → slice_get (at_places f ms xs) i ≡ slice_get xs i
 others f [] xs i off = refl
 others f (m ∷ ms) xs i off =
-    others f ms (at_place f m xs) i (off_from (member ms i) (λ on. both_ways (member (m ∷ ms) i) off (later (is_at (nat_cmp i) m) (member ms i) on)))
+    others f ms (at_place f m xs) i (false_from_ne_true (member ms i) (λ on. both_ways (member (m ∷ ms) i) off (later (is_at (nat_cmp i) m) (member ms i) on)))
     ∙ apart_at f m xs i (λ e. both_ways (member (m ∷ ms) i) off (first (is_at (nat_cmp i) m) (member ms i) (itself i m e)))
   where
     later : (b c : Bool) → c ≡ true → (b || c) ≡ true
@@ -60,7 +60,7 @@ listed f [] xs i sorted on = cc
 listed f (m ∷ ms) xs i sorted on =
     first_or_later (is_at (nat_cmp i) m) (member ms i) on
     (λ same. let e : i ≡ m = same_place i m same in
-    others f ms (at_place f m xs) i (off_from (member ms i) (λ later. let up : m < i = above m ms i (sorted_head nat_cmp m ms sorted) later in lt_not i (subst (λ k. k < i) (sym e) up)))
+    others f ms (at_place f m xs) i (false_from_ne_true (member ms i) (λ later. let up : m < i = above m ms i (sorted_head nat_cmp m ms sorted) later in lt_not i (subst (λ k. k < i) (sym e) up)))
     ∙ subst (λ k. slice_get (at_place f m xs) k ≡ option_map f (slice_get xs k)) (sym e) (here_at f m xs))
     (λ later. let up : m < i = above m ms i (sorted_head nat_cmp m ms sorted) later in
     listed f ms (at_place f m xs) i (sorted_tail nat_cmp m ms sorted) later
@@ -77,5 +77,5 @@ sweep {X} p f xs s sorted covers idle = same_lists (at_places f s.keys xs) (map 
     at : (i : ℕ) → slice_get (at_places f s.keys xs) i ≡ option_map f (slice_get xs i)
     at i = elim (member s.keys i) as (λ b. member s.keys i ≡ b → slice_get (at_places f s.keys xs) i ≡ option_map f (slice_get xs i)) [
       | true ↦ λ on. listed f s.keys xs i sorted on
-      | false ↦ λ off. others f s.keys xs i off ∙ stays (slice_get xs i) (off_from (holds_at p xs i) (λ on. both_ways (has s i) off (covers i on)))
+      | false ↦ λ off. others f s.keys xs i off ∙ stays (slice_get xs i) (false_from_ne_true (holds_at p xs i) (λ on. both_ways (has s i) off (covers i on)))
     ] refl

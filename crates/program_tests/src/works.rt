@@ -2,10 +2,10 @@
 
 use crate::choosing::new_chooser;
 use disk_model::memory::MemDisk;
-use work_drive::summary::Summary;
 use std::alloc::Global;
 use std::process::Abort;
 use work_drive::fault::WorkError;
+use work_drive::summary::Summary;
 use work_drive::work::work;
 
 /// The lines of the summary of a seed and so many tasks, over an empty disk.

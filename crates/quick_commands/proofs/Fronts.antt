@@ -8,20 +8,6 @@ use Rattle.tape.specs.Spelling.{spelled, all_spelled}
 use Rattle.tape_drive.specs.Drive.{Stand, served, outs, outputs, stand_at}
 use Rattle.database_text.specs.Texts.{WroteFront}
 
-pub added_none : (w : Option (List ℕ)) → Added [] w w
-added_none None = refl
-added_none (Some xs) = ap Some (sym (append-nil xs))
-
-pub added_both : (a b : List ℕ) (u v w : Option (List ℕ)) → Added a u v → Added b v w → Added (a ++ b) u w
-added_both a b None v w p q = rw (q, p) refl
-added_both a b (Some xs) v w p q = rw (q, p) (ap Some (append_assoc xs a b))
-
-pub front_none : (whole : List ℕ) (w : Option (List ℕ)) → WroteFront whole w w
-front_none whole w = record { front = []; rest = whole; parts = refl; added = added_none w }
-
-pub front_take : (whole : List ℕ) (n : ℕ) (u v : Option (List ℕ)) → Added (take n whole) u v → WroteFront whole u v
-front_take whole n u v p = record { front = take n whole; rest = drop n whole; parts = sym (take-append-drop n whole); added = p }
-
 pub outputs_append : (key : List ℕ) (h : Stand) (xs ys : List TapeRecord) → outputs key h (xs ++ ys) ≡ outputs key h xs ++ outputs key (stand_at key h xs) ys
 outputs_append key h [] ys = refl
 outputs_append key h (x ∷ xs) ys = ap (λ (es : List TapeRecord). outs key h x ++ es) (outputs_append key (served key h x) xs ys) ∙ sym (append_assoc (outs key h x) (outputs key (served key h x) xs) (outputs key (stand_at key (served key h x) xs) ys))

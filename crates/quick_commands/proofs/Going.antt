@@ -18,8 +18,10 @@ use Rattle.command_words.specs.declared.ending.Ending.{Ending}
 use Rattle.command_words.specs.declared.ending.Ending.TheVariants as endings
 use Rattle.quick_commands.specs.Replays.{IsServed}
 use Rattle.quick_commands.specs.Written.{Ended, IsWhole, ending_at}
-use Rattle.quick_commands.proofs.Fronts.{added_none, added_both, written_append, stand_append}
-use Rattle.quick_commands.proofs.Reached.{comes_more, comes_behind, front_whole, served_more, served_behind, served_whole}
+use Rattle.quick_commands.proofs.Fronts.{written_append, stand_append}
+use Rattle.quick_commands.proofs.Reached.{comes_more, comes_behind, served_more, served_behind, served_whole}
+use Rattle.edges.proofs.Additions.{added_none, added_both}
+use Rattle.database_text.proofs.Fronts.{front_all}
 
 -- so far: the records that came were served, all that they send was written, and what is left of the input gives the others
 pub record Going (key : List ℕ) (begin : Stand) (octets : List ℕ) (before now : Option (List ℕ)) (left : Option (List ℕ)) (tape : Tape) (stand : Stand) : Type 0 where
@@ -72,7 +74,7 @@ pub going_served : {key : List ℕ} {begin : Stand} {octets : List ℕ} {before 
 going_served {key = key} {begin = begin} {octets = octets} {before = before} {now = now} {tape = tape} {stand = stand} g =
     subst (λ (k : Stand). IsServed key begin (records blank octets) before now k.history) (sym g.stand_is)
     (subst (λ (rs : List TapeRecord). IsServed key begin rs before now (stand_at key begin g.done).history) (sym g.list_is)
-    (served_whole key begin g.done (records tape g.more) before now (front_whole (all_spelled (outputs key begin g.done)) before now g.added)))
+    (served_whole key begin g.done (records tape g.more) before now (front_all (all_spelled (outputs key begin g.done)) before now g.added)))
 
 -- what was served with a piece
 pub going_piece : {key : List ℕ} {begin : Stand} {octets : List ℕ} {before now left : Option (List ℕ)} {tape : Tape} {stand : Stand} → Going key begin octets before now left tape stand

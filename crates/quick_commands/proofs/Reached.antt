@@ -11,11 +11,9 @@ use Rattle.tape_drive.specs.Drive.{Stand, served, outputs, stand_at}
 use Rattle.tape_drive.specs.Served.{IsOnWay, inputs_taken, Comes, HoldsSome}
 use Rattle.quick_commands.specs.Replays.{IsServed}
 use Rattle.database_text.specs.Texts.{WroteFront}
-use Rattle.quick_commands.proofs.Fronts.{added_none, added_both, written_append, stand_append}
-
-way_here : (limits : HistorySize) (h : History) (inputs : List InputType) → IsOnWay limits h inputs h
-way_here limits h [] = refl
-way_here limits h (i ∷ is) = inl refl
+use Rattle.quick_commands.proofs.Fronts.{written_append, stand_append}
+use Rattle.tape_drive.proofs.Way.{way_here}
+use Rattle.edges.proofs.Additions.{added_none, added_both}
 
 pub comes_here : (key : List ℕ) (s : Stand) (list : List TapeRecord) → Comes key s list s.history
 comes_here key s [] = refl
@@ -31,13 +29,7 @@ pub comes_behind : (key : List ℕ) (s : Stand) (done list : List TapeRecord) (h
 comes_behind key s [] list h comes = comes
 comes_behind key s (r ∷ rs) list h comes = inr (comes_behind key (served key s r) rs list h comes)
 
-pub holds_more : {P Q : History → Type 0} (c : List ℕ) → ((h : History) → P h → Q h) → HoldsSome P c → HoldsSome Q c
-holds_more c go holds = record { history = holds.history; has = go holds.history holds.has; stands = holds.stands }
-
 -- WHAT WAS SERVED
-
-pub front_whole : (whole : List ℕ) (before now : Option (List ℕ)) → Added whole before now → WroteFront whole before now
-front_whole whole before now added = record { front = whole; rest = []; parts = sym (append-nil whole); added = added }
 
 front_behind : (first whole : List ℕ) (before mid now : Option (List ℕ)) → Added first before mid → WroteFront whole mid now → WroteFront (first ++ whole) before now
 front_behind first whole before mid now added w = record {

@@ -9,8 +9,10 @@ use Rattle.tape.specs.Spelling.{all_spelled}
 use Rattle.tape_drive.specs.Drive.{Stand, served, outs, outputs, stand_at}
 use Rattle.tape_drive.specs.Served.{IsOnWay, inputs_taken, Comes}
 use Rattle.quick_commands.specs.Replays.{IsServed}
-use Rattle.quick_commands.proofs.Fronts.{added_none, added_both, written_append, stand_append}
-use Rattle.quick_commands.proofs.Reached.{comes_more, comes_behind, front_whole, served_more, served_behind, served_none, served_whole}
+use Rattle.quick_commands.proofs.Fronts.{written_append, stand_append}
+use Rattle.quick_commands.proofs.Reached.{comes_more, comes_behind, served_more, served_behind, served_none, served_whole}
+use Rattle.edges.proofs.Additions.{added_none, added_both}
+use Rattle.database_text.proofs.Fronts.{front_all}
 
 -- ONE RECORD
 
@@ -73,7 +75,7 @@ end_served key s list i before now stand a le =
     let all : take i list ≡ list = take_all i list le in
     subst (λ (rs : List TapeRecord). IsServed key s rs before now stand.history) (append-nil list)
     (subst (λ (k : Stand). IsServed key s (list ++ []) before now k.history) (sym (a.stand_is ∙ ap (stand_at key s) all))
-    (served_whole key s list [] before now (front_whole (all_spelled (outputs key s list)) before now (at_end key s list i before now stand a le).1)))
+    (served_whole key s list [] before now (front_all (all_spelled (outputs key s list)) before now (at_end key s list i before now stand a le).1)))
 
 pub at_start : (key : List ℕ) (s : Stand) (list : List TapeRecord) (w : Option (List ℕ)) → At key s list 0 w w s
 at_start key s list w = record { stand_is = refl; added = added_none w }

@@ -16,6 +16,7 @@ use Rattle.tape_drive.specs.Served.{Comes, HoldsSome}
 use Rattle.quick_commands.specs.Replays.{IsOver, IsServed, limits_of, config_of}
 use Rattle.quick_commands.specs.Runs.{IsRun}
 use Rattle.quick_commands.proofs.Reached.{comes_here}
+use Rattle.edges.proofs.Additions.{added_none}
 
 -- the first records of a tape that begins behind a list
 made : (content octets left : List ℕ) (options : ReplayOptions) (s : Stand) (before now : Option (List ℕ)) (front rest : List TapeRecord) (at : History) →
@@ -47,15 +48,11 @@ pub cut_off_is_run : (content octets left : List ℕ) (options : ReplayOptions) 
 cut_off_is_run content octets left options s before now over holds =
     made content octets left options s before now holds.has.front holds.has.rest holds.history over holds.has.parts holds.has.wrote holds.has.comes holds.stands
 
-nothing_added : (before : Option (List ℕ)) → Added [] before before
-nothing_added None = refl
-nothing_added (Some written) = ap Some (sym (append-nil written))
-
 pub moment_is_run : (content octets left : List ℕ) (options : ReplayOptions) (s : Stand) (before : Option (List ℕ)) →
     IsOver (Unit {0}) content options s → HoldsSome (Comes options.key s (records blank octets)) left → IsRun content options octets before before left
 moment_is_run content octets left options s before over holds =
     made content octets left options s before before [] (records blank octets) holds.history over refl
-    (record { front = []; rest = []; parts = refl; added = nothing_added before }) holds.has holds.stands
+    (record { front = []; rest = []; parts = refl; added = added_none before }) holds.has holds.stands
 
 -- where a tape begins behind an Open that a crash left
 abbrev begun_on : (content left : List ℕ) (options : ReplayOptions) → HasOpen content (config_of options) 0 left → Stand

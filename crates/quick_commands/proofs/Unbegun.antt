@@ -10,7 +10,7 @@ use Rattle.database_text.specs.Lines.{text}
 use Rattle.task_journal.specs.Reads.{OnlyReads}
 use Rattle.quick_commands.specs.Commands.{Ends, MayLeaveOf}
 use Rattle.quick_commands.proofs.Endings.{unopened_ends, still}
-use Rattle.quick_commands.proofs.Fronts.{front_none}
+use Rattle.database_text.proofs.Fronts.{front_none}
 
 pub some_all : {T : Type 0} (o : Option T) (P : T → Type 0) → ((x : T) → P x) → IfSome o P
 some_all None P all = tt
@@ -30,13 +30,3 @@ still_leaves image moment image_since only_now disk content octets (Dump databas
 still_leaves image moment image_since only_now disk content octets (Check database) = still image moment image_since only_now disk (image disk) (λ c now. now)
 still_leaves image moment image_since only_now disk content octets (Compact database) = still image moment image_since only_now disk (image disk) (λ c now. now)
 still_leaves image moment image_since only_now disk content octets (Work seed tasks) = still image moment image_since only_now disk (image disk) (λ c now. now)
-
-pub still_reads : {D : Type 0} (content : D → List ℕ) (image : D → List ℕ → Type 0) (moment : D → ℕ) (image_since : D → ℕ → List ℕ → Type 0) (faults : D → ℕ) (disk : D) → OnlyReads content image moment image_since faults disk disk
-still_reads content image moment image_since faults disk = record {
-  same = refl;
-  images = λ c now. now;
-  later = omega arith;
-  keeps = λ t c le past. past;
-  since = λ t c le since. inl since;
-  counted = omega arith;
-}

@@ -10,10 +10,10 @@ use cluster_core::size::HistorySize;
 use command_words::ending::Ending;
 use disk_model::disk::Disk;
 use edges::sink::{Sink, write_all};
-use work_drive::summary::Summary;
 use load_schemes::chooser::Chooser;
 use std::alloc::Global;
 use work_drive::fault::WorkError;
+use work_drive::summary::Summary;
 use work_drive::work::work;
 
 /// Writes the lines of a summary, and says how that ended.

@@ -20,15 +20,13 @@ use Rattle.octet_fields.specs.Reading.{Read}
 use Rattle.octet_fields.proofs.Again.{number32, number64, str8_again, blob_again, channel_again}
 use Rattle.record_codec.specs.Spelling.{scheme_code, verdict_code, cause_code, blobs, message_spelling, spelling, IsMoment, IsName, IsShort, HasRecord}
 use Rattle.record_codec.specs.Reading.{moment_at, name_at, id_at, scheme_at, verdict_at, cause_at, blobs_at, buffers_at, message_at, open_at, up_at, down_at, in_at, beat_at, time_at, hand_at, settle_at, lose_at, entry_at}
+use Rattle.cluster_types.proofs.Numbers.{not_zero}
 
 moment_again : (n : ℕ) (rest : List ℕ) → IsMoment n → moment_at (be64 n ++ rest) ≡ Ok (n, rest)
 unfolding moment_at
 moment_again n rest le =
     let small : nat_lt 253402300799999 n ≡ false = le-ltb _ _ le in
     rw (number64 n rest (omega arith), small) refl
-
-not_zero : (n : ℕ) → 0 < n → (n == 0) ≡ false
-not_zero n lt = grind (arith, nat_tests)
 
 name_again : (text rest : List ℕ) → IsName text → name_at (str8 text ++ rest) ≡ Ok (text, rest)
 unfolding name_at

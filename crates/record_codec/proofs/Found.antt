@@ -3,18 +3,15 @@ use Rattle.std.proofs.Common.{◌≡◌, ℕ, ◌+◌, ◌-◌, ◌≤◌, List,
 use Rattle.std.proofs.lemmas.List.{take-append-drop, length-take, drop_at, get_or-drop}
 use Rattle.cluster_types.specs.declared.entry.Entry.{Entry}
 use Rattle.octet_fields.specs.declared.stop.Stop.{Stop}
-use Rattle.octet_fields.proofs.Takes.{IsBytes}
+use Rattle.octet_fields.proofs.Takes.{IsBytes, IsBytes-drop}
 use Rattle.record_codec.specs.Spelling.{spelling, RecordStands}
 use Rattle.record_codec.specs.Reading.{entry_at}
 use Rattle.record_codec.proofs.Again.{entry_again}
 use Rattle.record_codec.proofs.Takes.{entry_takes}
 
-pub drop_bytes : (n : ℕ) (bytes : List ℕ) → IsBytes bytes → IsBytes (drop n bytes)
-drop_bytes n bytes h i = rw get_or-drop (h (n + i))
-
 pub stands : (octets : List ℕ) (at : ℕ) (e : Entry) (rest : List ℕ) → IsBytes octets → at ≤ length octets → entry_at (drop at octets) ≡ Ok (e, rest) → RecordStands octets at e (length octets - length rest)
 stands octets at e rest bytes le read =
-    let t = entry_takes (drop at octets) e rest (drop_bytes at octets bytes) read in
+    let t = entry_takes (drop at octets) e rest (IsBytes-drop at octets bytes) read in
     let back : drop at octets ≡ spelling e ++ rest = t.1 ∙ ap (λ (z : List ℕ). z ++ rest) t.2.0 in
     let parts : octets ≡ take at octets ++ spelling e ++ rest = sym (take-append-drop at octets) ∙ ap (λ (z : List ℕ). take at octets ++ z) back ∙ sym (append_assoc (take at octets) (spelling e) rest) in
     record {
@@ -28,7 +25,7 @@ stands octets at e rest bytes le read =
 
 pub rest_fits : (octets : List ℕ) (at : ℕ) (e : Entry) (rest : List ℕ) → IsBytes octets → entry_at (drop at octets) ≡ Ok (e, rest) → length rest ≤ length octets
 rest_fits octets at e rest bytes read =
-    let t = entry_takes (drop at octets) e rest (drop_bytes at octets bytes) read in
+    let t = entry_takes (drop at octets) e rest (IsBytes-drop at octets bytes) read in
     omega (arith, length-drop at octets, ap length t.1, length-append t.0 rest)
 
 pub none_stands : (octets : List ℕ) (at : ℕ) (s : Stop) (e : Entry) (next : ℕ) → entry_at (drop at octets) ≡ Err s → RecordStands octets at e next → ⊥

@@ -7,18 +7,15 @@ use Rattle.cluster_types.specs.declared.entry.Entry.{Entry}
 use Rattle.cluster_types.specs.declared.entry.Entry.TheVariants.{Input, Hand, Settle, Lose}
 use Rattle.octet_fields.specs.Spelling.{be32, be64, str8, blob}
 use Rattle.record_codec.specs.Spelling.{spelling, blobs, message_spelling, IsShort, IsWithinLimits}
+use Rattle.octet_fields.proofs.Widths.{be64_width}
 
 pub length-be32 : (n : ℕ) → length (be32 n) ≡ 4
 unfolding be32
 length-be32 n = refl
 
-pub length-be64 : (n : ℕ) → length (be64 n) ≡ 8
-unfolding be64
-length-be64 n = refl
+pub ruleset lengths = (length-append, length-be32, be64_width)
 
-pub ruleset lengths = (length-append, length-be32, length-be64)
-
-length-blob : (octets : List ℕ) → length (blob octets) ≡ 4 + length octets
+pub length-blob : (octets : List ℕ) → length (blob octets) ≡ 4 + length octets
 length-blob octets = omega (arith, length-append (be32 (length octets)) octets, length-be32 (length octets))
 
 length-blobs : (buffers : List (List ℕ)) → All (λ buffer. length buffer < 2 ^ 32) buffers → length (blobs buffers) ≤ length buffers * (2 ^ 32 + 4)
@@ -55,7 +52,7 @@ length-field : (n : ℕ) (rest : List ℕ) → length (be32 n ++ rest) ≡ 4 + l
 length-field n rest = omega (arith, length-append (be32 n) rest, length-be32 n)
 
 length-long : (n : ℕ) (rest : List ℕ) → length (be64 n ++ rest) ≡ 8 + length rest
-length-long n rest = omega (arith, length-append (be64 n) rest, length-be64 n)
+length-long n rest = omega (arith, length-append (be64 n) rest, be64_width n)
 
 -- the record of an entry within the limits is no longer than a number of 64 bits tells
 pub within : (e : Entry) → IsWithinLimits e → length (spelling e) < 2 ^ 64

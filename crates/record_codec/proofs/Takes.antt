@@ -20,6 +20,7 @@ use Rattle.octet_fields.proofs.Extends.{then_read, either, give, refuse}
 use Rattle.octet_fields.proofs.Takes.{Takes, Joined, Made, Num32, Num64, Octet, Str8, Blob, takes_in_turn, takes_give, takes_refuse, takes_either, takes_weaker, octet_takes, number32_takes, number64_takes, str8_takes, blob_takes, joined_text, last_text}
 use Rattle.record_codec.specs.Spelling.{scheme_code, verdict_code, cause_code, blobs, message_spelling, spelling, IsMoment, IsName, IsShort, HasRecord}
 use Rattle.record_codec.specs.Reading.{moment_at, name_at, id_at, scheme_at, verdict_at, cause_at, blobs_at, buffers_at, message_at, open_at, up_at, down_at, in_at, beat_at, time_at, hand_at, settle_at, lose_at, kind_at, entry_at}
+use Rattle.cluster_types.proofs.Numbers.{above_zero}
 
 -- as `Takes`, with arguments that are found
 record Reads {A : Type 0} (f : List ℕ → Read A) (R : A → List ℕ → Type 0) : Type 0 where
@@ -55,12 +56,9 @@ moment = record {
       (takes_in_turn (number_at w64) (λ n. either (nat_lt 253402300799999 n) refuse (give n)) Num64 (λ n m t. (m ≡ n) × IsMoment n × (t ≡ [])) number64_takes limited);
 }
 
-some_test : (n : ℕ) → (n == 0) ≡ false → 0 < n
-some_test n e = grind (arith, nat_tests)
-
 nonempty : (s : List ℕ) → Takes (either (length s == 0) refuse (give s)) (λ r t. (r ≡ s) × (0 < length s) × (t ≡ []))
 nonempty s =
-    takes_weaker _ _ (λ r t. (r ≡ s) × (0 < length s) × (t ≡ [])) (λ r t p. elim p [ inl q ↦ absurd q.1 | inr q ↦ (q.1.0, some_test _ q.0, q.1.1) ])
+    takes_weaker _ _ (λ r t. (r ≡ s) × (0 < length s) × (t ≡ [])) (λ r t p. elim p [ inl q ↦ absurd q.1 | inr q ↦ (q.1.0, above_zero _ q.0, q.1.1) ])
     (takes_either (length s == 0) refuse (give s) (λ r t. ⊥) (Made s) (takes_refuse (λ r t. ⊥)) (takes_give s))
 
 abbrev AName : List ℕ → List ℕ → Type 0

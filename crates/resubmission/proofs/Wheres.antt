@@ -5,7 +5,7 @@ use Rattle.cluster_defs.specs.Words.{Id}
 use Rattle.cluster_defs.specs.RecordAnswers.{ids_where}
 use Rattle.resubmission.specs.Wheres.{id_if}
 
-one : (p : Record → Bool) (r : Record) (b : Bool) → map (λ (s : Record). s.id) (if b then r ∷ [] else []) ≡ (if b then r.id ∷ [] else [])
+pub one : (p : Record → Bool) (r : Record) (b : Bool) → map (λ (s : Record). s.id) (if b then r ∷ [] else []) ≡ (if b then r.id ∷ [] else [])
 one p r true = refl
 one p r false = refl
 

@@ -7,13 +7,13 @@ ghost use Rattle.cluster_defs.specs.Purges.{copies_from, Makes};
 ghost use Rattle.cluster_defs.specs.RecordPlans.{resubmit_known_in, resubmit_in};
 ghost use Rattle.resubmission.specs.Plans.{copy_of, refusal_of};
 
+use crate::distinct::once;
+use crate::standing::{Standing, ids_that};
 use cluster_types::message::Ids;
 use cluster_types::record::Records;
 use cluster_types::sequence::Sequence;
 use cluster_types::text::Text;
 use std::alloc::{AllocError, Global};
-use crate::distinct::once;
-use crate::standing::{Standing, ids_that};
 use thiserror::Error;
 
 /// A new id, with the old one whose request it gets.

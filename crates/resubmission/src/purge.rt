@@ -7,12 +7,12 @@ ghost use Rattle.cluster_defs.specs.RecordPlans.{purge_list_in, purge_in};
 ghost use Rattle.resubmission.specs.Wheres.{id_if};
 ghost use Rattle.resubmission.specs.Purging.{purging_of};
 
+use crate::distinct::once;
+use crate::standing::{Standing, ids_that};
 use cluster_types::message::Ids;
 use cluster_types::record::{Record, Records};
 use cluster_types::sequence::Sequence;
 use std::alloc::{AllocError, Global};
-use crate::distinct::once;
-use crate::standing::{Standing, ids_that};
 
 /// What a purge comes to: all listed ids are dropped, or none. Each list is in the order of the request.
 #[derive(Debug)]

@@ -7,9 +7,9 @@ use cluster_types::config::Scheme;
 use cluster_types::sequence::Sequence;
 use cluster_types::shared_message::SharedMessage;
 use cluster_types::text::Text;
-use place_sets::counts::count;
 use load_schemes::chooser::{Choose, Chooser};
 use load_schemes::place::place_of;
+use place_sets::counts::count;
 use std::alloc::Global;
 use std::process::Abort;
 

@@ -12,10 +12,10 @@ use cluster_types::entry::{Entries, Entry, Input};
 use cluster_types::message::Buffers;
 use cluster_types::octets::Octets;
 use cluster_types::shared_message::SharedMessage;
+use database_text::thinning::thinned;
 use load_schemes::chooser::Chooser;
 use std::alloc::{AllocError, Global};
 use std::process::Abort;
-use database_text::thinning::thinned;
 
 /// What is said on a connection: 1 is that of an engine, 2 one for tasks, 3 one of the hub.
 #[derive(Clone, Copy)]

@@ -9,27 +9,18 @@ use Rattle.tape.specs.declared.record.TapeKind.{TapeKind}
 use Rattle.tape.specs.declared.record.TapeKind.TheVariants.{Up, Piece, Down, Beat, Time, Message}
 use Rattle.tape.specs.Spelling.{spelled, kind_text, kind_code, form_code}
 use Rattle.tape_drive.specs.Sizes.{frame_size, frames_size, kind_size}
-
-be32_length : (n : ℕ) → length (be32 n) ≡ 4
-unfolding be32
-be32_length n = refl
-
-be64_length : (n : ℕ) → length (be64 n) ≡ 8
-unfolding be64
-be64_length n = refl
+use Rattle.record_codec.proofs.Lengths.{length-be32, length-blob}
+use Rattle.octet_fields.proofs.Widths.{be64_width}
 
 behind : (n m : ℕ) (rest : List ℕ) → length rest ≡ m → length (be32 n ++ rest) ≡ 4 + m
-behind n m rest is = length-append (be32 n) rest ∙ (ap (λ k. k + length rest) (be32_length n) ∙ ap (λ k. 4 + k) is)
-
-blob_length : (octets : List ℕ) → length (blob octets) ≡ 4 + length octets
-blob_length octets = behind (length octets) (length octets) octets refl
+behind n m rest is = length-append (be32 n) rest ∙ (ap (λ k. k + length rest) (length-be32 n) ∙ ap (λ k. 4 + k) is)
 
 blobs_length : (frames : List (List ℕ)) → length (flat_map blob frames) ≡ frames_size frames
 blobs_length [] = refl
 blobs_length (f ∷ frames) =
     let both : length (flat_map blob (f ∷ frames)) ≡ length (blob f) + length (flat_map blob frames) = length-append (blob f) (flat_map blob frames) in
     let sum : frames_size (f ∷ frames) ≡ frame_size f + frames_size frames = sum_by-cons frame_size f frames in
-    let one = blob_length f in
+    let one = length-blob f in
     let more = blobs_length frames in
     omega (arith, both, sum, one, more)
 
@@ -45,9 +36,9 @@ text_length (Up conn channel bare identity) =
     behind conn (3 + length identity) (channel_code channel ∷ form_code bare ∷ str8 identity) (three (channel_code channel) (form_code bare) identity) in
     e ∙ (omega arith)
 text_length (Piece conn octets) =
-    let e : length (kind_text (Piece conn octets)) ≡ 4 + (4 + length octets) = behind conn (4 + length octets) (blob octets) (blob_length octets) in
+    let e : length (kind_text (Piece conn octets)) ≡ 4 + (4 + length octets) = behind conn (4 + length octets) (blob octets) (length-blob octets) in
     e ∙ (omega arith)
-text_length (Down conn) = be32_length conn
+text_length (Down conn) = length-be32 conn
 text_length Beat = refl
 text_length Time = refl
 text_length (Message conn frames) =
@@ -59,4 +50,4 @@ sized : (kind : ℕ) (a b text : List ℕ) (n : ℕ) → length a ≡ 8 → leng
 sized kind a b text n x y z = let e = length-append (a ++ b) text in let f = length-append a b in omega (arith, e, f, x, y, z)
 
 pub spelled_length : (r : TapeRecord) → length (spelled r) ≡ kind_size r.kind + 17
-spelled_length r = sized (kind_code r.kind) (be64 r.moment) (be64 r.word) (kind_text r.kind) (kind_size r.kind) (be64_length r.moment) (be64_length r.word) (text_length r.kind)
+spelled_length r = sized (kind_code r.kind) (be64 r.moment) (be64 r.word) (kind_text r.kind) (kind_size r.kind) (be64_width r.moment) (be64_width r.word) (text_length r.kind)

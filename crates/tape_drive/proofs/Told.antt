@@ -4,13 +4,10 @@ use Rattle.std.specs.List.{list_all}
 use Rattle.std.proofs.lemmas.Bool.Decides.{nat_tests}
 use Rattle.cluster_types.specs.Limits.{field_limit}
 use Rattle.tape.specs.Spelling.{FitsBlob}
-
-both : (a b : Bool) → a ≡ true → b ≡ true → (a && b) ≡ true
-both true b one two = two
-both false b one two = one
+use Rattle.std.proofs.lemmas.Bool.{and_from}
 
 pub told_all : (bodies : List (List ℕ)) → All FitsBlob bodies → list_all (λ body. nat_le (length body) field_limit) bodies ≡ true
 told_all [] all = refl
 told_all (body ∷ bodies) all =
     let first : length body < 2 ^ 32 = all 0 [] (omega arith) in
-    both (nat_le (length body) field_limit) (list_all (λ b. nat_le (length b) field_limit) bodies) (grind (arith, nat_tests, first)) (told_all bodies (λ k d inside. all (suc k) d (omega (arith, inside))))
+    and_from (nat_le (length body) field_limit) (list_all (λ b. nat_le (length b) field_limit) bodies) (grind (arith, nat_tests, first)) (told_all bodies (λ k d inside. all (suc k) d (omega (arith, inside))))

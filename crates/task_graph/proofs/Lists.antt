@@ -31,14 +31,6 @@ no_more false o p v is same = refl
 pub stays : (f g : List ℕ → Option (Vec ℕ)) (id : List ℕ) (v : Vec ℕ) → v.items ≡ places_in (f id) → ((j : List ℕ) → g j ≡ cond (bytes_eq id j) (Some v) (f j)) → (j : List ℕ) → places_in (g j) ≡ places_in (f j)
 stays f g id v is sets j = ap places_in (sets j) ∙ no_more (bytes_eq id j) (f id) (f j) v is (λ on. ap f (same_id id j on))
 
-pub has_one : {X : Type 0} (o : Option X) (x : X) → Some x ≡ o → is_some o ≡ true
-has_one None x e = cc
-has_one (Some y) x e = refl
-
-pub at_err : {T E Q : Type 0} (r : Result T E) → Q → OnErr r Q
-at_err (Ok x) q = tt
-at_err (Err e) q = q
-
 -- MANY IDS
 
 -- how often some ids and one more list an id

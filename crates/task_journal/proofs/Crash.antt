@@ -28,7 +28,7 @@ pub closed_gate : (size x : ℕ) (rest : List ℕ) → (x == 167) ≡ false → 
 unfolding found_from
 closed_gate size x rest closed = rw closed refl
 
-number_is : (n : ℕ) (rest : List ℕ) → n < 2 ^ 32 → from_be_bytes w32 (take 4 (be32 n ++ rest)) ≡ n
+pub number_is : (n : ℕ) (rest : List ℕ) → n < 2 ^ 32 → from_be_bytes w32 (take 4 (be32 n ++ rest)) ≡ n
 unfolding be32
 number_is n rest lt = ap (from_be_bytes w32) (take_at (be32 n) rest 4 refl) ∙ from_be_bytes-to_be_bytes_4 n lt
 

@@ -5,7 +5,7 @@ use Rattle.std.specs.Ordering.{nat_cmp}
 use Rattle.std.specs.BTreeMap.{is_at}
 use Rattle.std.specs.List.{list_any, list_all, cons_option}
 use Rattle.std.specs.Option.{option_and_then}
-use Rattle.std.proofs.lemmas.Bool.{both_ways, eqb-true}
+use Rattle.std.proofs.lemmas.Bool.{both_ways, eqb-true, and_from, or_left, or_right}
 use Rattle.cluster_types.specs.declared.event.Dep.{Dep}
 use Rattle.cluster_defs.specs.declared.engine.Engine.{Engine}
 use Rattle.cluster_defs.specs.Words.{Id, is_empty, is_listed, is_number}
@@ -20,7 +20,9 @@ use Rattle.task_table.specs.Standing.{alone}
 use Rattle.task_table.specs.Live.{lone}
 use Rattle.task_table.specs.Waiting.{settled_in, ready_as, ready, awaits_as, is_among}
 use Rattle.task_table.specs.Fitting.{among, fits, hopeless_as, hopeless, is_tied, tied}
-use Rattle.task_table.proofs.Waiting.{or_left, or_right, any_agree, all_agree, met_agrees, unreachable_agrees, Agrees}
+use Rattle.task_table.proofs.Waiting.{any_agree, all_agree, met_agrees, unreachable_agrees, Agrees}
+use Rattle.cluster_types.proofs.Booleans.{and_left}
+use Rattle.cluster_types.proofs.Lists.{all-weaker}
 
 -- WHAT HANGS ON LISTED IDS ALONE
 
@@ -84,17 +86,9 @@ module _ (ts us : List Seen) where
 
 -- MORE LIVE ENGINES, MORE HOPE
 
-and_left : (a b : Bool) → (a && b) ≡ true → a ≡ true
-and_left true b on = refl
-and_left false b on = on
-
 and_right : (a b : Bool) → (a && b) ≡ true → b ≡ true
 and_right true b on = on
 and_right false b on = cc
-
-and_both : (a b : Bool) → a ≡ true → b ≡ true → (a && b) ≡ true
-and_both true b one two = two
-and_both false b one two = one
 
 or_up : (a b c d : Bool) → (a ≡ true → c ≡ true) → (b ≡ true → d ≡ true) → (a || b) ≡ true → (c || d) ≡ true
 or_up true b c d one two on = or_left c d (one refl)
@@ -113,15 +107,11 @@ any_up : {X : Type 0} (p q : X → Bool) → ((x : X) → p x ≡ true → q x �
 any_up p q up [] on = on
 any_up p q up (x ∷ xs) on = or_up (p x) (list_any p xs) (q x) (list_any q xs) (up x) (any_up p q up xs) on
 
-all_up : {X : Type 0} (p q : X → Bool) → ((x : X) → p x ≡ true → q x ≡ true) → (xs : List X) → list_all p xs ≡ true → list_all q xs ≡ true
-all_up p q up [] on = refl
-all_up p q up (x ∷ xs) on = and_both (q x) (list_all q xs) (up x (and_left (p x) (list_all p xs) on)) (all_up p q up xs (and_right (p x) (list_all p xs) on))
-
 module _ (ts : List Seen) (few many : List Engine) (a : Task) (r : Request) (more : (n : ℕ) → lists_number n few ≡ true → lists_number n many ≡ true) where
   lost_up : (n : ℕ) → not (lists_number n many && not (excludes (among ts many 0 a) [] n)) ≡ true → not (lists_number n few && not (excludes (among ts few 0 a) [] n)) ≡ true
   lost_up n on =
       not_up (lists_number n many && not (excludes (among ts many 0 a) [] n)) (lists_number n few && not (excludes (among ts few 0 a) [] n))
-      (λ here. and_both (lists_number n many) (not (excludes (among ts many 0 a) [] n)) (more n (and_left (lists_number n few) (not (excludes (among ts few 0 a) [] n)) here)) (and_right (lists_number n few) (not (excludes (among ts few 0 a) [] n)) here)) on
+      (λ here. and_from (lists_number n many) (not (excludes (among ts many 0 a) [] n)) (more n (and_left (lists_number n few) (not (excludes (among ts few 0 a) [] n)) here)) (and_right (lists_number n few) (not (excludes (among ts few 0 a) [] n)) here)) on
 
   usable_up : (e : Option ℕ) → usable_on (among ts few 0 a) [] r e ≡ true → usable_on (among ts many 0 a) [] r e ≡ true
   usable_up None on = on
@@ -144,7 +134,7 @@ module _ (ts : List Seen) (few many : List Engine) (a : Task) (r : Request) (mor
       or_up (list_any (λ i. spoils f [] r (settled_in ts i)) r.follow.ids) (scattered (settled_in ts) r.follow.ids) (list_any (λ i. spoils g [] r (settled_in ts i)) r.follow.ids) (scattered (settled_in ts) r.follow.ids)
       (any_up (λ i. spoils f [] r (settled_in ts i)) (λ i. spoils g [] r (settled_in ts i)) (λ i. spoils_up (settled_in ts i)) r.follow.ids) (λ h. h) on
   spoilt_up false on =
-      all_up (λ i. spoils (among ts many 0 a) [] r (settled_in ts i)) (λ i. spoils (among ts few 0 a) [] r (settled_in ts i)) (λ i. spoils_up (settled_in ts i)) r.follow.ids on
+      all-weaker (λ i. spoils (among ts many 0 a) [] r (settled_in ts i)) (λ i. spoils (among ts few 0 a) [] r (settled_in ts i)) (λ i. spoils_up (settled_in ts i)) r.follow.ids on
 
   dead_up : is_dead (among ts many 0 a) [] r ≡ true → is_dead (among ts few 0 a) [] r ≡ true
   dead_up on =
@@ -152,7 +142,7 @@ module _ (ts : List Seen) (few many : List Engine) (a : Task) (r : Request) (mor
       let g = among ts few 0 a in
       three (unreachable r.after (settled_in ts)) (no_target f [] r) (no_target g [] r) (follow_dead f [] r) (follow_dead g [] r)
       (and_up (is_bound r) (list_all (λ n. not (lists_number n many && not (excludes f [] n))) r.targets) (list_all (λ n. not (lists_number n few && not (excludes g [] n))) r.targets)
-      (all_up (λ n. not (lists_number n many && not (excludes f [] n))) (λ n. not (lists_number n few && not (excludes g [] n))) lost_up r.targets))
+      (all-weaker (λ n. not (lists_number n many && not (excludes f [] n))) (λ n. not (lists_number n few && not (excludes g [] n))) lost_up r.targets))
       (and_up (not (is_empty r.follow.ids)) (follow_spoilt f [] r r.follow.all) (follow_spoilt g [] r r.follow.all) (spoilt_up r.follow.all)) on
     where
       three : (u n m c d : Bool) → (n ≡ true → m ≡ true) → (c ≡ true → d ≡ true) → (u || n || c) ≡ true → (u || m || d) ≡ true

@@ -18,7 +18,7 @@ use Rattle.cluster_defs.specs.Facts.{is_direct_id}
 use Rattle.task_table.specs.Seen.{Seen}
 use Rattle.task_table.specs.Standing.{alone, runs_open}
 use Rattle.task_table.specs.Loading.{loads, load_in, load_among, loaded, loaded_at, running_on, CountedAnew, Tallied}
-use Rattle.task_table.proofs.Marking.{at_runs}
+use Rattle.cluster_defs.proofs.Attempts.{at_runs}
 
 -- ONE TASK
 

@@ -8,7 +8,7 @@ use Rattle.place_sets.specs.Sets.{has, holds_at, Covers, Apart}
 use Rattle.place_sets.specs.Lanes.{in_lane}
 use Rattle.cluster_defs.specs.declared.engine.Engine.{Engine}
 use Rattle.cluster_defs.specs.Engines.{lists_number}
-use Rattle.place_sets.proofs.Covering.{covers_grown, covers_at, covers_changed, covers_more, first_or_later, same_place, off_from}
+use Rattle.place_sets.proofs.Covering.{covers_grown, covers_at, covers_changed, covers_more, first_or_later, same_place}
 use Rattle.task_table.specs.declared.marks.Marks.{Marks}
 use Rattle.std.specs.Option.{is_some}
 use Rattle.cluster_defs.specs.declared.attempt.Attempt.{Attempt}
@@ -23,7 +23,8 @@ use Rattle.task_table.proofs.Fits.{fits_agrees, hopeless_agrees}
 use Rattle.task_table.specs.Places.{Alike, name}
 use Rattle.task_table.proofs.Waiting.{Outside, kept, settle_outside, others_settled, one_place, alike_settled, all_agree_at, more_settled, get_more}
 use Rattle.cluster_defs.specs.Words.{Id}
-use Rattle.std.proofs.lemmas.Bool.{both_ways}
+use Rattle.std.proofs.lemmas.Bool.{both_ways, false_from_ne_true}
+use Rattle.cluster_defs.proofs.Attempts.{at_runs}
 
 pub marked_grown : (ts : List Seen) (m n : Marks) → Marked ts m → AllGrow m n → Marked ts n
 marked_grown ts m n b g = record {
@@ -81,7 +82,7 @@ marked_settled ts us m id place places b h woken at awaited apart names = record
 -- any changes of the tasks at some places
 module _ (ts us : List Seen) (places : List ℕ) (aside : Aside places ts us) where
   none_of : (s : BTreeSet ℕ) → ((i : ℕ) → is_among i places ≡ true → has s i ≡ true) → (i : ℕ) → has s i ≡ false → is_among i places ≡ false
-  none_of s there i off = off_from (is_among i places) (λ on. both_ways (has s i) off (there i on))
+  none_of s there i off = false_from_ne_true (is_among i places) (λ on. both_ways (has s i) off (there i on))
 
   covers_aside : (p : Seen → Bool) (s : BTreeSet ℕ) → Covers p ts s → ((i : ℕ) → is_among i places ≡ true → has s i ≡ true) → Covers p us s
   covers_aside p s covers there = covers_changed p ts us s covers (λ i off. aside i (none_of s there i off))
@@ -159,14 +160,6 @@ pub woken_more : (ps : List ℕ) (p : ℕ) (m n : Marks) → AllWoken ps m → A
 woken_more ps p m n h g there = λ i on. ⊎_elim (λ before. woken_grown i m n (h i before) g) (λ e. subst (λ k. Woken k n) (sym e) there) (among_end ps p i on)
 
 -- ATTEMPTS THAT END
-
-pub at_runs : (n : ℕ) (a : Attempt) → runs_at n a ≡ true → runs a ≡ true
-at_runs n (Running m) h = refl
-at_runs n Never h = cc
-at_runs n (EndedOk m) h = cc
-at_runs n (EndedBadly m) h = cc
-at_runs n (Lost m) h = cc
-at_runs n (Declined m) h = cc
 
 stays : (s r a : Bool) (x y : Seen) → (not s && r) ≡ false → (a ≡ true → r ≡ true) → cond s x (cond a y x) ≡ x
 stays true r a x y off up = refl

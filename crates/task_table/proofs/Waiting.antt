@@ -10,7 +10,7 @@ use Rattle.std.proofs.lemmas.List.Sums.{sum_by-cons, sum_by_push}
 use Rattle.std.specs.Option.{option_and_then}
 use Rattle.std.specs.BTreeSet.{BTreeSet}
 use Rattle.place_sets.specs.Sets.{has, holds, holds_at, Apart}
-use Rattle.place_sets.proofs.Covering.{off_from, first_or_later}
+use Rattle.place_sets.proofs.Covering.{first_or_later}
 use Rattle.cluster_types.specs.declared.event.Dep.{Dep}
 use Rattle.cluster_defs.specs.Words.{Id, is_empty, is_listed}
 use Rattle.cluster_defs.specs.declared.settled.Settled.{Settled}
@@ -20,19 +20,11 @@ use Rattle.cluster_defs.proofs.Options.{same_id, id_self}
 use Rattle.task_table.specs.Seen.{Seen, seen_in, place_in}
 use Rattle.task_table.specs.Places.{name, settling, asking, Alike}
 use Rattle.task_graph.specs.Listing.{Lists, waiting_for, times_listed, AllAdded, SameLists}
-use Rattle.std.proofs.lemmas.Bool.{both_ways, eqb-true, eq-eqb}
+use Rattle.std.proofs.lemmas.Bool.{both_ways, eqb-true, eq-eqb, or_right, or_left, false_from_ne_true}
 use Rattle.task_table.specs.Waiting.{settled_in, awaits_as, awaits, is_among, Awaited, Indexed, ids_of, listings, Within}
 use Rattle.task_table.proofs.Places.{same_place, found_seen}
 
 -- WHAT HANGS ON LISTED IDS ALONE
-
-pub or_left : (a b : Bool) → a ≡ true → (a || b) ≡ true
-or_left true b h = refl
-or_left false b h = cc
-
-pub or_right : (a b : Bool) → b ≡ true → (a || b) ≡ true
-or_right true b h = refl
-or_right false b h = h
 
 pub all_agree : (p q : Id → Bool) (ids : List Id) → ((i : Id) → is_listed i ids ≡ true → p i ≡ q i) → list_all p ids ≡ list_all q ids
 all_agree p q [] same = refl
@@ -100,12 +92,12 @@ others_settled ts us x j p names apart at once off =
 pub settle_outside : (ts us : List Seen) (x : Id) (p : ℕ) (places : List ℕ) (s : BTreeSet ℕ) → Awaited x ts places → ((i : ℕ) → is_among i places ≡ true → has s i ≡ true) → has s p ≡ true → Apart p ts us → ((j : Id) → bytes_eq j x ≡ false → settled_in ts j ≡ settled_in us j) → Outside ts us s
 settle_outside ts us x p places s awaited marked here apart others = λ i off. (
   apart i (λ e. both_ways (has s p) (subst (λ k. has s k ≡ false) e off) here),
-  agree (slice_get ts i) (off_from (holds (awaits x) (slice_get ts i)) (λ on. both_ways (has s i) off (marked i (awaited i on)))),
+  agree (slice_get ts i) (false_from_ne_true (holds (awaits x) (slice_get ts i)) (λ on. both_ways (has s i) off (marked i (awaited i on)))),
 )
   where
     agree : (o : Option Seen) → holds (awaits x) o ≡ false → Agrees ts us o
     agree None off = tt
-    agree (Some t) off = λ j on. others j (off_from (bytes_eq j x) (λ same. both_ways (awaits x t) off (subst (λ k. awaits k t ≡ true) (same_id j x same) on)))
+    agree (Some t) off = λ j on. others j (false_from_ne_true (bytes_eq j x) (λ same. both_ways (awaits x t) off (subst (λ k. awaits k t ≡ true) (same_id j x same) on)))
 
 -- two ids of one place are one
 at_once : (b c : Bool) (o q : Option ℕ) (p : ℕ) {P : Type 0} → cond b (Some 0) (option_map suc o) ≡ Some p → cond c (Some 0) (option_map suc q) ≡ Some p → (b ≡ true → c ≡ true → P) → ((k : ℕ) → o ≡ Some k → q ≡ Some k → P) → P

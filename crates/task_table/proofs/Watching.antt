@@ -20,10 +20,6 @@ pub up_ok : {T E P Q : Type 0} (r : Result T E) → (P → Q) → OnOk r P → O
 up_ok (Ok x) up p = up p
 up_ok (Err e) up p = tt
 
-pub at_ok : {T E Q : Type 0} (r : Result T E) → Q → OnOk r Q
-at_ok (Ok x) q = q
-at_ok (Err e) q = tt
-
 -- THE LANES OF ENGINES WHERE A TASK FITS
 
 pub fit_after : (ts : List Seen) (t : Seen) (place : ℕ) (l m n : LaneList) → StaysWhereFit ts t place l m → StaysWhereFit ts t place m n → StaysWhereFit ts t place l n

@@ -3,11 +3,11 @@
 use crate::tables::{adds, are, ids, running, table};
 use cluster_types::message::Ids;
 use cluster_types::record::Records;
-use std::alloc::Global;
-use std::process::Abort;
 use resubmission::distinct::once;
 use resubmission::list::RecordList;
 use resubmission::standing::{Standing, ids_that};
+use std::alloc::Global;
+use std::process::Abort;
 
 #[test]
 fn list_takes_the_next_records(rt: HostRuntime) {

@@ -15,9 +15,9 @@ use cluster_types::verdict::{Cause, Verdict};
 use hub_queries::answer::answer;
 use hub_queries::engines::LiveEngines;
 use hub_queries::limits::limited;
+use resubmission::list::RecordList;
 use std::alloc::Global;
 use std::process::Abort;
-use resubmission::list::RecordList;
 
 fn octets<R: Abort>(rt: &R, alloc: Global, bytes: &[u8]) -> Octets {
     Octets::new(alloc, bytes).expect(rt, "memory is ample")

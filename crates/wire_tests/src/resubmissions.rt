@@ -6,11 +6,11 @@ use cluster_defs::answer::Answer;
 use cluster_types::config::Channel;
 use cluster_types::message::Ids;
 use hub_queries::resubmissions::{purge_answer, refused_answer, renamed_answer};
+use resubmission::list::RecordList;
 use resubmission::plan::{Renamed, ResubmitRefusal, plan};
 use resubmission::purge::{PurgePlan, plan_purge};
 use std::alloc::Global;
 use std::process::Abort;
-use resubmission::list::RecordList;
 
 /// A refusal of a resubmission: its name, and each of its ids followed by a blank.
 fn is_refusal(refused: &ResubmitRefusal, name: &str, names: &str) -> bool {

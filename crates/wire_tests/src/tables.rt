@@ -6,9 +6,9 @@ use cluster_types::sequence::Sequence;
 use cluster_types::shared_message::SharedMessage;
 use cluster_types::text::Text;
 use cluster_types::verdict::{Cause, Verdict};
+use resubmission::list::RecordList;
 use std::alloc::Global;
 use std::process::Abort;
-use resubmission::list::RecordList;
 
 pub(crate) fn text<R: Abort>(rt: &R, alloc: Global, name: &str) -> Text {
     Text::new(alloc, name).expect(rt, "memory is ample")

@@ -22,6 +22,7 @@ use Rattle.tape.specs.declared.record.TapeRecord.{TapeRecord}
 use Rattle.work_drive.specs.Draws.{draw}
 use Rattle.work_drive.specs.Tasks.{task_header, after_text, task_metadata, task_content}
 use Rattle.work_drive.specs.Generated.{most_tasks, work_key, up, sent, engine_uuid, engine_records, opening, task_record, tasks_from, generated}
+use Rattle.edges.proofs.DateRows.{first}
 
 -- a short piece between two others, whose lengths are known
 between_fits : (before piece behind : List ℕ) (m n : ℕ) → length before ≡ m → length behind ≡ n → length piece ≤ 30 → m + n < 1000 → FitsBlob (before ++ piece ++ behind)
@@ -113,10 +114,6 @@ tasks_fit seed k zero few = All-nil Fits
 tasks_fit seed k (suc count) few =
     All-cons Fits (task_record k (draw seed k)) (tasks_from seed (k + 1) count) (task_fits k (draw seed k) (omega arith)) (tasks_fit seed (k + 1) count (omega arith))
 
-first_date : date_of 0 ≡ codes "1970-01-01T00:00:00.000Z"
-unfolding from_month from_year civil_date date_digits day_text time_text date_of
-first_date = refl
-
 abbrev registration_header : ℕ → List ℕ → List ℕ
 registration_header conn date =
     header_text (quoted (message_id (engine_uuid conn) 0)) (quoted (engine_uuid conn)) (quoted (engine_uuid conn)) date (quoted (codes "registration_request"))
@@ -125,7 +122,7 @@ engine_fits : (conn : ℕ) → conn < 2 ^ 32 → length (engine_uuid conn) ≡ 2
     → length (registration_content (engine_uuid conn)) ≡ 13 → All Fits (engine_records conn)
 unfolding engine_records
 engine_fits conn small uuid header content =
-    let at_date : length (registration_header conn (date_of 0)) ≡ 132 = ap (λ (date : List ℕ). length (registration_header conn date)) first_date ∙ header in
+    let at_date : length (registration_header conn (date_of 0)) ≡ 132 = ap (λ (date : List ℕ). length (registration_header conn date)) first ∙ header in
     let comes = up_fits conn Engine (engine_uuid conn) small (omega arith) in
     let asks = sent_fits conn (registration_header conn (date_of 0)) empty_object (registration_content (engine_uuid conn)) small (omega arith) empty_fits (omega arith) in
     All-from_recursion Fits (up conn Engine (engine_uuid conn) ∷ sent conn (registration (engine_uuid conn) 0) ∷ []) (comes, (asks, tt))

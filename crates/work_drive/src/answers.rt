@@ -8,12 +8,12 @@ ghost use Rattle.record_codec.specs.Spelling.{IsShort};
 ghost use Rattle.tape_drive.specs.Bare.{read_of};
 ghost use Rattle.work_drive.specs.Work.{first_engines, AnswersIf, AnswersAt, IsAnswered};
 
+use crate::engines::{engine_of, engine_uuid};
 use cluster_types::limits::{FIELD_OCTETS, MOST_BUFFERS};
 use cluster_types::octets::Octets;
 use cluster_types::out::Out;
 use cluster_types::shared_message::SharedMessage;
 use engine_core::engine::Engine;
-use crate::engines::{engine_of, engine_uuid};
 use hmac_sign::Key;
 use std::alloc::{AllocError, Global};
 use tape_drive::bare::read_of;

@@ -17,15 +17,15 @@ ghost use Rattle.work_drive.specs.Summaries.{summary_of};
 
 use crate::answers::{answer, is_short};
 use crate::fault::WorkError;
+use crate::generator::Generator;
 use crate::results::added;
+use crate::summary::Summary;
 use crate::summing::summed_up;
 use cluster_types::entry::Input;
 use cluster_types::out::{Out, Outs};
 use cluster_types::shared_message::SharedMessage;
 use disk_model::disk::Disk;
 use engine_core::engine::Engine;
-use crate::generator::Generator;
-use crate::summary::Summary;
 use hmac_sign::Key;
 use load_schemes::chooser::Chooser;
 use std::alloc::{AllocError, Global};

@@ -4,9 +4,9 @@ ghost use Rattle.std.specs.Prelude.{◌≡◌, count_by, reverse, length, List};
 ghost use Rattle.cluster_types.specs.declared.entry.Entry.{Entry as EntryType};
 ghost use Rattle.work_drive.specs.Summaries.{is_of, sums_up};
 
+use crate::summary::Summary;
 use cluster_types::entry::Entry;
 use cluster_types::verdict::Verdict;
-use crate::summary::Summary;
 
 /// What entries are counted by.
 #[derive(Clone, Copy, Debug)]

@@ -13,15 +13,15 @@ ghost use Rattle.work_drive.specs.Ends.{work_config, error_of, HasBegun, IsWorke
 
 use crate::answers::first_engines;
 use crate::fault::WorkError;
+use crate::generator::Generator;
+use crate::key::work_key;
+use crate::laws::records_fit;
 use crate::moves::Run;
+use crate::summary::Summary;
 use cluster_types::config::{Config, Scheme};
 use cluster_types::limits::{MOST_ENTRIES, MOST_RECORD_OCTETS};
 use disk_model::disk::Disk;
 use engine_core::engine::Engine;
-use crate::generator::Generator;
-use crate::key::work_key;
-use crate::laws::records_fit;
-use crate::summary::Summary;
 use hmac_sign::Key;
 use load_schemes::chooser::Chooser;
 use std::alloc::{AllocError, Global};

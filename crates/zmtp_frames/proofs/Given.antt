@@ -14,6 +14,7 @@ use Rattle.cluster_types.specs.Limits.{body_limit}
 use Rattle.zmtp_frames.specs.Stream.{Reading, start, up, step, listed, reading_after, frames, frame, begun, sized, whole_at, head_of, flagged, are_flags, size_width}
 use Rattle.zmtp_frames.specs.Grammar.{IsFrame, AreFrames, IsUnfinished, IsPlaced, IsReadingOf, number_from, place_after}
 use Rattle.zmtp_frames.proofs.Whole.{place_append}
+use Rattle.cluster_types.proofs.Numbers.{above_zero}
 
 either_of : {A : Type 0} (P : A → Type 0) (b : Bool) (p q : A) → (b ≡ true → P p) → (b ≡ false → P q) → P (if b then p else q)
 either_of P true p q f g = f refl
@@ -104,9 +105,6 @@ zero_from_test n e = grind (arith, nat_tests)
 one_from_test : (n : ℕ) → (n == 1) ≡ true → n ≡ 1
 one_from_test n e = grind (arith, nat_tests)
 
-some_from_test : (n : ℕ) → (n == 0) ≡ false → 0 < n
-some_from_test n e = grind (arith, nat_tests)
-
 more_from_test : (n : ℕ) → 0 < n → (n == 1) ≡ false → 0 < n - 1
 more_from_test n some e = grind (arith, nat_tests)
 
@@ -125,7 +123,7 @@ sized_by_tests P head n true true l e f g h =
     absurd (omega (arith, less, none))
 sized_by_tests P head n true false l e f g h = f (less_from_test body_limit n l)
 sized_by_tests P head n false true l e f g h = g (zero_from_test n e)
-sized_by_tests P head n false false l e f g h = h (at_most_from_test body_limit n l) (some_from_test n e)
+sized_by_tests P head n false false l e f g h = h (at_most_from_test body_limit n l) (above_zero n e)
 
 -- the last octet of a size
 sized_by : (place : ℕ) (octets : List ℕ) (x p size : ℕ) (head : Head) (body : List ℕ) (list : List Frame) (k : IsReadingOf place octets (record { place = p; stage = Sizing head 1 size; body = body }) list)

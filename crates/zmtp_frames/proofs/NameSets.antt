@@ -7,15 +7,11 @@ use Rattle.std.specs.List.{list_any}
 use Rattle.std.specs.BTreeSet.{insert_key}
 use Rattle.std.proofs.lemmas.Map.Text.{is_eq-slice_cmp}
 use Rattle.std.proofs.lemmas.Slice.Eq.{bytes_eq-Decides}
+use Rattle.cluster_types.proofs.Booleans.{or_swap}
 
 or_same : (a b : Bool) → (a || b) ≡ (a || (a || b))
 or_same true b = refl
 or_same false b = refl
-
-or_swap : (a b c : Bool) → (a || (b || c)) ≡ (b || (a || c))
-or_swap true true c = refl
-or_swap true false c = refl
-or_swap false b c = refl
 
 pub held : {K : Type 0} (items : K → List ℕ) (k : K) (ks : List K)
     → list_any (λ x. is_eq (slice_cmp nat_cmp (items k) (items x))) ks ≡ list_any (bytes_eq (items k)) (map items ks)

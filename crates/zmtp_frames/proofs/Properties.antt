@@ -14,6 +14,7 @@ use Rattle.octet_fields.proofs.Takes.{IsBytes, Takes, Joined, Str8, Blob, str8_t
 use Rattle.zmtp_frames.specs.declared.metadata.Property.{Property}
 use Rattle.zmtp_frames.specs.Written.{written_property, written_properties}
 use Rattle.zmtp_frames.specs.Command.{property_at, read_off, same_name, with_property, metadata_step, metadata_from, metadata, MayStand}
+use Rattle.cluster_types.proofs.Numbers.{not_zero, above_zero}
 
 abbrev named_value : List ℕ → List ℕ → Property
 named_value name value = record { name = name; value = value }
@@ -29,9 +30,6 @@ step_with before q = option_map (paired q.1) (with_property before q.0)
 property_again : (p : Property) (rest : List ℕ) → length p.value < 2 ^ 32 → property_at (written_property p.name p.value ++ rest) ≡ Ok (p, rest)
 unfolding property_at
 property_again p rest lt = rw (append_assoc (str8 p.name) (blob p.value) rest, str8_again p.name (blob p.value ++ rest), blob_again p.value rest lt) refl
-
-not_zero : (n : ℕ) → 0 < n → (n == 0) ≡ false
-not_zero n lt = grind (arith, nat_tests)
 
 one_more : (before : List Property) (p : Property) → 0 < length p.name → list_any (λ q. same_name p.name q.name) before ≡ false → with_property before p ≡ Some (before ++ p ∷ [])
 one_more before p some fresh = rw (not_zero (length p.name) some, fresh) refl
@@ -98,9 +96,6 @@ some_name true c o after e = absurd (none-some after e)
 some_name false true o after e = absurd (none-some after e)
 some_name false false o after e = (refl, refl, grind (arith, e))
 
-from_zero : (n : ℕ) → (n == 0) ≡ false → 0 < n
-from_zero n e = grind (arith, nat_tests)
-
 made_step : (before : List Property) (octets : List ℕ) (p : Property) (o : Option (List Property)) (after : List Property) (now rest : List ℕ) → IsBytes octets → property_at octets ≡ Ok (p, now) → with_property before p ≡ o
     → option_map (paired now) o ≡ Some (after, rest) → IsStep before octets after rest
 made_step before octets p None after now rest bytes is with-is e = absurd (none-some (after, rest) e)
@@ -113,7 +108,7 @@ made_step before octets p (Some more) after now rest bytes is with-is e =
       p = p;
       after-is = after-is ∙ s.2;
       first = subst (λ (r : List ℕ). IsFirst octets p r) rest-is (first_property octets p now bytes is);
-      some = from_zero (length p.name) s.0;
+      some = above_zero (length p.name) s.0;
       fresh = s.1;
     }
 

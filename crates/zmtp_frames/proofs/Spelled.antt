@@ -8,6 +8,7 @@ use Rattle.zmtp_frames.specs.declared.frame.Frame.{Frame}
 use Rattle.cluster_types.specs.Limits.{body_limit}
 use Rattle.zmtp_frames.specs.Grammar.{IsFrame, number_from}
 use Rattle.zmtp_frames.specs.Written.{written, more_flag}
+use Rattle.octet_fields.proofs.Widths.{be64_width}
 
 eight : (a b c d e f g h : ℕ) → number_from 0 (a ∷ b ∷ c ∷ d ∷ e ∷ f ∷ g ∷ h ∷ []) ≡ from_be_bytes w64 (a ∷ b ∷ c ∷ d ∷ e ∷ f ∷ g ∷ h ∷ [])
 eight a b c d e f g h = omega arith
@@ -15,10 +16,6 @@ eight a b c d e f g h = omega arith
 be64_value : (n : ℕ) → n < 2 ^ 64 → number_from 0 (be64 n) ≡ n
 unfolding be64
 be64_value n lt = eight _ _ _ _ _ _ _ _ ∙ from_be_bytes-to_be_bytes_8 n lt
-
-be64_width : (n : ℕ) → length (be64 n) ≡ 8
-unfolding be64
-be64_width n = refl
 
 one_value : (n : ℕ) → number_from 0 (n ∷ []) ≡ n
 one_value n = omega arith

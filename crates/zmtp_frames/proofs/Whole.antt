@@ -11,12 +11,7 @@ use Rattle.zmtp_frames.specs.declared.frame.Stage.TheVariants.{Sizing, Filling}
 use Rattle.zmtp_frames.specs.Stream.{Reading, start, up, step, listed, reading_after, frames, frame, sized, whole_at, head_of, are_flags, size_width}
 use Rattle.zmtp_frames.specs.Grammar.{IsFrame, AreFrames, number_from, place_after}
 use Rattle.zmtp_frames.proofs.Pieces.{after_append, frames_append}
-
-not_one : (n : ℕ) → 1 < n → (n == 1) ≡ false
-not_one n lt = grind (arith, nat_tests)
-
-not_zero : (n : ℕ) → 0 < n → (n == 0) ≡ false
-not_zero n lt = grind (arith, nat_tests)
+use Rattle.cluster_types.proofs.Numbers.{not_zero, not_one, some_width}
 
 pub record Gives (r : Reading) (xs : List ℕ) (new : Reading) (list : List Frame) : Type 0 where
   pub state : reading_after r xs ≡ new
@@ -71,10 +66,6 @@ behind_size place head (x ∷ xs) le =
 pub place_append : (place : ℕ) (xs ys : List ℕ) → place_after place (xs ++ ys) ≡ place_after (place_after place xs) ys
 place_append place [] ys = refl
 place_append place (x ∷ xs) ys = place_append (up place) xs ys
-
-some_width : (b : Bool) (n : ℕ) → n ≡ (if b then 8 else 1) → n ≡ 0 → ⊥
-some_width true n e z = omega arith
-some_width false n e z = omega arith
 
 whole_frame : (at flags : ℕ) (size body : List ℕ) → are_flags flags ≡ true → length size ≡ size_width flags → number_from 0 size ≡ length body → length body ≤ 16777216
     → Gives (start at) (flags ∷ (size ++ body)) (start (place_after at (flags ∷ (size ++ body)))) (frame (head_of at flags) body ∷ [])

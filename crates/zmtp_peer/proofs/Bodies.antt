@@ -106,7 +106,3 @@ first_octet t u next [] n gave same none some is = absurd (omega (arith, some))
 first_octet t u next (x ∷ xs) n gave same none some is =
     let before : u ≡ t = same ∙ ap (λ (k : ℕ). talked t (take k (x ∷ xs))) none in
     first_of t next x xs gave (subst (λ (v : Talk). talk v x ≡ (next, gave)) before is)
-
-pub none_of : {X : Type 0} (o : Option X) → is_some o ≡ false → o ≡ None
-none_of None h = refl
-none_of (Some x) h = cc

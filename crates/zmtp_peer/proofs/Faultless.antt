@@ -21,12 +21,7 @@ use Rattle.zmtp_peer.specs.declared.phase.Gave.{Gave}
 use Rattle.zmtp_peer.specs.PeerStream.{Talk, begins, talk, greet, hear, hear_as, shaken, parts_after, begun_fault, first_fault, ended_by, is_served, talked}
 use Rattle.zmtp_peer.specs.Connection.{FollowsAs, MayFollow, IsFaultless}
 use Rattle.zmtp_peer.proofs.Pieces.{talked_append}
-
-not_one : (n : ℕ) → 1 < n → (n == 1) ≡ false
-not_one n lt = grind (arith, nat_tests)
-
-not_zero : (n : ℕ) → 0 < n → (n == 0) ≡ false
-not_zero n lt = grind (arith, nat_tests)
+use Rattle.cluster_types.proofs.Numbers.{not_zero, not_one, some_width}
 
 abbrev at_size : ℕ → Head → ℕ → ℕ → Reading
 at_size place head left n = record { place = place; stage = stages.Sizing head left n; body = [] }
@@ -94,10 +89,6 @@ size_heard phase greeting parts head body next h place n x (y ∷ ys) value limi
     let one : step (at_size place head (length (x ∷ y ∷ ys)) n) x ≡ (at_size (up place) head (length (y ∷ ys)) (256 * n + x), None) = rw (more, less) refl in
     ap (λ (t : Talk). talked t ((y ∷ ys) ++ body)) (goes phase greeting parts head body next h (at_size place head (length (x ∷ y ∷ ys)) n) (at_size (up place) head (length (y ∷ ys)) (256 * n + x)) x one h.flags)
     ∙ size_heard phase greeting parts head body next h (up place) (256 * n + x) y ys value limit
-
-some_width : (b : Bool) (n : ℕ) → n ≡ (if b then 8 else 1) → n ≡ 0 → ⊥
-some_width true n e z = omega arith
-some_width false n e z = omega arith
 
 frame_heard : (phase : Phase) (greeting : List ℕ) (parts : List (List ℕ)) (place flags : ℕ) (size body : List ℕ) (next : List (List ℕ)) → Hears phase greeting parts (head_of place flags) body next
     → are_flags flags ≡ true → length size ≡ size_width flags → number_from 0 size ≡ length body → length body ≤ body_limit

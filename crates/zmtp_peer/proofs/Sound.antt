@@ -34,6 +34,7 @@ use Rattle.zmtp_peer.specs.PeerStream.{Talk, begins, talk, greet, hear, hear_as,
 use Rattle.zmtp_peer.specs.Connection.{FollowsAs}
 use Rattle.zmtp_peer.specs.Limits.{IsShortMessage, IsShortIdentity, IsCounted, IsSound}
 use Rattle.zmtp_peer.proofs.Messages.{octets_more}
+use Rattle.cluster_types.proofs.Numbers.{above_zero}
 
 choice : {A : Type 0} (P : A → Type 0) (b : Bool) (x y : A) → (b ≡ true → P x) → (b ≡ false → P y) → P (cond b x y)
 choice P true x y first second = first refl
@@ -50,9 +51,6 @@ stepped r f = (r, f)
 abbrev Counted : Reading × Option Frame → Type 0
 Counted s = IsCounted s.0.stage s.0.body
 
-not_zero : (n : ℕ) → (n == 0) ≡ false → 0 < n
-not_zero n e = grind (arith, nat_tests)
-
 not_one : (n : ℕ) → (n == 1) ≡ false → 0 < n → 0 < n - 1
 not_one n e some = grind (arith, nat_tests)
 
@@ -61,7 +59,7 @@ flagged_counted at flags body none =
     choice (λ stage. IsCounted stage body) (are_flags flags) (Sizing (head_of at flags) (size_width flags) 0) (Ended (BadFlags at) (begun (head_of at flags) None)) (λ fine. none) (λ bad. tt)
 
 some_counted : (size : ℕ) (body : List ℕ) → body ≡ [] → (size == 0) ≡ false → (0 < size) × (length body + size ≡ size)
-some_counted size body none some = let empty : length body ≡ 0 = ap length none in (not_zero size some, omega (arith, empty))
+some_counted size body none some = let empty : length body ≡ 0 = ap length none in (above_zero size some, omega (arith, empty))
 
 sized_counted : (head : Head) (size : ℕ) (body : List ℕ) → body ≡ [] → IsCounted (sized head size) body
 sized_counted head size body none =

@@ -1,7 +1,8 @@
 use Rattle.std.proofs.Common.{◌+◌, drop, arith}
 use Rattle.record_codec.specs.Records.{spellings}
-use Rattle.database_text.proofs.WrittenFronts.{sent_more, sent_some, record_off, at_err}
+use Rattle.database_text.proofs.WrittenFronts.{sent_more, sent_some, record_off}
 use Rattle.database_text.proofs.pending.put_records.Goals as goal
+use Rattle.cluster_types.proofs.Options.{at_err}
 
 pub returns-in_err-put_full-clause-err : goal.returns-in_err-put_full-clause-err
 returns-in_err-put_full-clause-err g c =

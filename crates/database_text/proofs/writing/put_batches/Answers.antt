@@ -3,9 +3,10 @@ use Rattle.std.specs.List.{flat_map}
 use Rattle.std.proofs.lemmas.List.Elements.{All-same, All-drop}
 use Rattle.record_codec.specs.Spelling.{HasRecord}
 use Rattle.database_text.specs.Compact.{open_batch, batches}
-use Rattle.database_text.proofs.WrittenFronts.{sent_more, sent_some, at_err}
+use Rattle.database_text.proofs.WrittenFronts.{sent_more, sent_some}
 use Rattle.database_text.proofs.Takes.{batch_off, short_both, short_rest}
 use Rattle.database_text.proofs.writing.put_batches.Goals as goal
+use Rattle.cluster_types.proofs.Options.{at_err}
 
 pub returns-in_err-put_batch-clause-err : goal.returns-in_err-put_batch-clause-err
 returns-in_err-put_batch-clause-err g c =

@@ -6,8 +6,9 @@ use Rattle.edges.specs.Streams.{Added}
 use Rattle.database_text.specs.Compact.{open_batch, batches, closing, compacted}
 use Rattle.database_text.specs.Sent.{Sent, SentSome}
 use Rattle.database_text.proofs.Found.{stands}
-use Rattle.database_text.proofs.WrittenFronts.{sent_none, some_none, sent_more, sent_some, sent_done, whole_is, at_err, at_ok}
+use Rattle.database_text.proofs.WrittenFronts.{sent_none, some_none, sent_more, sent_some, sent_done, whole_is}
 use Rattle.database_text.proofs.writing.write_journal.Goals as goal
+use Rattle.cluster_types.proofs.Options.{at_err, at_ok}
 
 pub returns-in_err-pending-clause-err : goal.returns-in_err-pending-clause-err
 returns-in_err-pending-clause-err g c = at_err _ (some_none _ _)

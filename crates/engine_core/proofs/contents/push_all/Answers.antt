@@ -2,8 +2,8 @@ use Rattle.std.proofs.Common.{◌≡◌, ◌<◌, ◌++◌, length, take, map, g
 use Rattle.message_defs.specs.Texts.{parted}
 use Rattle.jupyter_header.specs.Comma.{comma}
 use Rattle.engine_core.specs.Contents.{shown_member}
-use Rattle.engine_core.proofs.Members.{members_more}
 use Rattle.engine_core.proofs.contents.push_all.Goals as goal
+use Rattle.jupyter_header.proofs.CommasMore.{members_more}
 
 pub loop-place-preserved : goal.loop-place-preserved
 loop-place-preserved c =

@@ -2,8 +2,9 @@ use Rattle.std.proofs.Common.{◌≡◌, cond, bytes_eq, Some, true, subst, ◌&
 use Rattle.std.specs.HashMap.{get_by_text}
 use Rattle.std.specs.Option.{is_some}
 use Rattle.std.proofs.lemmas.Map.Text.{hash_map_updates_text}
-use Rattle.engine_registry.proofs.Telling.{pointed, has_one}
+use Rattle.engine_registry.proofs.Telling.{pointed}
 use Rattle.engine_registry.proofs.by_uuid.point.Goals as goal
+use Rattle.cluster_types.proofs.Options.{has_one}
 
 pub returns-in-Some : goal.returns-in-Some
 returns-in-Some c = λ j.

@@ -1,10 +1,10 @@
 use Rattle.std.proofs.Common.{◌≡◌, ◌<◌, ◌++◌, ℕ, List, length, take, map, get_or, string_bytes, arith, sym, ap, ◌∙◌, append_assoc}
 use Rattle.message_defs.specs.Texts.{parted, text_member}
 use Rattle.jupyter_header.specs.Comma.{comma}
-use Rattle.hub_queries.proofs.Parts.{members_more}
 use Rattle.resubmission.specs.Plans.{pair_of}
 use Rattle.resubmission.specs.declared.plan.Renaming.{Renaming}
 use Rattle.hub_queries.proofs.resubmissions.push_renamed.Goals as goal
+use Rattle.jupyter_header.proofs.CommasMore.{members_more}
 
 pub loop-place-preserved : goal.loop-place-preserved
 loop-place-preserved c =

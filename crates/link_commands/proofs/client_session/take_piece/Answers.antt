@@ -2,8 +2,9 @@ use Rattle.std.proofs.Common.{◌∙◌, ap}
 use Rattle.link_commands.proofs.Answering.{piece_taken}
 use Rattle.link_commands.proofs.ClientPieces.{nothing_written, due_added, due_front}
 use Rattle.link_commands.proofs.client_session.take_piece.Goals as goal
-use Rattle.link_commands.proofs.EngineHearing.{at_err, front_whole}
+use Rattle.link_commands.proofs.EngineHearing.{front_whole}
 use Rattle.zmtp_peer.specs.PeerStream.{Talk, fault_of}
+use Rattle.cluster_types.proofs.Options.{at_err}
 
 pub returns-in_err-fed-clause-err : goal.returns-in_err-fed-clause-err
 returns-in_err-fed-clause-err g c = at_err _ (nothing_written _ _)

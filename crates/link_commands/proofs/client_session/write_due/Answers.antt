@@ -1,6 +1,7 @@
 use Rattle.link_commands.proofs.ClientPieces.{ok_behind, err_behind}
 use Rattle.link_commands.proofs.client_session.write_due.Goals as goal
-use Rattle.link_commands.proofs.EngineHearing.{at_err, front_of_more}
+use Rattle.link_commands.proofs.EngineHearing.{front_of_more}
+use Rattle.cluster_types.proofs.Options.{at_err}
 
 pub returns-in_err-write-clause-err : goal.returns-in_err-write-clause-err
 returns-in_err-write-clause-err g c = at_err _ (front_of_more c.args.send.now _ _ _ c.in_err-write.ensures.err.1)

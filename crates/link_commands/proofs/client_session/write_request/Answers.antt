@@ -4,7 +4,7 @@ use Rattle.link_commands.specs.Asking.{request_octets}
 use Rattle.link_commands.proofs.ClientPieces.{nothing_written, written_front}
 use Rattle.link_commands.proofs.client_session.write_request.Goals as goal
 use Rattle.edges.specs.Streams.{Added}
-use Rattle.link_commands.proofs.EngineHearing.{at_err}
+use Rattle.cluster_types.proofs.Options.{at_err}
 
 pub returns-in_err-octets-clause-err : goal.returns-in_err-octets-clause-err
 returns-in_err-octets-clause-err g c = at_err _ (nothing_written _ _)

@@ -1,8 +1,9 @@
 use Rattle.std.proofs.Common.{List, ℕ, subst, arith}
 use Rattle.edges.specs.Streams.{Added}
 use Rattle.link_commands.specs.EngineSession.{AddedFront}
-use Rattle.link_commands.proofs.EngineHearing.{at_err, some_here, some_next, all_next}
+use Rattle.link_commands.proofs.EngineHearing.{some_here, some_next, all_next}
 use Rattle.link_commands.proofs.engine_answers.answer_all.Goals as goal
+use Rattle.cluster_types.proofs.Options.{at_err}
 
 pub returns-in_err-octets-clause-err : goal.returns-in_err-octets-clause-err
 returns-in_err-octets-clause-err g c = at_err _ (some_here _ _ _ c.args.messages.now c.loop-frames.frames-index _ _ c.loop-frames.invariant.wrote)

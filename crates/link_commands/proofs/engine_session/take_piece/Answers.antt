@@ -3,8 +3,9 @@ use Rattle.edges.specs.Streams.{Added}
 use Rattle.engine_core.specs.State.{standing}
 use Rattle.zmtp_peer.specs.PeerStream.{sent, messages}
 use Rattle.link_commands.specs.EngineSession.{AddedFront, Opens, WroteAll, WroteSome}
-use Rattle.link_commands.proofs.EngineHearing.{at_err, nothing_of_piece, send_of_piece, opening_of_piece, answers_of_piece, piece_is_done}
+use Rattle.link_commands.proofs.EngineHearing.{nothing_of_piece, send_of_piece, opening_of_piece, answers_of_piece, piece_is_done}
 use Rattle.link_commands.proofs.engine_session.take_piece.Goals as goal
+use Rattle.cluster_types.proofs.Options.{at_err}
 
 pub returns-in_err-fed-clause-err : goal.returns-in_err-fed-clause-err
 returns-in_err-fed-clause-err g c = at_err _ (nothing_of_piece c.args.key.now (standing c.args.engine.now) c.args.peer.now.talk c.args.piece.now (g.K.Sink.written c.args.writer.now))

@@ -1,7 +1,7 @@
 use Rattle.std.proofs.Common.{List, ℕ, subst, ◌∙◌, inl, inr}
 use Rattle.quick_commands.specs.Written.{Said}
-use Rattle.quick_commands.proofs.Fronts.{front_take}
 use Rattle.quick_commands.proofs.errors.say.Goals as goal
+use Rattle.database_text.proofs.Fronts.{front_take}
 
 pub returns-in-Ok : goal.returns-in-Ok
 returns-in-Ok g c =

@@ -1,7 +1,7 @@
 use Rattle.std.proofs.Common.{ℕ, List, subst, ◌∙◌}
 use Rattle.database_text.specs.Texts.{WroteFront}
-use Rattle.quick_commands.proofs.Fronts.{front_take}
 use Rattle.quick_commands.proofs.generated.print.Goals as goal
+use Rattle.database_text.proofs.Fronts.{front_take}
 
 pub returns-clause-ended : goal.returns-clause-ended
 returns-clause-ended g c =

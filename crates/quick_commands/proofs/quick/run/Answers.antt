@@ -4,8 +4,9 @@ use Rattle.database_text.specs.Texts.{Told}
 use Rattle.disk_model.specs.Crashes.{LeavesOnly}
 use Rattle.task_journal.specs.Reads.{OnlyReads}
 use Rattle.quick_commands.specs.Commands.{Ends, HasDatabase, MayLeaveOf, OnlyLooks}
-use Rattle.quick_commands.proofs.Unbegun.{some_all, memory_ends, still_leaves, still_reads}
+use Rattle.quick_commands.proofs.Unbegun.{some_all, memory_ends, still_leaves}
 use Rattle.quick_commands.proofs.quick.run.Goals as goal
+use Rattle.task_journal.proofs.Calls.{none_reads}
 
 pub returns-in-Err-OutOfMemory-clause-ended : goal.returns-in-Err-OutOfMemory-clause-ended
 returns-in-Err-OutOfMemory-clause-ended g c =
@@ -23,4 +24,4 @@ returns-in-Err-OutOfMemory-clause-any_moment g c =
 pub returns-in-Err-OutOfMemory-clause-looks : goal.returns-in-Err-OutOfMemory-clause-looks
 returns-in-Err-OutOfMemory-clause-looks g c =
     some_all (reading c.args.words.now) (λ k. OnlyLooks k → OnlyReads g.D.Disk.content g.D.Disk.image g.D.Disk.moment g.D.Disk.image_since g.D.Disk.faults c.args.disk c.args.disk)
-    (λ k looks. still_reads g.D.Disk.content g.D.Disk.image g.D.Disk.moment g.D.Disk.image_since g.D.Disk.faults c.args.disk)
+    (λ k looks. none_reads g.D.Disk.content g.D.Disk.image g.D.Disk.moment g.D.Disk.image_since g.D.Disk.faults c.args.disk)

@@ -3,9 +3,9 @@ use Rattle.database_text.specs.Texts.{WroteFront}
 use Rattle.tape.specs.Spelling.{all_spelled}
 use Rattle.tape_drive.specs.Drive.{Stand, outs}
 use Rattle.quick_commands.specs.Replays.{IsServed}
-use Rattle.quick_commands.proofs.Reached.{holds_more}
 use Rattle.quick_commands.proofs.Records.{one_whole, one_cut}
 use Rattle.quick_commands.proofs.replay.serve_record.Goals as goal
+use Rattle.tape_drive.proofs.Way.{holds_more}
 
 pub returns-in-Ok-clause-served : goal.returns-in-Ok-clause-served
 returns-in-Ok-clause-served g c =

@@ -5,10 +5,9 @@ use Rattle.tape.specs.Spelling.{all_spelled}
 use Rattle.tape.specs.Tape.{blank, records}
 use Rattle.tape_drive.specs.Drive.{Stand, stand_at, outputs, drive_stand}
 use Rattle.tape_drive.specs.Served.{Comes, HoldsSome, IsTouched}
-use Rattle.tape_drive.proofs.Way.{touched_on}
+use Rattle.tape_drive.proofs.Way.{touched_on, holds_more}
 use Rattle.quick_commands.specs.Replays.{IsServed}
 use Rattle.quick_commands.proofs.Going.{on_ok, never_failed, whole_at, going_on, going_served, going_piece, going_comes, going_ends, going_bad, going_stopped, ends_done, ends_bad, ends_stopped, spent_more, spent_all, some_taken}
-use Rattle.quick_commands.proofs.Reached.{holds_more}
 use Rattle.quick_commands.proofs.replay.serve_tape.Goals as goal
 
 pub returns-in-Failed-clause-served : goal.returns-in-Failed-clause-served

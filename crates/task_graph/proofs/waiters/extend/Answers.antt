@@ -2,8 +2,9 @@ use Rattle.std.proofs.Common.{◌≡◌, ℕ, List, cond, bytes_eq, Some, ap, su
 use Rattle.std.specs.HashMap.{get_by_text}
 use Rattle.std.proofs.lemmas.Map.Text.{hash_map_updates_text}
 use Rattle.task_graph.specs.Listing.{places_in, waiting_for}
-use Rattle.task_graph.proofs.Lists.{more, stays, has_one, at_err}
+use Rattle.task_graph.proofs.Lists.{more, stays}
 use Rattle.task_graph.proofs.waiters.extend.Goals as goal
+use Rattle.cluster_types.proofs.Options.{has_one, at_err}
 
 pub returns-in_ok-push-in-Some-clause-ok : goal.returns-in_ok-push-in-Some-clause-ok
 returns-in_ok-push-in-Some-clause-ok c = λ _.

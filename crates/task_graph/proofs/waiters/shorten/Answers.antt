@@ -2,8 +2,9 @@ use Rattle.std.proofs.Common.{◌≡◌, ℕ, List, cond, bytes_eq, Some, ap, su
 use Rattle.std.specs.HashMap.{get_by_text}
 use Rattle.std.proofs.lemmas.Map.Text.{hash_map_updates_text}
 use Rattle.task_graph.specs.Listing.{places_in, waiting_for, without_last}
-use Rattle.task_graph.proofs.Lists.{changed, has_one}
+use Rattle.task_graph.proofs.Lists.{changed}
 use Rattle.task_graph.proofs.waiters.shorten.Goals as goal
+use Rattle.cluster_types.proofs.Options.{has_one}
 
 pub returns-in-Some : goal.returns-in-Some
 returns-in-Some c =

@@ -4,9 +4,9 @@ use Rattle.place_sets.proofs.Sweeping.{sweep}
 use Rattle.task_table.specs.Seen.{ended_on, on_unsettled}
 use Rattle.task_table.specs.Marking.{HasAll}
 use Rattle.task_table.specs.Standing.{runs_open}
-use Rattle.task_table.proofs.Watching.{at_ok}
 use Rattle.task_table.proofs.Marking.{marked_grown, marked_aside, idle_ended}
 use Rattle.task_table.proofs.tasks.end_in.Goals as goal
+use Rattle.cluster_types.proofs.Options.{at_ok}
 
 pub returns-clause-ok : goal.returns-clause-ok
 returns-clause-ok c =

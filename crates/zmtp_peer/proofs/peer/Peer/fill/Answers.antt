@@ -3,8 +3,9 @@ use Rattle.std.specs.Prelude.{is_some}
 use Rattle.std.proofs.lemmas.List.{length-take-le}
 use Rattle.zmtp_frames.specs.Stream.{Reading, begun_at, Fills}
 use Rattle.zmtp_peer.specs.PeerStream.{Talk, talked, Held, IsQuiet, hears, begun_fault}
-use Rattle.zmtp_peer.proofs.Bodies.{Passes, talk_passes, none_of, with_reader}
+use Rattle.zmtp_peer.proofs.Bodies.{Passes, talk_passes, with_reader}
 use Rattle.zmtp_peer.proofs.peer.Peer.fill.Goals as goal
+use Rattle.cluster_types.proofs.Options.{none_of}
 
 passed : (c : goal.In_ok-taken) → Passes (record { phase = c.self.inside.phase; greeting = c.self.inside.greeting.items; reader = c.self.inside.reader; parts = c.self.inside.parts }) (take c.in_ok-taken.taken c.args.rest.now)
 passed c =
