@@ -4,4 +4,5 @@ pub mod Memory
 pub mod Reached
 pub mod Repeats
 pub mod Rows
+pub mod Sends
 pub mod Shown

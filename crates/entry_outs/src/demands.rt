@@ -1,16 +1,17 @@
 //! What requests for tasks are answered.
 
-ghost use Rattle.std.specs.Prelude.{◌≡◌, ◌++◌, [], false, IfOk, Some, codes};
+ghost use Rattle.std.specs.Prelude.{◌≡◌, [], false, IfOk, Some, codes};
 ghost use Rattle.hex.specs.Hex.{encode_lower};
 ghost use Rattle.message_defs.specs.Texts.{submit_refused};
 ghost use Rattle.cluster_defs.specs.Acceptance.{acceptance as acceptance_of};
 ghost use Rattle.cluster_defs.specs.Queries.{refusal, demand_answer};
 ghost use Rattle.cluster_defs.specs.Outcomes.{outcome};
-ghost use Rattle.cluster_defs.specs.Outs.{pass_to, answer_out, repeat_out};
+ghost use Rattle.cluster_defs.specs.Outs.{pass_to, answer_out};
 ghost use Rattle.cluster_state.specs.Plain.{facts_in};
 ghost use Rattle.cluster_state.specs.Stands.{plain};
 ghost use Rattle.entry_outs.specs.Reached.{Reached};
 ghost use Rattle.entry_outs.specs.Repeats.{is_again};
+ghost use Rattle.entry_outs.specs.Sends.{demand_sends};
 
 use crate::answers::{Slip, answered};
 use crate::passes::{copied, pass_to};
@@ -130,7 +131,7 @@ pub fn demand_outs(
 ) -> Result<Outs, AllocError>
     requires reached { Reached (plain state.now) }
     requires accepted { acceptance ≡ acceptance_of (facts_in (plain state.now)) (record { direct = direct; submission = submission.now }) message.now }
-    ensures { IfOk result (λ outs. outs ≡ answer_out slip.opens slip.place slip.conn slip.moment submit_refused message.now.header (demand_answer submission.now.id message.now.target (acceptance_of (facts_in (plain state.now)) (record { direct = direct; submission = submission.now }) message.now)) ++ repeat_out (facts_in (plain state.now)) slip.conn submission.now.id (acceptance_of (facts_in (plain state.now)) (record { direct = direct; submission = submission.now }) message.now)) }
+    ensures { IfOk result (λ outs. outs ≡ demand_sends slip (facts_in (plain state.now)) (record { direct = direct; submission = submission.now }) message.now) }
 {
     if is_again(acceptance) {
         let outcome = outcome_of(state, &submission.id)?;

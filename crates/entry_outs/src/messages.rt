@@ -1,17 +1,18 @@
 //! What messages send.
 
-ghost use Rattle.std.specs.Prelude.{◌≡◌, ◌≢◌, ◌++◌, [], IfOk, Some, Err, codes, decimal};
+ghost use Rattle.std.specs.Prelude.{◌≡◌, ◌≢◌, [], IfOk, Some, Err, codes, decimal};
 ghost use Rattle.message_defs.specs.Header.{message_type};
 ghost use Rattle.message_defs.specs.Texts.{ok_content, join_content};
 ghost use Rattle.cluster_defs.specs.Purges.{Resubmitting};
-ghost use Rattle.cluster_defs.specs.Queries.{plain as plain_answer, refusal, limited, join_answer, leave_answer, purge_answer, resubmit_answer, answer_type, answer_event};
-ghost use Rattle.cluster_defs.specs.Outs.{answer_out, repeated};
+ghost use Rattle.cluster_defs.specs.Queries.{plain as plain_answer, refusal, limited, join_answer, leave_answer, purge_answer, resubmit_answer};
+ghost use Rattle.cluster_defs.specs.Outs.{answer_out};
 ghost use Rattle.cluster_state.specs.Plain.{facts_in};
 ghost use Rattle.cluster_state.specs.Stands.{plain};
 ghost use Rattle.cluster_state.specs.declared.ruling.Ruling.{Ruling as RulingType};
 ghost use Rattle.cluster_state.specs.Ruled.{IsResubmit, IsTold};
 ghost use Rattle.resubmission.specs.Purging.{purging_of};
 ghost use Rattle.entry_outs.specs.Reached.{Reached};
+ghost use Rattle.entry_outs.specs.Sends.{event_sends};
 
 use crate::answers::{Slip, answered};
 use crate::demands::demand_outs;
@@ -183,7 +184,7 @@ pub fn event_outs(
     requires reached { Reached (plain state.now) }
     requires kind { msg_type.now ≡ message_type message.now }
     requires ruled { IsTold (facts_in (plain state.now)) slip.conn message.now event.now ruling.now }
-    ensures { IfOk result (λ outs. outs ≡ answer_out slip.opens slip.place slip.conn slip.moment (answer_type channel message.now event.now) message.now.header (answer_event (facts_in (plain state.now)) slip.conn channel message.now event.now) ++ repeated (facts_in (plain state.now)) slip.conn message.now event.now) }
+    ensures { IfOk result (λ outs. outs ≡ event_sends slip (facts_in (plain state.now)) channel message.now event.now) }
 {
     match event {
         Event::Submit(submission) => {

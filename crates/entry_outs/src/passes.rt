@@ -17,6 +17,7 @@ ghost use Rattle.cluster_state.specs.Plain.{facts_in};
 ghost use Rattle.cluster_state.specs.Stands.{plain};
 ghost use Rattle.entry_outs.specs.Reached.{Reached};
 ghost use Rattle.entry_outs.specs.Greater.{greater};
+ghost use Rattle.entry_outs.specs.Sends.{settle_sends};
 ghost use Rattle.cluster_defs.specs.declared.connection.Connection.{Connection as ConnectionType};
 
 use cluster_defs::connection::{Connection, Owner};
@@ -45,22 +46,10 @@ pub fn pass_to(
     Ok(outs)
 }
 
-fn is_same_channel(a: Channel, b: Channel) -> bool
-    ensures { result ≡ same_channel a b }
-{
-    matches!(
-        (a, b),
-        (Channel::Hub, Channel::Hub)
-            | (Channel::Task, Channel::Task)
-            | (Channel::Mux, Channel::Mux)
-            | (Channel::Engine, Channel::Engine)
-    )
-}
-
 fn is_of(owner: &Owner, connection: &Connection) -> bool
     ensures { result ≡ is_of_peer owner.now connection.now }
 {
-    is_same_channel(connection.channel, owner.channel) && connection.identity.is(&owner.identity)
+    connection.channel == owner.channel && connection.identity.is(&owner.identity)
 }
 
 fn greater(best: Option<u32>, number: u32) -> Option<u32>
@@ -142,7 +131,7 @@ pub fn settle_outs(
 ) -> Result<Outs, AllocError>
     requires reached { Reached (plain state.now) }
     requires unsettled { is_settled (facts_in (plain state.now)) id.now ≡ false }
-    ensures { (v : VerdictType) (c : CauseType) → IsSettling v c state.now.moment (seen_in state.now.tasks id.now) settling.now → IfOk result (λ outs. outs ≡ pass_to (owner_conn (facts_in (plain state.now)) ((facts_in (plain state.now)).request_of id.now)) (outcome (step (facts_in (plain state.now)) (Entry.Settle id.now v c) None) id.now)) }
+    ensures { (v : VerdictType) (c : CauseType) → IsSettling v c state.now.moment (seen_in state.now.tasks id.now) settling.now → IfOk result (λ outs. outs ≡ settle_sends (facts_in (plain state.now)) id.now v c) }
 {
     let Some(settling) = settling else {
         return Ok(Outs::new(alloc));
