@@ -1,0 +1,4 @@
+pub mod Message
+pub mod Identity
+pub mod Outs
+pub mod Written

@@ -1,0 +1,6 @@
+//! What crosses a link, as values: frames as a signed message, outs as octets, and the identity of a connection.
+#![tactic(auto)]
+
+pub mod identity;
+pub mod message;
+pub mod outs;
