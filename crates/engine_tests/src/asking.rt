@@ -6,7 +6,7 @@ use cluster_types::sequence::Sequence;
 use cluster_types::shared_message::SharedMessage;
 use edges::memory::{MemSink, MemSource};
 use hmac_sign::Key;
-use link_commands::client_session::ask_over;
+use link_commands::asking::ask_over;
 use link_commands::end::SessionEnd;
 use link_commands::status::is_ok;
 use std::alloc::Global;

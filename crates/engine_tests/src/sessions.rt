@@ -4,7 +4,7 @@ use edges::memory::{MemSink, MemSource};
 use engine_core::engine::Engine;
 use hmac_sign::Key;
 use link_commands::end::SessionEnd;
-use link_commands::engine_session::serve_engine;
+use link_commands::working::serve_engine;
 use std::alloc::Global;
 use std::process::Abort;
 use std::sync::Wait;

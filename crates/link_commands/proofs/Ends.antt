@@ -2,7 +2,7 @@
 use Rattle.std.proofs.Common.{◌≡◌, ◌≢◌, ℕ, ◌<◌, ◌≤◌, List, [], length, Option, sym, ap, subst, ◌∙◌, arith}
 use Rattle.cluster_types.specs.Causes.{Rose}
 use Rattle.engine_core.specs.State.{State, Standing, new_engine, standing}
-use Rattle.link_commands.specs.EngineSession.{IsWhole}
+use Rattle.link_commands.specs.Working.{IsWhole}
 use Rattle.jupyter_parts.specs.Signed.{delimiter}
 use Rattle.link_commands.specs.EngineEnds.{HasServed}
 use Rattle.link_commands.specs.Links.{Tells}

@@ -1,7 +1,6 @@
+pub mod AskingGoing
+pub mod AskingPieces
 pub mod Ends
-pub mod Order
-pub mod EngineHearing
-pub mod EngineGoing
-pub mod ClientPieces
-pub mod Answering
-pub mod ClientGoing
+pub mod FirstAnswer
+pub mod WorkingGoing
+pub mod WorkingPieces

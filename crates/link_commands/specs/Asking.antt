@@ -1,14 +1,14 @@
 -- A request over a link, and its answer.
-use Rattle.std.specs.Prelude.{◌≡◌, ℕ, Bool, false, List, [], ◌∷◌, ◌++◌, Option, Some, None, Result, Ok, Err, bytes_eq, if◌then◌else◌, option_map}
+use Rattle.std.specs.Prelude.{◌≡◌, ℕ, Bool, false, List, [], ◌∷◌, ◌++◌, Option, Some, None, bytes_eq, if◌then◌else◌, option_map}
 use Rattle.std.specs.Option.{unwrap_or}
 use Rattle.std.specs.Result.{result_ok}
 use Rattle.client_core.specs.Taking.{task_in}
-use Rattle.link_commands.specs.declared.answer.Taken.{Taken}
-use Rattle.link_commands.specs.declared.answer.Taken.TheVariants.{Answer, Fault, Nothing}
+use Rattle.link_commands.specs.declared.finding.Taken.{Taken}
+use Rattle.link_commands.specs.declared.finding.Taken.TheVariants.{Answer, Fault, Nothing}
 use Rattle.cluster_types.specs.declared.message.Message.{Message}
 use Rattle.edges.specs.Streams.{Took, Added}
-use Rattle.link_commands.specs.EngineSession.{AddedFront}
-use Rattle.jupyter_parts.specs.declared.fault.PartsError.{PartsError}
+use Rattle.link_messages.specs.Message.{signed}
+use Rattle.link_messages.specs.Written.{AddedFront}
 use Rattle.jupyter_parts.specs.Signed.{message_frames, read_parts}
 use Rattle.message_defs.specs.Header.{read_header}
 use Rattle.message_defs.specs.Reply.{read_status}
@@ -29,13 +29,13 @@ are_same (Some one) None = false
 are_same None other = false
 
 -- a message answers the request whose id its parent header names
-abbrev pub answer_as : Option (List ℕ) → Result Message PartsError → Option Message
-answer_as id (Ok message) = if are_same id (task_in message.parent) then Some message else None
-answer_as id (Err fault) = None
+abbrev pub answer_as : Option (List ℕ) → Option Message → Option Message
+answer_as id (Some message) = if are_same id (task_in message.parent) then Some message else None
+answer_as id None = None
 
 -- the answer that frames are, where they are signed under the key
 abbrev pub answer_of : List ℕ → Option (List ℕ) → List (List ℕ) → Option Message
-answer_of key id frames = answer_as id (read_parts key frames)
+answer_of key id frames = answer_as id (signed (read_parts key frames))
 
 abbrev pub or_next : Option Message → Option Message → Option Message
 or_next (Some message) next = Some message

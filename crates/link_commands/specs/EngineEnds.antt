@@ -2,7 +2,7 @@
 use Rattle.std.specs.Prelude.{List, ℕ, Option, Some, None}
 use Rattle.edges.specs.Streams.{IsAtEnd}
 use Rattle.engine_core.specs.State.{Standing, new_engine, standing}
-use Rattle.link_commands.specs.EngineSession.{IsWhole}
+use Rattle.link_commands.specs.Working.{IsWhole}
 use Rattle.link_commands.specs.declared.engine.EngineEnd.{EngineEnd}
 use Rattle.link_commands.specs.declared.engine.EngineEnd.TheVariants.{Done, NotDialled, LinkFault, ZmtpFault, OutOfMemory}
 use Rattle.link_commands.specs.Links.{Tells, HasFailed}

@@ -2,5 +2,5 @@ pub mod Actions
 pub mod Links
 pub mod EngineEnds
 pub mod ClientEnds
-pub mod EngineSession
+pub mod Working
 pub mod Asking

@@ -8,7 +8,7 @@ ghost use Rattle.link_commands.specs.ClientEnds.{IsPrinted, ClientEnds};
 ghost use Rattle.link_commands.specs.Links.{IsDialled};
 
 use crate::actions::{channel_for, message_for};
-use crate::client_session::ask_over;
+use crate::asking::ask_over;
 use crate::end::SessionEnd;
 use crate::random::drawn;
 use crate::status::is_ok;

@@ -7,7 +7,7 @@ ghost use Rattle.link_commands.specs.EngineEnds.{EngineEnds};
 ghost use Rattle.link_commands.specs.Links.{IsDialled};
 
 use crate::end::SessionEnd;
-use crate::engine_session::serve_engine;
+use crate::working::serve_engine;
 use engine_core::engine::Engine;
 use engine_core::error::EngineError;
 use hmac_sign::Key;

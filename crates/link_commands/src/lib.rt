@@ -2,13 +2,13 @@
 #![tactic(auto)]
 
 mod actions;
-mod answer;
+mod answering;
+pub mod asking;
 pub mod client;
-pub mod client_session;
+mod dialled;
 pub mod end;
 pub mod engine;
-mod engine_answers;
-pub mod engine_session;
+mod finding;
 mod random;
 pub mod status;
-pub mod writing;
+pub mod working;

@@ -5,3 +5,4 @@ pub mod Faultless
 pub mod Sound
 mod Rows
 pub mod Bodies
+pub mod Order
