@@ -1,9 +1,11 @@
 pub mod Fits
 pub mod Holding
 pub mod Images
+pub mod Kept
 pub mod Lived
 pub mod Names
 pub mod Opens
+pub mod Outs
 pub mod Remade
 pub mod Serving
 pub mod Stepping

@@ -16,7 +16,8 @@ use Rattle.tape.specs.declared.record.TapeKind.{TapeKind}
 use Rattle.tape.specs.declared.record.TapeKind.TheVariants.{Up, Piece, Down, Beat, Time, Message as MessageKind}
 use Rattle.tape_drive.specs.declared.drive.Stop.{Stop}
 use Rattle.tape_drive.specs.Drive.{Stand}
-use Rattle.tape_drive.specs.Inputs.{signed, in_of, up_where, down_where, stream_inputs, kind_inputs, inputs_of}
+use Rattle.link_messages.specs.Message.{signed}
+use Rattle.tape_drive.specs.Inputs.{in_of, up_where, down_where, stream_inputs, kind_inputs, inputs_of}
 use Rattle.tape_drive.specs.Links.{Link, given_on, link_on}
 use Rattle.tape_drive.specs.Rules.{stop_of}
 use Rattle.tape_drive.specs.Served.{inputs_where, inputs_taken}

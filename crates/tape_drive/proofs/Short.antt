@@ -1,6 +1,6 @@
 -- What a step keeps is written at once: it has no more octets than may come after an Open.
-use Rattle.std.proofs.Common.{◌≡◌, ℕ, ◌+◌, ◌-◌, ◌≤◌, ◌<◌, ◌^◌, List, [], ◌∷◌, ◌++◌, length, Bool, true, false, refl, sym, ap, ◌∙◌, subst, arith, Some, None}
-use Rattle.std.specs.Prelude.{min, sum_by, nat_lt, ◌||◌}
+use Rattle.std.proofs.Common.{◌≡◌, ℕ, ◌+◌, ◌-◌, ◌≤◌, ◌<◌, ◌^◌, List, [], ◌∷◌, ◌++◌, length, false, refl, sym, ap, ◌∙◌, subst, arith, Some, None}
+use Rattle.std.specs.Prelude.{min, sum_by, nat_lt}
 use Rattle.std.proofs.lemmas.Bool.{ltb-false, or_parts}
 use Rattle.std.proofs.lemmas.List.{length-append}
 use Rattle.std.proofs.lemmas.List.Concat.{flat_map-append}
@@ -19,6 +19,7 @@ use Rattle.cluster_core.specs.Size.{next_since, since_open, size_since, is_past}
 use Rattle.cluster_core.specs.Steps.{kept_from, kept_one}
 use Rattle.cluster_core.proofs.Growing.{kept_more, kept_first}
 use Rattle.cluster_store.proofs.Fits.{decides_to, length_more}
+use Rattle.cluster_store.proofs.Kept.{one_size}
 use Rattle.record_codec.specs.Sizes.{record_size}
 use Rattle.record_codec.specs.Spelling.{spelling}
 use Rattle.record_codec.specs.Records.{spellings}
@@ -29,10 +30,6 @@ pub record IsCounted (at : ℕ) (h : History) : Type 0 where
   pub others : List Entry
   pub since : since_open h ≡ newest ∷ others
   pub fits : sum_by record_size (since_open h) < 2 ^ 32 → length (spellings (kept_from at h)) ≤ sum_by record_size (since_open h)
-
-one_size : (b : Bool) (e : Entry) → length (spellings (kept_one b e)) ≤ length (spelling e)
-one_size true e = let all = length-append (spelling e) [] in omega (arith, all)
-one_size false e = omega arith
 
 more : (at : ℕ) (e : Entry) (h : History) → at ≤ length h → sum_by record_size (e ∷ since_open h) < 2 ^ 32 → length (spellings (kept_from at h)) ≤ sum_by record_size (since_open h) →
     length (spellings (kept_from at (e ∷ h))) ≤ sum_by record_size (e ∷ since_open h)
@@ -103,11 +100,7 @@ pub short_enough : (limits : HistorySize) (input : InputType) (old : History) �
 short_enough limits input old not_open low fits long =
     let size = size_since (decide_all (Input input ∷ old)) in
     let counted = step_counted input old not_open in
-    let within = ltb-false limits.bytes size.bytes (second (nat_lt limits.entries size.entries) (nat_lt limits.bytes size.bytes) fits) in
+    let within = ltb-false limits.bytes size.bytes (or_parts (nat_lt limits.entries size.entries) (nat_lt limits.bytes size.bytes) fits).1 in
     let small : sum_by record_size (since_open (decide_all (Input input ∷ old))) < 2 ^ 32 = omega (arith, within, low) in
     let le = counted.fits small in
     omega (arith, le, small, long)
-  where
-    second : (a b : Bool) → (a || b) ≡ false → b ≡ false
-    second true b is = cc
-    second false b is = is

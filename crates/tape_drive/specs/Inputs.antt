@@ -1,33 +1,18 @@
 -- The inputs that the records of a tape stand for.
-use Rattle.std.specs.Prelude.{ℕ, ◌==◌, List, [], ◌∷◌, ◌++◌, length, decimal, codes, Option, Some, None, option_map, option_to_list, Result, Ok, Err, if◌then◌else◌}
+use Rattle.std.specs.Prelude.{ℕ, List, [], ◌∷◌, ◌++◌, Option, Some, None, option_map, option_to_list, if◌then◌else◌}
 use Rattle.std.specs.List.{flat_map}
 use Rattle.cluster_types.specs.declared.config.Channel.{Channel}
-use Rattle.cluster_types.specs.declared.message.Message.{Message}
 use Rattle.cluster_types.specs.declared.entry.Input.{Input as InputType}
-use Rattle.cluster_types.specs.declared.entry.Input.TheVariants.{Up as UpInput, Down as DownInput, In, Beat as BeatInput, Time as TimeInput}
-use Rattle.jupyter_parts.specs.declared.fault.PartsError.{PartsError}
+use Rattle.cluster_types.specs.declared.entry.Input.TheVariants.{Down as DownInput, In, Beat as BeatInput, Time as TimeInput}
 use Rattle.jupyter_parts.specs.Signed.{read_parts}
+use Rattle.link_messages.specs.Identity.{up_of}
+use Rattle.link_messages.specs.Message.{signed}
 use Rattle.zmtp_peer.specs.declared.fault.PeerFault.{PeerFault}
 use Rattle.zmtp_peer.specs.declared.phase.PeerFed.{PeerFed}
 use Rattle.tape.specs.declared.record.TapeRecord.{TapeRecord}
 use Rattle.tape.specs.declared.record.TapeKind.{TapeKind}
 use Rattle.tape.specs.declared.record.TapeKind.TheVariants.{Up, Piece, Down, Beat, Time, Message as MessageKind}
 use Rattle.tape_drive.specs.Links.{Link, link_on, given_on}
-
--- a connection without an identity is called after its number
-unfoldable pub numbered_identity : ℕ → List ℕ
-numbered_identity conn = codes "conn-" ++ decimal conn
-
-abbrev pub identity_or_number : ℕ → List ℕ → List ℕ
-identity_or_number conn identity = if length identity == 0 then numbered_identity conn else identity
-
-abbrev pub up_of : ℕ → Channel → ℕ → ℕ → List ℕ → InputType
-up_of conn channel moment word identity = UpInput conn channel moment word (identity_or_number conn identity)
-
--- the message that frames are, where they are signed
-abbrev pub signed : Result Message PartsError → Option Message
-signed (Ok message) = Some message
-signed (Err fault) = None
 
 -- frames that come in are an input where they are signed
 abbrev pub in_of : List ℕ → ℕ → ℕ → ℕ → List (List ℕ) → List InputType

@@ -5,7 +5,7 @@ use Rattle.cluster_types.specs.declared.out.Out.{Out}
 use Rattle.cluster_defs.specs.Words.{begins_with}
 use Rattle.cluster_defs.specs.Histories.{History}
 use Rattle.cluster_defs.specs.Outs.{conn_of}
-use Rattle.cluster_outgo.specs.Frames.{frames_of}
+use Rattle.link_messages.specs.Outs.{out_frames}
 use Rattle.zmtp_frames.specs.Greeting.{own_greeting}
 use Rattle.zmtp_frames.specs.Written.{own_ready}
 use Rattle.zmtp_peer.specs.declared.phase.PeerFed.{PeerFed}
@@ -55,7 +55,7 @@ frames_sent true conn frames = Piece conn (message_written frames)
 frames_sent false conn frames = Message conn frames
 
 abbrev pub out_sent : List ℕ → List Link → Out → TapeKind
-out_sent key links out = frames_sent (is_zmtp (link_on links (conn_of out))) (conn_of out) (frames_of key out)
+out_sent key links out = frames_sent (is_zmtp (link_on links (conn_of out))) (conn_of out) (out_frames key out)
 
 abbrev pub step_sends : List ℕ → List Link → History → InputType → List TapeKind
 step_sends key links history input = map (out_sent key links) (by_connection (step_outs history input))

@@ -6,13 +6,13 @@ ghost use Rattle.tape_drive.specs.Bare.{read_of};
 ghost use Rattle.tape_drive.specs.Inputs.{inputs_of};
 ghost use Rattle.tape_drive.specs.Steps.{AreTaken};
 
-use crate::inputs::signed;
 use crate::records::take_record;
-use crate::sends::out_frames;
 use cluster_types::entry::Input;
 use cluster_types::out::Out;
 use cluster_types::shared_message::SharedMessage;
 use hmac_sign::Key;
+use link_messages::message::signed;
+use link_messages::outs::out_frames;
 use std::alloc::{AllocError, Global};
 use tape::record::TapeRecord;
 
@@ -30,8 +30,8 @@ pub fn bare_inputs(alloc: Global, key: &Key, item: &TapeRecord) -> Result<Vec<In
 }
 
 /// The message that the other end of a bare connection reads of an out.
-pub fn read_of(alloc: Global, key: &Key, out: &Out) -> Result<Option<SharedMessage>, AllocError>
-    ensures { IfOk result (λ message. message ≡ read_of key.now out.now) }
+pub fn read_of(alloc: Global, key: &Key, out: Out) -> Result<Option<SharedMessage>, AllocError>
+    ensures { IfOk result (λ message. message ≡ read_of key.now out) }
 {
     let frames = out_frames(alloc, key, out)?;
     signed(alloc, key, &frames)

@@ -60,8 +60,7 @@ fn take_given(
     match given {
         Some((channel, fed)) => {
             add_stream(inputs, key, from, *channel, fed)?;
-            put_sendings(into, from.moment, from.conn, fed.send.as_slice())?;
-            Ok(())
+            put_sendings(into, from.moment, from.conn, fed.send.as_slice())
         }
         None => Ok(()),
     }
@@ -85,8 +84,7 @@ fn take_piece(
     ensures kept { OnErr result (Keeps into.old.items into.new.items) }
 {
     let given = hear_on(links, from.conn, octets.as_slice())?;
-    take_given(inputs, into, key, from, &given)?;
-    Ok(())
+    take_given(inputs, into, key, from, &given)
 }
 
 /// Takes a record: the links are those while it is served, its inputs are added, and what its stream sends is appended.

@@ -4,7 +4,6 @@ ghost use Rattle.std.specs.Prelude.{◌≡◌, ◌≤◌, ◌++◌, ◌∷◌, [
 ghost use Rattle.std.specs.List.{list_all};
 ghost use Rattle.cluster_types.specs.Limits.{field_limit};
 ghost use Rattle.cluster_defs.specs.Words.{begins_with};
-ghost use Rattle.cluster_outgo.specs.Frames.{IsSendable, frames_of};
 ghost use Rattle.zmtp_frames.specs.Written.{own_ready};
 ghost use Rattle.octet_fields.specs.Keeping.{Keeps};
 ghost use Rattle.tape.specs.Spelling.{Fits, KindFits, FitsBlob, spelled, all_spelled};
@@ -13,12 +12,12 @@ ghost use Rattle.tape_drive.specs.Sends.{where_any, sendings, frames_sent, out_s
 
 use crate::links::{Link, is_zmtp};
 use crate::order::{conn_of, sort_by_connection};
-use cluster_outgo::frames_of;
 use cluster_types::limits::{FIELD_OCTETS, LAST_MOMENT, MOST_FRAMES};
 use cluster_types::octets::Octets;
 use cluster_types::out::{Out, Outs};
 use edges::frames::Frames;
 use hmac_sign::Key;
+use link_messages::outs::out_frames;
 use std::alloc::{AllocError, Global};
 use tape::record::{TapeKind, TapeRecord};
 use tape::writing::write_tape;
@@ -101,8 +100,7 @@ pub fn put_piece(
     ensures err { OnErr result (into.new.items ≡ into.old.items) }
 {
     let octets = Octets::new(*into.allocator(), octets)?;
-    put_sent(into, moment, TapeKind::Piece { conn, octets })?;
-    Ok(())
+    put_sent(into, moment, TapeKind::Piece { conn, octets })
 }
 
 /// Appends the record of octets of a stream, where there are any.
@@ -116,7 +114,7 @@ fn put_where_any(
     ensures err { OnErr result (into.new.items ≡ into.old.items) }
 {
     if octets.len() > 0 {
-        put_piece(into, moment, conn, octets)?;
+        return put_piece(into, moment, conn, octets);
     }
     Ok(())
 }
@@ -151,8 +149,7 @@ fn put_ready_and_rest(
     ensures kept { OnErr result (Keeps into.old.items into.new.items) }
 {
     put_piece(into, moment, conn, ready)?;
-    put_where_any(into, moment, conn, &octets[ready.len()..])?;
-    Ok(())
+    put_where_any(into, moment, conn, &octets[ready.len()..])
 }
 
 /// Appends the records of the octets that a stream calls for.
@@ -167,33 +164,9 @@ pub fn put_sendings(
 {
     let ready = ready_octets(*into.allocator())?;
     if begin_with(octets, ready.as_slice()) {
-        put_ready_and_rest(into, moment, conn, ready.as_slice(), octets)?;
-        return Ok(());
+        return put_ready_and_rest(into, moment, conn, ready.as_slice(), octets);
     }
-    put_where_any(into, moment, conn, octets)?;
-    Ok(())
-}
-
-/// Whether the moment of an out has a date.
-fn is_sendable(out: &Out) -> bool
-    ensures only { IsTrue result → IsSendable out.now }
-    ensures all { IsSendable out.now → IsTrue result }
-{
-    match out {
-        Out::Pass { .. } => true,
-        Out::Made { moment, .. } => *moment <= LAST_MOMENT,
-    }
-}
-
-/// The frames of an out. One whose moment has no date counts as want of memory; each moment of a history has one.
-pub fn out_frames(alloc: Global, key: &Key, out: &Out) -> Result<Frames, AllocError>
-    ensures { IfOk result (λ f. f ≡ frames_of key.now out.now) }
-{
-    if !is_sendable(out) {
-        return Err(AllocError);
-    }
-    let frames = frames_of(alloc, out, key)?;
-    Ok(frames)
+    put_where_any(into, moment, conn, octets)
 }
 
 /// What frames are sent as.
@@ -213,17 +186,16 @@ fn put_out(
     key: &Key,
     links: &[Link],
     moment: u64,
-    out: &Out,
+    out: Out,
 ) -> Result<(), AllocError>
-    ensures ok { OnOk result (into.new.items ≡ into.old.items ++ spelled (sent_at moment (out_sent key.now links.now out.now))) }
+    ensures ok { OnOk result (into.new.items ≡ into.old.items ++ spelled (sent_at moment (out_sent key.now links.now out))) }
     ensures err { OnErr result (into.new.items ≡ into.old.items) }
 {
     let alloc = *into.allocator();
-    let conn = conn_of(out);
+    let conn = conn_of(&out);
     let frames = out_frames(alloc, key, out)?;
     let kind = frames_sent(alloc, is_zmtp(links, conn), conn, frames)?;
-    put_sent(into, moment, kind)?;
-    Ok(())
+    put_sent(into, moment, kind)
 }
 
 /// Appends the records of outs, in their order.
@@ -232,9 +204,9 @@ fn put_each(
     key: &Key,
     links: &[Link],
     moment: u64,
-    outs: &[Out],
+    outs: Vec<Out>,
 ) -> Result<(), AllocError>
-    ensures ok { OnOk result (into.new.items ≡ into.old.items ++ all_spelled (map (sent_at moment) (map (out_sent key.now links.now) outs.now))) }
+    ensures ok { OnOk result (into.new.items ≡ into.old.items ++ all_spelled (map (sent_at moment) (map (out_sent key.now links.now) outs.items))) }
     ensures kept { OnErr result (Keeps into.old.items into.new.items) }
 {
     for out in outs {
@@ -256,5 +228,5 @@ pub fn put_outs(
 {
     let mut outs = outs.into_vec();
     sort_by_connection(&mut outs)?;
-    put_each(into, key, links, moment, outs.as_slice())
+    put_each(into, key, links, moment, outs)
 }

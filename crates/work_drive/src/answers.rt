@@ -71,13 +71,14 @@ pub fn answer(
     alloc: Global,
     engines: &mut Vec<Engine>,
     key: &Key,
-    out: &Out,
+    out: Out,
 ) -> Result<Option<SharedMessage>, AllocError>
     requires { key.now ≡ work_key }
-    ensures { IfOk result (λ reply. IsAnswered out.now engines.old.items reply engines.new.items) }
+    ensures { IfOk result (λ reply. IsAnswered out engines.old.items reply engines.new.items) }
 {
+    let conn = conn_of(&out);
     let message = read_of(alloc, key, out)?;
-    answer_at(engines, conn_of(out).saturating_sub(1) as usize, &message)
+    answer_at(engines, conn.saturating_sub(1) as usize, &message)
 }
 
 /// Whether the length of each buffer can be written.

@@ -172,9 +172,10 @@ impl<D: Disk> Run<D> {
             return Ok(true);
         }
         if let Some(out) = self.outs.pop_front() {
-            let reply = answer(alloc, &mut self.engines, &self.key, &out)?;
+            let conn = conn_of(&out);
             self.sum = added(alloc, &out, self.sum)?;
-            self.inputs = answer_in(alloc, conn_of(&out), reply)?;
+            let reply = answer(alloc, &mut self.engines, &self.key, out)?;
+            self.inputs = answer_in(alloc, conn, reply)?;
             return Ok(true);
         }
         let Some(item) = self.tape.next()? else {
