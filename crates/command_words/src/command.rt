@@ -1,7 +1,7 @@
 //! What a command line asks for.
 
 ghost use Rattle.std.specs.Prelude.{◌≡◌, ◌∷◌, [], Some, None, Err, IfOk, bytes_eq};
-ghost use Rattle.command_words.specs.Reading.{reading, asked_by, database_of, only_word, database_in, replay_of, dump_of, check_of, compact_of, work_of, work_behind, replay_behind, replay_options, replay_word, dump_word, check_word, compact_word, work_word, IsInRange, key_name, scheme_name, hwm_name, misses_name, entries_name, bytes_name};
+ghost use Rattle.command_words.specs.Reading.{reading, asked_by, database_of, only_word, database_in, replay_of, dump_of, check_of, compact_of, work_of, work_behind, replay_behind, replay_options, IsInRange, key_name, scheme_name, hwm_name, misses_name, entries_name, bytes_name};
 ghost use Rattle.std.specs.Option.{option_copied};
 ghost use Rattle.command_words.specs.Simple.{values_of, word_id};
 
@@ -331,65 +331,33 @@ fn work_of(alloc: Global, behind: &[Text]) -> Result<Command, CommandError>
     work_behind(alloc, &matches)
 }
 
-/// Whether a word is the command `replay`.
-#[tactic(auto, unfolding(crate::specs::Reading::replay_word))]
-fn is_replay(word: &Text) -> bool
-    ensures { result ≡ bytes_eq word.now replay_word }
+/// Whether a word is this command.
+pub(crate) fn is_command(word: &Text, name: &[u8]) -> bool
+    ensures { result ≡ bytes_eq word.now name.now }
 {
-    word.as_slice() == b"replay".as_slice()
-}
-
-/// Whether a word is the command `dump`.
-#[tactic(auto, unfolding(crate::specs::Reading::dump_word))]
-fn is_dump(word: &Text) -> bool
-    ensures { result ≡ bytes_eq word.now dump_word }
-{
-    word.as_slice() == b"dump".as_slice()
-}
-
-/// Whether a word is the command `check`.
-#[tactic(auto, unfolding(crate::specs::Reading::check_word))]
-fn is_check(word: &Text) -> bool
-    ensures { result ≡ bytes_eq word.now check_word }
-{
-    word.as_slice() == b"check".as_slice()
-}
-
-/// Whether a word is the command `compact`.
-#[tactic(auto, unfolding(crate::specs::Reading::compact_word))]
-fn is_compact(word: &Text) -> bool
-    ensures { result ≡ bytes_eq word.now compact_word }
-{
-    word.as_slice() == b"compact".as_slice()
-}
-
-/// Whether a word is the command `work`.
-#[tactic(auto, unfolding(crate::specs::Reading::work_word))]
-fn is_work(word: &Text) -> bool
-    ensures { result ≡ bytes_eq word.now work_word }
-{
-    word.as_slice() == b"work".as_slice()
+    word.as_slice() == name
 }
 
 /// What a command asks for with the words behind it.
+#[tactic(auto, unfolding(crate::specs::Reading::replay_word, crate::specs::Reading::dump_word, crate::specs::Reading::check_word, crate::specs::Reading::compact_word, crate::specs::Reading::work_word))]
 fn asked_by(alloc: Global, command: &Text, behind: &[Text]) -> Result<Command, CommandError>
     ensures ok { IfOk result (λ c. asked_by command.now behind.now ≡ Some c) }
     ensures usage { result ≡ Err CommandError.Usage → asked_by command.now behind.now ≡ None }
     ensures range { IfOk result IsInRange }
 {
-    if is_replay(command) {
+    if is_command(command, b"replay") {
         return replay_of(alloc, behind);
     }
-    if is_dump(command) {
+    if is_command(command, b"dump") {
         return dump_of(alloc, behind);
     }
-    if is_check(command) {
+    if is_command(command, b"check") {
         return check_of(alloc, behind);
     }
-    if is_compact(command) {
+    if is_command(command, b"compact") {
         return compact_of(alloc, behind);
     }
-    if is_work(command) {
+    if is_command(command, b"work") {
         return work_of(alloc, behind);
     }
     Err(CommandError::Usage)

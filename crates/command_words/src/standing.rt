@@ -1,13 +1,13 @@
 //! What a command line asks for that is about a cluster which stands at its ports.
 
-ghost use Rattle.std.specs.Prelude.{◌≡◌, ◌≤◌, ◌∷◌, [], Some, None, Err, IfOk, IfSome, bytes_eq, map, option_map};
+ghost use Rattle.std.specs.Prelude.{◌≡◌, ◌≤◌, ◌∷◌, [], Some, None, Err, IfOk, IfSome, map, option_map};
 ghost use Rattle.std.specs.Option.{option_copied};
 ghost use Rattle.command_words.specs.Reading.{only_word, replay_options, key_name};
 ghost use Rattle.command_words.specs.Simple.{values_of, word_id};
-ghost use Rattle.command_words.specs.Standing.{action_alone, action_about, action_of, client_behind, client_of, client_word, engine_behind, engine_of, engine_word, filled_from, greatest_port, id_from, port_from, serve_behind, serve_of, serve_word, standing_by, standing_reading, uuid_from};
+ghost use Rattle.command_words.specs.Standing.{action_alone, action_about, action_of, client_behind, client_of, engine_behind, engine_of, filled_from, greatest_port, id_from, port_from, serve_behind, serve_of, standing_by, standing_reading, uuid_from};
 ghost use Rattle.command_words.specs.Values.{needed, key_from};
 
-use crate::command::{CommandError, KEY, REPLAY, ReplayOptions, replay_options};
+use crate::command::{CommandError, KEY, REPLAY, ReplayOptions, is_command, replay_options};
 use crate::matches::{are_formed, borrowed, parted, words};
 use crate::values::{needed_key, number_from};
 use clap::ArgMatches;
@@ -304,31 +304,8 @@ fn client_of(alloc: Global, behind: &[Text]) -> Result<StandingCommand, CommandE
     client_behind(alloc, &matches)
 }
 
-/// Whether a word is the command `serve`.
-#[tactic(auto, unfolding(crate::specs::Standing::serve_word))]
-fn is_serve(word: &Text) -> bool
-    ensures { result ≡ bytes_eq word.now serve_word }
-{
-    word.as_slice() == b"serve".as_slice()
-}
-
-/// Whether a word is the command `engine`.
-#[tactic(auto, unfolding(crate::specs::Standing::engine_word))]
-fn is_engine(word: &Text) -> bool
-    ensures { result ≡ bytes_eq word.now engine_word }
-{
-    word.as_slice() == b"engine".as_slice()
-}
-
-/// Whether a word is the command `client`.
-#[tactic(auto, unfolding(crate::specs::Standing::client_word))]
-fn is_client(word: &Text) -> bool
-    ensures { result ≡ bytes_eq word.now client_word }
-{
-    word.as_slice() == b"client".as_slice()
-}
-
 /// What a command asks for with the words behind it.
+#[tactic(auto, unfolding(crate::specs::Standing::serve_word, crate::specs::Standing::engine_word, crate::specs::Standing::client_word))]
 fn standing_by(
     alloc: Global,
     command: &Text,
@@ -337,13 +314,13 @@ fn standing_by(
     ensures ok { IfOk result (λ c. standing_by command.now behind.now ≡ Some c) }
     ensures usage { result ≡ Err CommandError.Usage → standing_by command.now behind.now ≡ None }
 {
-    if is_serve(command) {
+    if is_command(command, b"serve") {
         return serve_of(alloc, behind);
     }
-    if is_engine(command) {
+    if is_command(command, b"engine") {
         return engine_of(alloc, behind);
     }
-    if is_client(command) {
+    if is_command(command, b"client") {
         return client_of(alloc, behind);
     }
     Err(CommandError::Usage)
