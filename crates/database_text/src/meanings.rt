@@ -55,10 +55,7 @@ fn event_on(
     ensures { IfOk result (λ event. event ≡ event_on (facts_in (plain state.now)) conn message.now) }
 {
     match channel_of(state, conn) {
-        Some(channel) => {
-            let event = meaning(alloc, channel, message, scratch)?;
-            Ok(event)
-        }
+        Some(channel) => meaning(alloc, channel, message, scratch),
         None => Ok(None),
     }
 }
@@ -80,10 +77,7 @@ pub fn event_in(
                 word: _,
                 message,
             },
-        ) => {
-            let event = event_on(alloc, state, *conn, message, scratch)?;
-            Ok(event)
-        }
+        ) => event_on(alloc, state, *conn, message, scratch),
         _ => Ok(None),
     }
 }

@@ -103,8 +103,7 @@ fn copies_of(alloc: Global, known: u64, ids: &Ids) -> Result<Copies, AllocError>
     ensures { IfOk result (λ copies. copies ≡ copies_from (known + 1) (once ids.now)) }
 {
     let olds = once(alloc, ids)?;
-    let copies = copies_behind(alloc, known, olds.as_slice())?;
-    Ok(copies)
+    copies_behind(alloc, known, olds.as_slice())
 }
 
 /// What a kept entry with this event does, where so many ids were known.
@@ -141,10 +140,7 @@ pub fn note_of(
         return Ok(Note::Nothing);
     }
     match event {
-        Some(event) => {
-            let note = note_kept(alloc, known, event)?;
-            Ok(note)
-        }
+        Some(event) => note_kept(alloc, known, event),
         None => Ok(Note::Nothing),
     }
 }

@@ -163,8 +163,7 @@ fn copied(alloc: Global, list: &[Entry]) -> Result<Entries, AllocError>
 /// The thin history of a core.
 fn thin_of(alloc: Global, core: &Core) -> Result<Entries, AllocError> {
     let entries = copied(alloc, core.history())?;
-    let thin = thinned(alloc, &entries)?;
-    Ok(thin)
+    thinned(alloc, &entries)
 }
 
 /// A content that a message has, and whether it has buffers.

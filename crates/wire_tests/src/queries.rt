@@ -3,14 +3,13 @@
 ghost use Rattle.std.specs.Prelude.{map};
 ghost use Rattle.hub_queries.specs.Ascending.{Ascends};
 
-use crate::tables::{ids, text};
+use crate::tables::{ids, outcome, text};
 use cluster_defs::answer::Answer;
 use cluster_types::config::Channel;
 use cluster_types::event::Query;
 use cluster_types::octets::Octets;
 use cluster_types::record::Record;
 use cluster_types::sequence::Sequence;
-use cluster_types::shared_message::SharedMessage;
 use cluster_types::verdict::{Cause, Verdict};
 use hub_queries::answer::answer;
 use hub_queries::engines::LiveEngines;
@@ -30,19 +29,6 @@ fn buffer<R: Abort>(rt: &R, alloc: Global) -> Sequence<Octets> {
     list
 }
 
-fn outcome<R: Abort>(rt: &R, alloc: Global) -> SharedMessage {
-    SharedMessage::new(
-        alloc,
-        b"",
-        b"{}",
-        b"{}",
-        b"{}",
-        b"{\"status\":\"ok\"}",
-        buffer(rt, alloc),
-    )
-    .expect(rt, "memory is ample")
-}
-
 fn settled<R: Abort>(rt: &R, alloc: Global, name: &str, number: u64) -> Record {
     Record {
         id: text(rt, alloc, name),
@@ -52,7 +38,7 @@ fn settled<R: Abort>(rt: &R, alloc: Global, name: &str, number: u64) -> Record {
         running: false,
         settled: Some((Verdict::Completed, Cause::Reply)),
         purged: false,
-        outcome: Some(outcome(rt, alloc)),
+        outcome: Some(outcome(rt, alloc, buffer(rt, alloc))),
     }
 }
 

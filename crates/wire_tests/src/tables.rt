@@ -1,6 +1,6 @@
 //! A table of three records, and ids: `a` is settled, `b` runs and `c` is purged. `z` was never known.
 
-use cluster_types::message::Ids;
+use cluster_types::message::{Buffers, Ids};
 use cluster_types::record::Record;
 use cluster_types::sequence::Sequence;
 use cluster_types::shared_message::SharedMessage;
@@ -23,7 +23,8 @@ pub(crate) fn ids<R: Abort>(rt: &R, alloc: Global, names: &[&str]) -> Ids {
     list
 }
 
-fn outcome<R: Abort>(rt: &R, alloc: Global) -> SharedMessage {
+/// An outcome that is `ok`, with these buffers.
+pub(crate) fn outcome<R: Abort>(rt: &R, alloc: Global, buffers: Buffers) -> SharedMessage {
     SharedMessage::new(
         alloc,
         b"",
@@ -31,7 +32,7 @@ fn outcome<R: Abort>(rt: &R, alloc: Global) -> SharedMessage {
         b"{}",
         b"{}",
         b"{\"status\":\"ok\"}",
-        Sequence::new(alloc),
+        buffers,
     )
     .expect(rt, "memory is ample")
 }
@@ -46,7 +47,7 @@ pub(crate) fn settled<R: Abort>(
     let left = if purged {
         None
     } else {
-        Some(outcome(rt, alloc))
+        Some(outcome(rt, alloc, Sequence::new(alloc)))
     };
     Record {
         id: text(rt, alloc, name),

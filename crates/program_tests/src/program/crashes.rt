@@ -1,7 +1,7 @@
 //! The tape of one task over disks whose calls fail one after the other.
 
 use super::one_task::{ENTRIES, ENTRIES_BEHIND, OTHER, OUTPUT, OUTPUT_BEHIND, TAPE};
-use super::{NONE, REPLAY, disk_of, run};
+use super::{Left, NONE, REPLAY, disk_of, run};
 use disk_model::fuse::FuseDisk;
 use std::alloc::Global;
 use std::process::Abort;
@@ -77,6 +77,18 @@ fn holds<R: Abort>(rt: &R, alloc: Global, whole: &Whole, sent: &[u8], content: &
         && entries_sent(whole, sent.len()) <= entries
 }
 
+/// What a tape over this content leaves.
+fn left_by<R: Abort>(rt: &R, alloc: Global, tape: &[u8], content: &[u8]) -> Left {
+    run(
+        rt,
+        alloc,
+        REPLAY,
+        tape,
+        &NONE,
+        disk_of(rt, alloc, content, 0),
+    )
+}
+
 /// The status of a tape over a disk.
 fn status_of<R: Abort>(rt: &R, alloc: Global, tape: &[u8], disk: FuseDisk) -> u8 {
     run(rt, alloc, REPLAY, tape, &NONE, disk).status
@@ -84,14 +96,7 @@ fn status_of<R: Abort>(rt: &R, alloc: Global, tape: &[u8], disk: FuseDisk) -> u8
 
 /// The status of the whole tape over this content, and how often the task is settled then.
 fn settled_over<R: Abort>(rt: &R, alloc: Global, content: &[u8]) -> (u8, usize) {
-    let left = run(
-        rt,
-        alloc,
-        REPLAY,
-        TAPE,
-        &NONE,
-        disk_of(rt, alloc, content, 0),
-    );
+    let left = left_by(rt, alloc, TAPE, content);
     let text = text_of(rt, alloc, left.disk.content());
     (left.status, lines_with(text.as_slice(), b"settle 61 "))
 }
@@ -135,14 +140,7 @@ fn calls_of<R: Abort>(rt: &R, alloc: Global, tape: &[u8], content: &[u8]) -> u64
 
 /// What the disk holds that served a tape from this content on.
 fn served<R: Abort>(rt: &R, alloc: Global, tape: &[u8], content: &[u8]) -> Vec<u8> {
-    let left = run(
-        rt,
-        alloc,
-        REPLAY,
-        tape,
-        &NONE,
-        disk_of(rt, alloc, content, 0),
-    );
+    let left = left_by(rt, alloc, tape, content);
     Vec::from_slice(alloc, left.disk.content()).expect(rt, "memory is ample")
 }
 
@@ -178,14 +176,7 @@ fn a_used_disk_fails_at_each_call(rt: HostRuntime) {
 
 /// Whether a tape over this content sends what is to be sent, and leaves the entries that it is to leave.
 fn ends_whole<R: Abort>(rt: &R, alloc: Global, whole: &Whole, content: &[u8]) -> (u8, bool, bool) {
-    let left = run(
-        rt,
-        alloc,
-        REPLAY,
-        TAPE,
-        &NONE,
-        disk_of(rt, alloc, content, 0),
-    );
+    let left = left_by(rt, alloc, TAPE, content);
     let text = text_of(rt, alloc, left.disk.content());
     let sent = left.output.written() == whole.output;
     (left.status, sent, text.as_slice() == whole.entries)
