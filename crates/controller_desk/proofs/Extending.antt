@@ -27,6 +27,7 @@ use Rattle.controller_desk.specs.declared.fault.ActError.TheVariants.{TooManyCon
 use Rattle.controller_desk.specs.Calls.{is_input, HasStepped, IsRefusedAs, HasTried, HasActed, HasOpened, HasClosed, HasTaken, HasFlushed}
 use Rattle.controller_desk.specs.Contents.{flag, first_values, conn_numbers, content_of}
 use Rattle.controller_desk.specs.Turns.{beyond, GoesOn, InTurn}
+use Rattle.cluster_types.proofs.Booleans.{or_off_left, or_off_right}
 
 -- COUNTS
 
@@ -83,17 +84,9 @@ open_input (In conn moment word m) is = refl
 open_input (Beat moment word) is = refl
 open_input (Time moment word) is = refl
 
-first_is : (a b : Bool) → (a || b) ≡ false → a ≡ false
-first_is true b is = cc
-first_is false b is = refl
-
-second_is : (a b : Bool) → (a || b) ≡ false → b ≡ false
-second_is true b is = cc
-second_is false b is = is
-
 none_open : (ds : List Entry) (input : InputType) → list_any is_input ds ≡ false → is_open (Input input) ≡ false → list_any is_open_entry (ds ++ Input input ∷ []) ≡ false
 none_open [] input off is = rw (open_input input is) refl
-none_open (d ∷ ds) input off is = rw (not_open d (first_is (is_input d) (list_any is_input ds) off)) (none_open ds input (second_is (is_input d) (list_any is_input ds) off) is)
+none_open (d ∷ ds) input off is = rw (not_open d (or_off_left (is_input d) (list_any is_input ds) off)) (none_open ds input (or_off_right (is_input d) (list_any is_input ds) off) is)
 
 -- a store with these entries more, no Open among them, and no count lower
 goes_on : {D : Type 0} (faults : D → ℕ) (old new : StoreView D) (es : List Entry) → new.history ≡ es ++ old.history → list_any is_open_entry es ≡ false → CountsRise faults old new → GoesOn faults old new

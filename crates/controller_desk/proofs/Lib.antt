@@ -1,6 +1,5 @@
 pub mod Acting
 pub mod Extending
-pub mod Named
 pub mod Numbers
 pub mod Seen
 pub mod Short

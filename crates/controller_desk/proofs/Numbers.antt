@@ -19,6 +19,7 @@ use Rattle.cluster_core.specs.declared.size.HistorySize.{HistorySize}
 use Rattle.cluster_core.specs.Size.{next_since, since_open, size_since, is_past}
 use Rattle.controller_desk.specs.Calls.{is_input}
 use Rattle.controller_desk.specs.Ups.{ups, numbered, ups_after, HasNextNumber}
+use Rattle.cluster_types.proofs.Booleans.{or_off_left, or_off_right, and_left}
 
 -- DECISIONS
 
@@ -31,14 +32,6 @@ no_input h (Lose n) is = refl
 pub no_inputs : (h : History) (ds : List Entry) → Decided h ds → list_any is_input ds ≡ false
 no_inputs h [] each = refl
 no_inputs h (d ∷ ds) each = rw (no_input (ds ++ h) d each.0) (no_inputs h ds each.1)
-
-first_is : (a b : Bool) → (a || b) ≡ false → a ≡ false
-first_is true b is = cc
-first_is false b is = refl
-
-second_is : (a b : Bool) → (a || b) ≡ false → b ≡ false
-second_is true b is = cc
-second_is false b is = is
 
 -- what decisions leave as it was
 pub record SameUps (old new : History) : Type 0 where
@@ -54,7 +47,7 @@ same_on (Lose n) h old off s = record { same = s.same; numbers = s.numbers; begu
 
 pub same_ups : (ds : List Entry) (h : History) → list_any is_input ds ≡ false → SameUps h (ds ++ h)
 same_ups [] h off = record { same = refl; numbers = refl; begun = refl }
-same_ups (d ∷ ds) h off = same_on d (ds ++ h) h (first_is (is_input d) (list_any is_input ds) off) (same_ups ds h (second_is (is_input d) (list_any is_input ds) off))
+same_ups (d ∷ ds) h off = same_on d (ds ++ h) h (or_off_left (is_input d) (list_any is_input ds) off) (same_ups ds h (or_off_right (is_input d) (list_any is_input ds) off))
 
 -- AN INPUT
 
@@ -116,7 +109,7 @@ counts_decision base (Lose n) h off c = counts_on base (Lose n) h (behind_some (
 
 pub counts_all : (base : ℕ) (ds : List Entry) (h : History) → list_any is_input ds ≡ false → Counts base h → Counts base (ds ++ h)
 counts_all base [] h off c = c
-counts_all base (d ∷ ds) h off c = counts_decision base d (ds ++ h) (first_is (is_input d) (list_any is_input ds) off) (counts_all base ds h (second_is (is_input d) (list_any is_input ds) off) c)
+counts_all base (d ∷ ds) h off c = counts_decision base d (ds ++ h) (or_off_left (is_input d) (list_any is_input ds) off) (counts_all base ds h (or_off_right (is_input d) (list_any is_input ds) off) c)
 
 -- no more came up than entries came
 pub ups_fit : (h : History) → ups h ≤ length (since_open h)
@@ -146,7 +139,7 @@ ups_fit (Lose n ∷ h) = by (since_open h) (ups_fit h)
 pub counted_within : (limits : HistorySize) (h : History) → limits.entries + 1 < 2 ^ 32 → is_past limits (size_since h) ≡ false → ups h ≤ limits.entries
 counted_within limits h low fits =
     let size = size_since h in
-    let within = ltb-false limits.entries size.entries (first_is (nat_lt limits.entries size.entries) (nat_lt limits.bytes size.bytes) fits) in
+    let within = ltb-false limits.entries size.entries (or_off_left (nat_lt limits.entries size.entries) (nat_lt limits.bytes size.bytes) fits) in
     let le = ups_fit h in
     omega (arith, within, low, le)
 
@@ -172,10 +165,6 @@ below_less n p (c ∷ live) all =
       | false ↦ below_less n p live all.1
     ]
 
-and_first : (a b : Bool) → (a && b) ≡ true → a ≡ true
-and_first true b is = refl
-and_first false b is = cc
-
 and_second : (a b : Bool) → (a && b) ≡ true → b ≡ true
 and_second true b is = is
 and_second false b is = cc
@@ -184,7 +173,7 @@ live_below : (h : History) → numbered h ≡ true → all_below (ups h) (facts 
 live_below [] is = tt
 live_below (Input (Open moment scheme hwm misses) ∷ h) is = tt
 live_below (Input (Up conn channel moment word identity) ∷ h) is =
-    let number = eqb-true conn (suc (ups h)) (and_first (conn == suc (ups h)) (numbered h) is) in
+    let number = eqb-true conn (suc (ups h)) (and_left (conn == suc (ups h)) (numbered h) is) in
     below_one (suc (ups h)) (facts h).connections _ (omega (arith, number)) (below_more (ups h) (suc (ups h)) (facts h).connections (omega arith) (live_below h (and_second (conn == suc (ups h)) (numbered h) is)))
 live_below (Input (Down conn moment word) ∷ h) is = below_less (ups h) (λ c. not (c.number == conn)) (facts h).connections (live_below h is)
 live_below (Input (In conn moment word m) ∷ h) is = live_below h is

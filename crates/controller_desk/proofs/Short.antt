@@ -16,10 +16,7 @@ use Rattle.cluster_core.specs.Steps.{kept_from, kept_one}
 use Rattle.record_codec.specs.Sizes.{record_size}
 use Rattle.record_codec.specs.Spelling.{spelling}
 use Rattle.record_codec.specs.Records.{spellings}
-
-one_size : (b : Bool) (e : Entry) → length (spellings (kept_one b e)) ≤ length (spelling e)
-one_size true e = let all = length-append (spelling e) [] in omega (arith, all)
-one_size false e = omega arith
+use Rattle.cluster_store.proofs.Kept.{one_size}
 
 -- an entry more adds at most its record
 at_most : (at : ℕ) (e : Entry) (h : History) → length (spellings (kept_from at (e ∷ h))) ≤ length (spellings (kept_from at h)) + length (spelling e)

@@ -21,7 +21,8 @@ use Rattle.controller_desk.specs.declared.acted.Acted.TheVariants.{Entered, Junk
 use Rattle.controller_desk.specs.declared.fault.ActError.{ActError}
 use Rattle.controller_desk.specs.declared.fault.ActError.TheVariants.{TooManyConnections, Reopen, HistoryFull, OutOfMemory}
 use Rattle.controller_desk.specs.Readings.{heard, IsHeard}
-use Rattle.controller_desk.specs.Ups.{ups, up_of}
+use Rattle.controller_desk.specs.Ups.{ups}
+use Rattle.link_messages.specs.Identity.{up_of}
 
 abbrev pub is_input : Entry → Bool
 is_input (Input input) = true

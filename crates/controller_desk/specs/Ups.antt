@@ -1,6 +1,5 @@
 -- The connections of one opening, which are numbered from 1.
-use Rattle.std.specs.Prelude.{◌≡◌, ◌≤◌, ◌<◌, ◌+◌, ◌^◌, ◌==◌, ◌&&◌, ⊤, ℕ, suc, Bool, true, List, [], ◌∷◌, ◌++◌, length, decimal, codes, if◌then◌else◌}
-use Rattle.cluster_types.specs.declared.config.Channel.{Channel}
+use Rattle.std.specs.Prelude.{◌≡◌, ◌≤◌, ◌<◌, ◌+◌, ◌^◌, ◌==◌, ◌&&◌, ⊤, ℕ, suc, Bool, true, List, [], ◌∷◌, length}
 use Rattle.cluster_types.specs.declared.entry.Input.{Input as InputType}
 use Rattle.cluster_types.specs.declared.entry.Input.TheVariants.{Open, Up}
 use Rattle.cluster_types.specs.declared.entry.Entry.TheVariants.{Input}
@@ -31,16 +30,6 @@ HasNextNumber history _ = ⊤
 abbrev pub ups_after : InputType → ℕ → ℕ
 ups_after (Up conn channel moment word identity) n = suc n
 ups_after _ n = n
-
--- a connection without an identity is called after its number
-unfoldable pub numbered_identity : ℕ → List ℕ
-numbered_identity conn = codes "conn-" ++ decimal conn
-
-abbrev pub identity_or_number : ℕ → List ℕ → List ℕ
-identity_or_number conn identity = if length identity == 0 then numbered_identity conn else identity
-
-abbrev pub up_of : ℕ → Channel → ℕ → ℕ → List ℕ → InputType
-up_of conn channel moment word identity = Up conn channel moment word (identity_or_number conn identity)
 
 -- a store for a desk: its limits have 32 bits, an Open stands, all up to the last Open with its decisions is safe, and
 -- the connections since then are numbered from 1

@@ -1,21 +1,21 @@
 //! The calls of threads. Each but those on passes is one turn at the lock.
 
-ghost use Rattle.std.specs.Prelude.{◌≡◌, ◌<◌, ◌+◌, ◌↔◌, ◌≤◌, ℕ, [], Err, None, false, length, slice_index, IfOk, IfSome, IsSome, IsErr, OnOk, OnErr, filter};
-ghost use Rattle.cluster_types.specs.Causes.{Rose};
-ghost use Rattle.cluster_defs.specs.Scheduling.{due};
-ghost use Rattle.cluster_defs.specs.Histories.{facts, Legal, is_stopping};
-ghost use Rattle.cluster_store.specs.Stores.{StoreView};
+ghost use Rattle.std.specs.Prelude.{◌≡◌, ◌<◌, ◌+◌, ◌↔◌, ◌≤◌, ℕ, [], Err, length, IfOk, IfSome, IsSome, IsErr, OnOk, OnErr, filter};
+ghost use Rattle.cluster_defs.specs.Histories.{is_stopping};
 ghost use Rattle.record_codec.specs.Spelling.{IsShort};
 ghost use Rattle.history_lock.specs.History.{Extends, merged};
 ghost use Rattle.history_lock.specs.Rule.{without_turn, whole, split_kept, split_given};
-ghost use Rattle.history_lock.specs.Names.{known, lock_of, room_of, lock_id, IsIdle};
+ghost use Rattle.history_lock.specs.Names.{known, room_of, lock_id, IsIdle};
 ghost use Rattle.controller_desk.specs.Calls.{HasTried, HasActed, HasOpened, HasClosed, HasTaken, HasFlushed, has_news};
 ghost use Rattle.controller_desk.specs.Contents.{content_of};
-ghost use Rattle.controller_desk.specs.Turns.{InTurn};
+ghost use Rattle.controller_desk.specs.Turns.{TakesTurn, IsBack};
 ghost use Rattle.controller_desk.specs.Ups.{IsSet, ups};
 
 use crate::acted::Acted;
 use crate::fault::ActError;
+use crate::lent::{
+    act_on, beat_on, close_on, flush_on, keep_news_on, open_on, stopping_on, take_on, time_on,
+};
 use crate::locked::Locked;
 use crate::reading::Reading;
 use cluster_store::store::Store;
@@ -54,7 +54,15 @@ impl<D: Disk + Drop, C: Clock + Drop, W: Words + Drop> Desk<D, C, W> {
         ensures room { IfOk result (λ r. room_of r.1 + 1 ≡ 4096) }
         ensures known { IfOk result (λ r. known r.1 ≡ without_turn whole (content_of D.faults store) []) }
     {
-        let locked = Locked::new(alloc, store, clock, random)?;
+        let Ok(store) = Box::new(alloc, store) else {
+            return Err(AllocError);
+        };
+        let locked = Locked {
+            store,
+            clock,
+            words: random,
+            last: 0,
+        };
         let (lock, pass) = HistoryLock::new(alloc, locked, PASSES)?;
         Ok((Desk { lock }, pass))
     }
@@ -70,14 +78,12 @@ impl<D: Disk + Drop, C: Clock + Drop, W: Words + Drop> Desk<D, C, W> {
     ) -> Result<Acted, ActError>
         requires idle { IsIdle (lock_id self.now.lock) pass.old }
         requires short { IsShort reading.message }
-        ensures idle { IsIdle (lock_id self.now.lock) pass.new }
-        ensures room { room_of pass.new ≡ room_of pass.old }
-        ensures turn { (before : StoreView D) × (after : StoreView D) × InTurn D.faults (known pass.old) before after (known pass.new)
-            × (moment : ℕ) × (word : ℕ) × HasActed before moment word conn reading.message result after }
-        ensures rests { Legal (known pass.new).seen.list × (due (facts (known pass.new).seen.list) ≡ None) }
+        ensures back { IsBack (lock_id self.now.lock) pass.old pass.new }
+        ensures turn { TakesTurn D.faults (λ before after. (moment : ℕ) × (word : ℕ) × HasActed before moment word conn reading.message result after) (known pass.old) (known pass.new) }
     {
         let mut locked = self.lock.enter(rt, pass);
-        let result = locked.act(chooser, conn, reading);
+        let stamp = locked.draw();
+        let result = act_on(&mut locked.store, chooser, stamp, conn, reading);
         locked.rest();
         self.lock.leave(pass, locked);
         result
@@ -94,14 +100,21 @@ impl<D: Disk + Drop, C: Clock + Drop, W: Words + Drop> Desk<D, C, W> {
     ) -> Result<u32, ActError>
         requires idle { IsIdle (lock_id self.now.lock) pass.old }
         requires identity { length identity.now < 256 }
-        ensures idle { IsIdle (lock_id self.now.lock) pass.new }
-        ensures room { room_of pass.new ≡ room_of pass.old }
-        ensures turn { (before : StoreView D) × (after : StoreView D) × InTurn D.faults (known pass.old) before after (known pass.new)
-            × (moment : ℕ) × (word : ℕ) × HasOpened before moment word channel identity.now result after }
-        ensures rests { Legal (known pass.new).seen.list × (due (facts (known pass.new).seen.list) ≡ None) }
+        ensures back { IsBack (lock_id self.now.lock) pass.old pass.new }
+        ensures turn { TakesTurn D.faults (λ before after. (moment : ℕ) × (word : ℕ) × HasOpened before moment word channel identity.now result after) (known pass.old) (known pass.new) }
     {
         let mut locked = self.lock.enter(rt, pass);
-        let result = locked.open_conn(chooser, channel, identity);
+        let stamp = locked.draw();
+        let mut last = locked.last;
+        let result = open_on(
+            &mut locked.store,
+            chooser,
+            stamp,
+            &mut last,
+            channel,
+            identity,
+        );
+        locked.last = last;
         locked.rest();
         self.lock.leave(pass, locked);
         result
@@ -116,14 +129,12 @@ impl<D: Disk + Drop, C: Clock + Drop, W: Words + Drop> Desk<D, C, W> {
         conn: u32,
     ) -> Result<bool, ActError>
         requires idle { IsIdle (lock_id self.now.lock) pass.old }
-        ensures idle { IsIdle (lock_id self.now.lock) pass.new }
-        ensures room { room_of pass.new ≡ room_of pass.old }
-        ensures turn { (before : StoreView D) × (after : StoreView D) × InTurn D.faults (known pass.old) before after (known pass.new)
-            × (moment : ℕ) × (word : ℕ) × HasClosed before moment word conn result after }
-        ensures rests { Legal (known pass.new).seen.list × (due (facts (known pass.new).seen.list) ≡ None) }
+        ensures back { IsBack (lock_id self.now.lock) pass.old pass.new }
+        ensures turn { TakesTurn D.faults (λ before after. (moment : ℕ) × (word : ℕ) × HasClosed before moment word conn result after) (known pass.old) (known pass.new) }
     {
         let mut locked = self.lock.enter(rt, pass);
-        let result = locked.close_conn(chooser, conn);
+        let stamp = locked.draw();
+        let result = close_on(&mut locked.store, chooser, stamp, conn);
         locked.rest();
         self.lock.leave(pass, locked);
         result
@@ -137,14 +148,12 @@ impl<D: Disk + Drop, C: Clock + Drop, W: Words + Drop> Desk<D, C, W> {
         chooser: &Chooser,
     ) -> Result<(), ActError>
         requires idle { IsIdle (lock_id self.now.lock) pass.old }
-        ensures idle { IsIdle (lock_id self.now.lock) pass.new }
-        ensures room { room_of pass.new ≡ room_of pass.old }
-        ensures turn { (before : StoreView D) × (after : StoreView D) × InTurn D.faults (known pass.old) before after (known pass.new)
-            × (moment : ℕ) × (word : ℕ) × HasTried before (Input.Beat moment word) result after }
-        ensures rests { Legal (known pass.new).seen.list × (due (facts (known pass.new).seen.list) ≡ None) }
+        ensures back { IsBack (lock_id self.now.lock) pass.old pass.new }
+        ensures turn { TakesTurn D.faults (λ before after. (moment : ℕ) × (word : ℕ) × HasTried before (Input.Beat moment word) result after) (known pass.old) (known pass.new) }
     {
         let mut locked = self.lock.enter(rt, pass);
-        let result = locked.beat(chooser);
+        let stamp = locked.draw();
+        let result = beat_on(&mut locked.store, chooser, stamp);
         locked.rest();
         self.lock.leave(pass, locked);
         result
@@ -158,14 +167,12 @@ impl<D: Disk + Drop, C: Clock + Drop, W: Words + Drop> Desk<D, C, W> {
         chooser: &Chooser,
     ) -> Result<(), ActError>
         requires idle { IsIdle (lock_id self.now.lock) pass.old }
-        ensures idle { IsIdle (lock_id self.now.lock) pass.new }
-        ensures room { room_of pass.new ≡ room_of pass.old }
-        ensures turn { (before : StoreView D) × (after : StoreView D) × InTurn D.faults (known pass.old) before after (known pass.new)
-            × (moment : ℕ) × (word : ℕ) × HasTried before (Input.Time moment word) result after }
-        ensures rests { Legal (known pass.new).seen.list × (due (facts (known pass.new).seen.list) ≡ None) }
+        ensures back { IsBack (lock_id self.now.lock) pass.old pass.new }
+        ensures turn { TakesTurn D.faults (λ before after. (moment : ℕ) × (word : ℕ) × HasTried before (Input.Time moment word) result after) (known pass.old) (known pass.new) }
     {
         let mut locked = self.lock.enter(rt, pass);
-        let result = locked.time(chooser);
+        let stamp = locked.draw();
+        let result = time_on(&mut locked.store, chooser, stamp);
         locked.rest();
         self.lock.leave(pass, locked);
         result
@@ -178,14 +185,11 @@ impl<D: Disk + Drop, C: Clock + Drop, W: Words + Drop> Desk<D, C, W> {
         pass: &mut Pass<Locked<D, C, W>>,
     ) -> Result<(), AppendFault>
         requires idle { IsIdle (lock_id self.now.lock) pass.old }
-        ensures idle { IsIdle (lock_id self.now.lock) pass.new }
-        ensures room { room_of pass.new ≡ room_of pass.old }
-        ensures turn { (before : StoreView D) × (after : StoreView D) × InTurn D.faults (known pass.old) before after (known pass.new)
-            × HasFlushed D.faults before result after }
-        ensures rests { Legal (known pass.new).seen.list × (due (facts (known pass.new).seen.list) ≡ None) }
+        ensures back { IsBack (lock_id self.now.lock) pass.old pass.new }
+        ensures turn { TakesTurn D.faults (λ before after. HasFlushed D.faults before result after) (known pass.old) (known pass.new) }
     {
         let mut locked = self.lock.enter(rt, pass);
-        let result = locked.flush();
+        let result = flush_on(&mut locked.store);
         locked.rest();
         self.lock.leave(pass, locked);
         result
@@ -194,14 +198,11 @@ impl<D: Disk + Drop, C: Clock + Drop, W: Words + Drop> Desk<D, C, W> {
     /// Takes the next out to a connection, where all that is kept up to its entry is safe, without memory.
     pub fn take_out<R: Wait>(&self, rt: &R, pass: &mut Pass<Locked<D, C, W>>, conn: u32) -> Taken
         requires idle { IsIdle (lock_id self.now.lock) pass.old }
-        ensures idle { IsIdle (lock_id self.now.lock) pass.new }
-        ensures room { room_of pass.new ≡ room_of pass.old }
-        ensures turn { (before : StoreView D) × (after : StoreView D) × InTurn D.faults (known pass.old) before after (known pass.new)
-            × HasTaken before conn result after }
-        ensures rests { Legal (known pass.new).seen.list × (due (facts (known pass.new).seen.list) ≡ None) }
+        ensures back { IsBack (lock_id self.now.lock) pass.old pass.new }
+        ensures turn { TakesTurn D.faults (λ before after. HasTaken before conn result after) (known pass.old) (known pass.new) }
     {
         let mut locked = self.lock.enter(rt, pass);
-        let result = locked.take_out(conn);
+        let result = take_on(&mut locked.store, conn);
         locked.rest();
         self.lock.leave(pass, locked);
         result
@@ -211,16 +212,13 @@ impl<D: Disk + Drop, C: Clock + Drop, W: Words + Drop> Desk<D, C, W> {
     /// none yet. It takes no memory.
     pub fn keep_news<R: Wait>(&self, rt: &R, pass: &mut Pass<Locked<D, C, W>>, conns: &mut Vec<u32>)
         requires idle { IsIdle (lock_id self.now.lock) pass.old }
-        ensures idle { IsIdle (lock_id self.now.lock) pass.new }
-        ensures room { room_of pass.new ≡ room_of pass.old }
-        ensures turn { (store : StoreView D) × InTurn D.faults (known pass.old) store store (known pass.new)
-            × (conns.new.items ≡ filter (has_news store) conns.old.items) }
+        ensures back { IsBack (lock_id self.now.lock) pass.old pass.new }
+        ensures turn { TakesTurn D.faults (λ before after. (after ≡ before) × (conns.new.items ≡ filter (has_news before) conns.old.items)) (known pass.old) (known pass.new) }
         ensures later { Extends (known pass.old).seen (known pass.new).seen }
         ensures added { (known pass.new).added ≡ (known pass.old).added }
-        ensures rests { Legal (known pass.new).seen.list × (due (facts (known pass.new).seen.list) ≡ None) }
     {
         let locked = self.lock.enter(rt, pass);
-        locked.keep_news(conns);
+        keep_news_on(&locked.store, conns);
         locked.rest();
         self.lock.leave(pass, locked);
     }
@@ -228,14 +226,14 @@ impl<D: Disk + Drop, C: Clock + Drop, W: Words + Drop> Desk<D, C, W> {
     /// Whether a shutdown was asked since the last Open.
     pub fn stopping<R: Wait>(&self, rt: &R, pass: &mut Pass<Locked<D, C, W>>) -> bool
         requires idle { IsIdle (lock_id self.now.lock) pass.old }
-        ensures idle { IsIdle (lock_id self.now.lock) pass.new }
-        ensures room { room_of pass.new ≡ room_of pass.old }
+        ensures back { IsBack (lock_id self.now.lock) pass.old pass.new }
         ensures later { Extends (known pass.old).seen (known pass.new).seen }
         ensures added { (known pass.new).added ≡ (known pass.old).added }
         ensures stops { result ≡ is_stopping (known pass.new).seen.list }
     {
         let locked = self.lock.enter(rt, pass);
-        let result = locked.stopping();
+        let result = stopping_on(&locked.store);
+        locked.rest();
         self.lock.leave(pass, locked);
         result
     }
@@ -279,7 +277,10 @@ impl<D: Disk + Drop, C: Clock + Drop, W: Words + Drop> Desk<D, C, W> {
     {
         let Desk { lock } = self;
         match lock.close(pass) {
-            Some(locked) => Some(locked.close()),
+            Some(locked) => {
+                let Locked { store, .. } = locked;
+                Some(Box::into_inner(store))
+            }
             None => None,
         }
     }

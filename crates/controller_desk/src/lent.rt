@@ -1,7 +1,6 @@
 //! The calls over a store that is lent to them: each takes one step, or none.
 
-ghost use Rattle.std.specs.Prelude.{◌≡◌, ◌≤◌, ◌<◌, ⊤, ◌∷◌, suc, true, false, Ok, Err, Some, IfOk, OnOk, OnErr, length, filter};
-ghost use Rattle.cluster_types.specs.Limits.{last_moment};
+ghost use Rattle.std.specs.Prelude.{◌≡◌, ◌<◌, ⊤, ◌∷◌, suc, true, false, Ok, Err, Some, IfOk, OnOk, OnErr, length, filter};
 ghost use Rattle.cluster_types.specs.declared.entry.Entry.{Entry};
 ghost use Rattle.cluster_defs.specs.Facts.{event_in};
 ghost use Rattle.cluster_defs.specs.Scheduling.{may_take};
@@ -11,11 +10,13 @@ ghost use Rattle.entry_outs.specs.Asked.{type_on, told_type};
 ghost use Rattle.record_codec.specs.Spelling.{IsWithinLimits, IsShort};
 ghost use Rattle.cluster_store.specs.Stores.{StoreView};
 ghost use Rattle.controller_desk.specs.Calls.{HasTried, HasActed, HasOpened, HasClosed, HasTaken, HasFlushed, has_news};
-ghost use Rattle.controller_desk.specs.Ups.{IsSet, HasNextNumber, ups, ups_after, numbered_identity, identity_or_number, up_of};
+ghost use Rattle.controller_desk.specs.Ups.{IsSet, HasNextNumber, ups, ups_after};
+ghost use Rattle.link_messages.specs.Identity.{identity_or_number, up_of};
 
 use crate::acted::Acted;
 use crate::fault::ActError;
 use crate::reading::Reading;
+use crate::stamp::Stamp;
 use cluster_core::meaning::Meaning;
 use cluster_intake::understood::Understood;
 use cluster_store::fault::StepError;
@@ -25,6 +26,7 @@ use cluster_types::entry::Input;
 use cluster_types::octets::Octets;
 use cluster_types::shared_message::SharedMessage;
 use disk_model::disk::Disk;
+use link_messages::identity::identity_or_number;
 use load_schemes::chooser::Chooser;
 use out_queues::taken::Taken;
 use std::alloc::{AllocError, Global};
@@ -87,18 +89,16 @@ fn take_plain<D: Disk>(
 fn enter_on<D: Disk>(
     store: &mut Store<D>,
     chooser: &Chooser,
-    moment: u64,
-    word: u64,
+    stamp: Stamp,
     conn: u32,
     message: SharedMessage,
     understood: Understood,
 ) -> Result<Acted, ActError>
-    requires moment { moment ≤ last_moment }
     requires short { IsShort message }
-    requires event { event_in (facts store.old.history) (Entry.Input (Input.In conn moment word message)) ≡ Some understood.event }
-    requires kind { understood.msg_type ≡ type_on (Entry.Input (Input.In conn moment word message)) }
+    requires event { event_in (facts store.old.history) (Entry.Input (Input.In conn stamp.moment stamp.word message)) ≡ Some understood.event }
+    requires kind { understood.msg_type ≡ type_on (Entry.Input (Input.In conn stamp.moment stamp.word message)) }
     requires set { IsSet store.old }
-    ensures tried { HasTried store.old (Input.In conn moment word message) result store.new }
+    ensures tried { HasTried store.old (Input.In conn stamp.moment stamp.word message) result store.new }
     ensures entered { IfOk result (λ acted. acted ≡ Acted.Entered) }
     ensures set { IsSet store.new }
     ensures ups { ups store.new.history ≡ ups store.old.history }
@@ -107,6 +107,7 @@ fn enter_on<D: Disk>(
         event: Some(understood.event),
         msg_type: understood.msg_type,
     };
+    let Stamp { moment, word } = stamp;
     let input = Input::In {
         conn,
         moment,
@@ -124,15 +125,13 @@ fn enter_on<D: Disk>(
 pub fn act_on<D: Disk>(
     store: &mut Store<D>,
     chooser: &Chooser,
-    moment: u64,
-    word: u64,
+    stamp: Stamp,
     conn: u32,
     reading: Reading,
 ) -> Result<Acted, ActError>
-    requires moment { moment ≤ last_moment }
     requires short { IsShort reading.message }
     requires set { IsSet store.old }
-    ensures acted { HasActed store.old moment word conn reading.message result store.new }
+    ensures acted { HasActed store.old stamp.moment stamp.word conn reading.message result store.new }
     ensures set { IsSet store.new }
     ensures ups { ups store.new.history ≡ ups store.old.history }
 {
@@ -146,57 +145,33 @@ pub fn act_on<D: Disk>(
         ..
     } = reading;
     match meaning {
-        Ok(understood) => enter_on(store, chooser, moment, word, conn, message, understood),
+        Ok(understood) => enter_on(store, chooser, stamp, conn, message, understood),
         Err(reason) => Ok(Acted::Junk(reason)),
     }
 }
 
-#[tactic(auto, unfolding(crate::specs::Ups::numbered_identity))]
-fn numbered_identity(alloc: Global, conn: u32) -> Result<Octets, AllocError>
-    ensures { IfOk result (λ i. i ≡ numbered_identity conn) }
-{
-    let number = conn.to_string(alloc)?;
-    let mut text = String::from_str(alloc, "conn-")?;
-    text.push_str(number.as_str())?;
-    let identity = Octets::new(alloc, text.as_bytes())?;
-    Ok(identity)
-}
-
-/// The identity of a connection, after its number where it has none.
-fn identity_or_number(alloc: Global, conn: u32, identity: &[u8]) -> Result<Octets, AllocError>
-    ensures { IfOk result (λ i. i ≡ identity_or_number conn identity.now) }
-{
-    if identity.len() == 0 {
-        let identity = numbered_identity(alloc, conn)?;
-        return Ok(identity);
-    }
-    let identity = Octets::new(alloc, identity)?;
-    Ok(identity)
-}
-
-/// Brings up the connection of this number, which is the next one, where fewer than 1,024 are live.
+/// Brings up the connection with the number behind the last one, where fewer than 1,024 are live, and counts it.
 pub fn open_on<D: Disk>(
     store: &mut Store<D>,
     chooser: &Chooser,
-    moment: u64,
-    word: u64,
-    conn: u32,
+    stamp: Stamp,
+    last: &mut u32,
     channel: Channel,
     identity: &[u8],
 ) -> Result<u32, ActError>
-    requires moment { moment ≤ last_moment }
     requires identity { length identity.now < 256 }
-    requires number { conn ≡ suc (ups store.old.history) }
+    requires counted { last.old ≡ ups store.old.history }
     requires set { IsSet store.old }
-    ensures opened { HasOpened store.old moment word channel identity.now result store.new }
+    ensures opened { HasOpened store.old stamp.moment stamp.word channel identity.now result store.new }
+    ensures counted { last.new ≡ ups store.new.history }
     ensures set { IsSet store.new }
-    ensures ok { IfOk result (λ n. (n ≡ conn) × (ups store.new.history ≡ conn)) }
-    ensures err { OnErr result (ups store.new.history ≡ ups store.old.history) }
 {
     if store.core().live_conns() >= MOST_CONNS {
         return Err(ActError::TooManyConnections);
     }
+    let conn = *last + 1;
     let identity = identity_or_number(store.core().allocator(), conn, identity)?;
+    let Stamp { moment, word } = stamp;
     let input = Input::Up {
         conn,
         channel,
@@ -205,7 +180,10 @@ pub fn open_on<D: Disk>(
         identity,
     };
     match take_plain(store, chooser, input) {
-        Ok(()) => Ok(conn),
+        Ok(()) => {
+            *last = conn;
+            Ok(conn)
+        }
         Err(error) => Err(error),
     }
 }
@@ -214,19 +192,18 @@ pub fn open_on<D: Disk>(
 pub fn close_on<D: Disk>(
     store: &mut Store<D>,
     chooser: &Chooser,
-    moment: u64,
-    word: u64,
+    stamp: Stamp,
     conn: u32,
 ) -> Result<bool, ActError>
-    requires moment { moment ≤ last_moment }
     requires set { IsSet store.old }
-    ensures closed { HasClosed store.old moment word conn result store.new }
+    ensures closed { HasClosed store.old stamp.moment stamp.word conn result store.new }
     ensures set { IsSet store.new }
     ensures ups { ups store.new.history ≡ ups store.old.history }
 {
     if !store.is_live(conn) {
         return Ok(false);
     }
+    let Stamp { moment, word } = stamp;
     match take_plain(store, chooser, Input::Down { conn, moment, word }) {
         Ok(()) => Ok(true),
         Err(error) => Err(error),
@@ -237,15 +214,14 @@ pub fn close_on<D: Disk>(
 pub fn beat_on<D: Disk>(
     store: &mut Store<D>,
     chooser: &Chooser,
-    moment: u64,
-    word: u64,
+    stamp: Stamp,
 ) -> Result<(), ActError>
-    requires moment { moment ≤ last_moment }
     requires set { IsSet store.old }
-    ensures tried { HasTried store.old (Input.Beat moment word) result store.new }
+    ensures tried { HasTried store.old (Input.Beat stamp.moment stamp.word) result store.new }
     ensures set { IsSet store.new }
     ensures ups { ups store.new.history ≡ ups store.old.history }
 {
+    let Stamp { moment, word } = stamp;
     take_plain(store, chooser, Input::Beat { moment, word })
 }
 
@@ -253,15 +229,14 @@ pub fn beat_on<D: Disk>(
 pub fn time_on<D: Disk>(
     store: &mut Store<D>,
     chooser: &Chooser,
-    moment: u64,
-    word: u64,
+    stamp: Stamp,
 ) -> Result<(), ActError>
-    requires moment { moment ≤ last_moment }
     requires set { IsSet store.old }
-    ensures tried { HasTried store.old (Input.Time moment word) result store.new }
+    ensures tried { HasTried store.old (Input.Time stamp.moment stamp.word) result store.new }
     ensures set { IsSet store.new }
     ensures ups { ups store.new.history ≡ ups store.old.history }
 {
+    let Stamp { moment, word } = stamp;
     take_plain(store, chooser, Input::Time { moment, word })
 }
 

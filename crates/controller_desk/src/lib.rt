@@ -7,3 +7,4 @@ pub mod fault;
 pub mod lent;
 pub mod locked;
 pub mod reading;
+pub mod stamp;

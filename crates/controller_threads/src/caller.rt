@@ -1,6 +1,8 @@
 //! The caller of `serve`, which alone starts jobs.
 
-ghost use Rattle.std.specs.Prelude.{◌≡◌, ◌≤◌, ℕ, IsTrue, IfErr, OnOk};
+ghost use Rattle.std.specs.Prelude.{◌≡◌, ◌≤◌, ℕ, All, IsTrue, IfOk, IfErr, OnOk};
+ghost use Rattle.std.specs.Vec.{vec_capacity};
+ghost use Rattle.std.proofs.Props.{props};
 ghost use Rattle.history_lock.specs.declared.known.Content.{Content};
 ghost use Rattle.history_lock.specs.Names.{known, room_of};
 ghost use Rattle.controller_workers.specs.declared.halt.Halt.{Halt as HaltType};
@@ -10,7 +12,6 @@ ghost use Rattle.controller_workers.specs.Passes.{IsSince};
 ghost use Rattle.controller_workers.specs.Ports.{AreAll};
 
 use crate::end::ServeEnd;
-use controller_desk::locked::Locked;
 use controller_workers::halt::Halt;
 use controller_workers::handed::{FailedPort, Handed};
 use controller_workers::naming::Naming;
@@ -19,28 +20,24 @@ use controller_workers::port::Port;
 use controller_workers::ports::{EndedPorts, Ports};
 use controller_workers::shared::Shared;
 use controller_workers::stop::Stop;
-use disk_model::disk::Disk;
-use history_lock::lock::Pass;
 use load_schemes::chooser::Chooser;
-use std::alloc::Global;
+use session_threads::admission::PassPool;
+use session_threads::context::{LockedOf, PassOf, SessionTypes};
+use std::alloc::{AllocError, Global};
 use std::sync::{Arc, Wait};
 use std::thread::Threads;
 use std::time::Duration;
-use thread_edges::clock::Clock;
-use thread_edges::gate::Gate;
 use thread_edges::spawner::Spawner;
-use thread_edges::words::Words;
 
 /// How many milliseconds the writers have before a controller stops.
 const LAST_MILLIS: u64 = 200;
 
 /// What the caller of `serve` has.
 #[derive(Drop)]
-pub struct Caller<P: Port, D: Disk, C: Clock, W: Words, G, N: Naming, R> {
-    pub shared: Arc<Shared<P, D, C, W, G, N, R>, Global>,
-    pub pass: Pass<Locked<D, C, W>>,
-    /// The passes of sessions that have ended.
-    pub kept: Vec<NamedPass<Locked<D, C, W>, N>>,
+pub struct Caller<P: Port, T: SessionTypes, N: Naming> {
+    pub shared: Arc<Shared<P, T, N>, Global>,
+    /// Its own pass, and those of sessions that have ended.
+    pub pool: PassPool<LockedOf<T>>,
     pub ended: EndedPorts<P>,
     /// How many greetings run.
     pub greetings: u64,
@@ -48,66 +45,69 @@ pub struct Caller<P: Port, D: Disk, C: Clock, W: Words, G, N: Naming, R> {
     pub sessions: u64,
     /// How many workers run.
     pub workers: u64,
-    ghost since: { IsSince N.lock N.start pass },
+    ghost since: { IsSince N.lock N.start pool.pass },
+    ghost kept: { All (IsSince N.lock N.start) pool.kept.items } by { Prim.hlevel props },
+    ghost spare: { 2 ≤ vec_capacity pool.kept },
 }
 
 impl<
     P: Port + Drop + Send + 'static,
-    D: Disk + Drop + Send + Sync + 'static,
-    C: Clock + Drop + Send + Sync + 'static,
-    W: Words + Drop + Send + Sync + 'static,
-    G: Gate + Drop + Send + Sync + 'static,
+    T: SessionTypes + Send + Sync + 'static,
     N: Naming + Send + Sync + 'static,
-    R: Wait + Drop + Copy + Send + Sync + 'static,
-> Caller<P, D, C, W, G, N, R>
+> Caller<P, T, N>
 where
     P::In: Send + 'static,
     P::Out: Send + 'static,
+    T::Disk: Send + Sync + 'static,
+    T::Clock: Send + Sync + 'static,
+    T::Words: Send + Sync + 'static,
+    T::Gate: Send + Sync + 'static,
+    T::Runtime: Copy + Send + Sync + 'static,
 {
     /// A caller that has started nothing yet.
     pub fn new(
-        shared: Arc<Shared<P, D, C, W, G, N, R>, Global>,
-        pass: Pass<Locked<D, C, W>>,
-    ) -> Caller<P, D, C, W, G, N, R>
+        shared: Arc<Shared<P, T, N>, Global>,
+        pass: PassOf<T>,
+    ) -> Result<Caller<P, T, N>, AllocError>
         requires { IsSince N.lock N.start pass }
-        ensures { room_of result.pass ≡ room_of pass }
+        ensures { IfOk result (λ c. room_of c.pool.pass ≡ room_of pass) }
     {
-        let kept = Vec::new(shared.alloc);
-        Caller {
+        let kept = Vec::with_capacity(shared.serving.alloc, 2)?;
+        Ok(Caller {
             shared,
-            pass,
-            kept,
+            pool: PassPool { pass, kept },
             ended: Ports::none(),
             greetings: 0,
             sessions: 0,
             workers: 0,
-        }
+        })
     }
 
     /// Keeps the pass of a session that ended, to be used again.
-    fn keep(&mut self, pass: NamedPass<Locked<D, C, W>, N>) -> Result<(), Stop<P>>
+    fn keep(&mut self, pass: NamedPass<LockedOf<T>, N>) -> Result<(), Stop<P>>
         ensures { (before : ℕ) (now : ℕ) (seen : Content) → IfErr result (λ stop. StopCause P.faults N.start seen before now stop) }
     {
         self.sessions = self.sessions.saturating_sub(1);
-        match self.kept.push(pass) {
+        let NamedPass { pass, of: _ } = pass;
+        match self.pool.kept.push(pass) {
             Ok(()) => Ok(()),
             Err(_) => Err(Stop::OutOfMemory),
         }
     }
 
     /// Takes in the pass of a worker that ended.
-    fn end_worker(&mut self, ended: NamedPass<Locked<D, C, W>, N>) {
+    fn end_worker(&mut self, ended: NamedPass<LockedOf<T>, N>) {
         self.workers = self.workers.saturating_sub(1);
         let NamedPass { pass, of: _ } = ended;
-        self.shared.join(&mut self.pass, pass);
+        self.shared.join(&mut self.pool.pass, pass);
     }
 
     /// Takes in the pass of a job that met what ends the controller.
-    fn halt(&mut self, halted: Halted<Locked<D, C, W>, N>) -> Halt
-        ensures { HaltCause result N.start (known self.new.pass).seen }
+    fn halt(&mut self, halted: Halted<LockedOf<T>, N>) -> Halt
+        ensures { HaltCause result N.start (known self.new.pool.pass).seen }
     {
         let Halted { halt, pass, of: _ } = halted;
-        self.shared.join(&mut self.pass, pass);
+        self.shared.join(&mut self.pool.pass, pass);
         halt
     }
 
@@ -116,10 +116,10 @@ where
         &mut self,
         spawner: &mut Spawner<H>,
         chooser: &Chooser,
-        handed: Handed<P, Locked<D, C, W>, N>,
+        handed: Handed<P, LockedOf<T>, N>,
     ) -> Result<(), Stop<P>>
         ensures ok { OnOk result (spawner.new.faults ≡ spawner.old.faults) }
-        ensures cause { IfErr result (λ stop. StopCause P.faults N.start (known self.new.pass).seen spawner.old.faults spawner.new.faults stop) }
+        ensures cause { IfErr result (λ stop. StopCause P.faults N.start (known self.new.pool.pass).seen spawner.old.faults spawner.new.faults stop) }
     {
         match handed {
             Handed::Accepted(link) => self.start_greeting(spawner, link),
@@ -162,9 +162,9 @@ where
         chooser: &Chooser,
     ) -> Result<(), Stop<P>>
         ensures ok { OnOk result (AreAll self.new.ended) }
-        ensures cause { IfErr result (λ stop. StopCause P.faults N.start (known self.new.pass).seen spawner.old.faults spawner.new.faults stop) }
+        ensures cause { IfErr result (λ stop. StopCause P.faults N.start (known self.new.pool.pass).seen spawner.old.faults spawner.new.faults stop) }
     {
-        let rt = self.shared.rt;
+        let rt = self.shared.serving.rt;
         for _ in rt.forever() {
             if self.has_no_links() {
                 if self.workers == 0 {
@@ -187,9 +187,9 @@ where
         chooser: &Chooser,
         ports: Ports<P>,
     ) -> Result<(), Stop<P>>
-        requires { 3 ≤ room_of self.old.pass }
+        requires { 3 ≤ room_of self.old.pool.pass }
         ensures ok { OnOk result (AreAll self.new.ended) }
-        ensures cause { IfErr result (λ stop. StopCause P.faults N.start (known self.new.pass).seen spawner.old.faults spawner.new.faults stop) }
+        ensures cause { IfErr result (λ stop. StopCause P.faults N.start (known self.new.pool.pass).seen spawner.old.faults spawner.new.faults stop) }
     {
         match self.start(spawner, ports) {
             Ok(()) => self.serve_links(spawner, chooser),
@@ -198,16 +198,17 @@ where
     }
 
     /// The end where all links have ended.
-    pub fn ended(self) -> ServeEnd<P, Locked<D, C, W>>
+    pub fn ended(self) -> ServeEnd<P, LockedOf<T>>
         requires { AreAll self.ended }
         ensures { (before : ℕ) (now : ℕ) → EndCause N.lock N.start P.links P.faults before now result }
     {
         let Caller {
             shared,
-            mut pass,
+            pool,
             ended,
             ..
         } = self;
+        let PassPool { mut pass, .. } = pool;
         shared.flush_last(&mut pass);
         ServeEnd::Ended {
             ports: ended.into_ports(),
@@ -223,16 +224,13 @@ where
     }
 
     /// The end where the desk halts the controller.
-    fn halted(self, halt: Halt) -> ServeEnd<P, Locked<D, C, W>>
-        requires { HaltCause halt N.start (known self.pass).seen }
+    fn halted(self, halt: Halt) -> ServeEnd<P, LockedOf<T>>
+        requires { HaltCause halt N.start (known self.pool.pass).seen }
         ensures { (before : ℕ) (now : ℕ) → EndCause N.lock N.start P.links P.faults before now result }
     {
         self.let_writers_write(halt);
-        let Caller {
-            shared,
-            mut pass,
-            ..
-        } = self;
+        let Caller { shared, pool, .. } = self;
+        let PassPool { mut pass, .. } = pool;
         shared.flush_last(&mut pass);
         match halt {
             Halt::Stopping => ServeEnd::Stopped(pass),
@@ -246,9 +244,9 @@ where
     }
 
     /// The end where it stops before. The workers end, and nobody waits for them.
-    pub fn stopped(self, stop: Stop<P>) -> ServeEnd<P, Locked<D, C, W>>
-        requires { (halt : HaltType) → stop ≡ Stop.Halted halt → HaltCause halt N.start (known self.pass).seen }
-        ensures { (before : ℕ) (now : ℕ) → StopCause P.faults N.start (known self.pass).seen before now stop → EndCause N.lock N.start P.links P.faults before now result }
+    pub fn stopped(self, stop: Stop<P>) -> ServeEnd<P, LockedOf<T>>
+        requires { (halt : HaltType) → stop ≡ Stop.Halted halt → HaltCause halt N.start (known self.pool.pass).seen }
+        ensures { (before : ℕ) (now : ℕ) → StopCause P.faults N.start (known self.pool.pass).seen before now stop → EndCause N.lock N.start P.links P.faults before now result }
     {
         self.shared.end_workers();
         match stop {

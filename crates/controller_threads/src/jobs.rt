@@ -5,10 +5,9 @@ ghost use Rattle.history_lock.specs.Names.{room_of};
 ghost use Rattle.controller_workers.specs.Halts.{StopsAtStart};
 
 use crate::caller::Caller;
-use crate::opening::SessionPasses;
-use crate::sessions::{Reading, Writing};
+use crate::opening::Admission;
+use crate::sessions::{ReadingSession, WritingSession};
 use cluster_types::config::Channel;
-use controller_desk::locked::Locked;
 use controller_workers::accepting::Accepting;
 use controller_workers::greeting::Greeting;
 use controller_workers::handed::{Link, ShortGreeted};
@@ -19,30 +18,28 @@ use controller_workers::ports::Ports;
 use controller_workers::starting::{start, start_choosing};
 use controller_workers::stop::Stop;
 use controller_workers::workers::{Flushing, Recurring, Rhythm};
-use disk_model::disk::Disk;
 use session_threads::connection::Connection;
+use session_threads::context::{LockedOf, SessionTypes};
 use std::sync::{Arc, Wait};
 use std::thread::Threads;
-use thread_edges::clock::Clock;
-use thread_edges::gate::Gate;
 use thread_edges::spawner::Spawner;
-use thread_edges::words::Words;
 
 /// How many workers there are: for beats, for time and for flushes.
 const WORKERS: u64 = 3;
 
 impl<
     P: Port + Drop + Send + 'static,
-    D: Disk + Drop + Send + Sync + 'static,
-    C: Clock + Drop + Send + Sync + 'static,
-    W: Words + Drop + Send + Sync + 'static,
-    G: Gate + Drop + Send + Sync + 'static,
+    T: SessionTypes + Send + Sync + 'static,
     N: Naming + Send + Sync + 'static,
-    R: Wait + Drop + Copy + Send + Sync + 'static,
-> Caller<P, D, C, W, G, N, R>
+> Caller<P, T, N>
 where
     P::In: Send + 'static,
     P::Out: Send + 'static,
+    T::Disk: Send + Sync + 'static,
+    T::Clock: Send + Sync + 'static,
+    T::Words: Send + Sync + 'static,
+    T::Gate: Send + Sync + 'static,
+    T::Runtime: Copy + Send + Sync + 'static,
 {
     fn start_acceptor<H: Threads + Drop>(
         &self,
@@ -87,7 +84,7 @@ where
         &self,
         spawner: &mut Spawner<H>,
         rhythm: Rhythm,
-        pass: NamedPass<Locked<D, C, W>, N>,
+        pass: NamedPass<LockedOf<T>, N>,
     ) -> Result<(), Stop<P>>
         ensures ok { OnOk result (spawner.new.faults ≡ spawner.old.faults) }
         ensures err { IfErr result (λ stop. StopsAtStart spawner.old.faults spawner.new.faults stop) }
@@ -98,13 +95,13 @@ where
             rhythm,
             pass,
         };
-        start_choosing(self.shared.alloc, spawner, worker)
+        start_choosing(self.shared.serving.alloc, spawner, worker)
     }
 
     fn start_flushing<H: Threads + Drop>(
         &self,
         spawner: &mut Spawner<H>,
-        pass: NamedPass<Locked<D, C, W>, N>,
+        pass: NamedPass<LockedOf<T>, N>,
     ) -> Result<(), Stop<P>>
         ensures ok { OnOk result (spawner.new.faults ≡ spawner.old.faults) }
         ensures err { IfErr result (λ stop. StopsAtStart spawner.old.faults spawner.new.faults stop) }
@@ -114,11 +111,11 @@ where
     }
 
     /// A pass for a worker.
-    fn worker_pass(&mut self) -> NamedPass<Locked<D, C, W>, N>
-        requires { 0 < room_of self.old.pass }
-        ensures { room_of self.new.pass + 1 ≡ room_of self.old.pass }
+    fn worker_pass(&mut self) -> NamedPass<LockedOf<T>, N>
+        requires { 0 < room_of self.old.pool.pass }
+        ensures { room_of self.new.pool.pass + 1 ≡ room_of self.old.pool.pass }
     {
-        match self.shared.split(&mut self.pass) {
+        match self.shared.split(&mut self.pool.pass) {
             Some(pass) => pass,
             None => unreachable!(),
         }
@@ -126,7 +123,7 @@ where
 
     /// Starts the workers, each with a pass.
     fn start_workers<H: Threads + Drop>(&mut self, spawner: &mut Spawner<H>) -> Result<(), Stop<P>>
-        requires { 3 ≤ room_of self.old.pass }
+        requires { 3 ≤ room_of self.old.pool.pass }
         ensures ok { OnOk result (spawner.new.faults ≡ spawner.old.faults) }
         ensures err { IfErr result (λ stop. StopsAtStart spawner.old.faults spawner.new.faults stop) }
     {
@@ -146,7 +143,7 @@ where
         spawner: &mut Spawner<H>,
         ports: Ports<P>,
     ) -> Result<(), Stop<P>>
-        requires { 3 ≤ room_of self.old.pass }
+        requires { 3 ≤ room_of self.old.pool.pass }
         ensures ok { OnOk result (spawner.new.faults ≡ spawner.old.faults) }
         ensures err { IfErr result (λ stop. StopsAtStart spawner.old.faults spawner.new.faults stop) }
     {
@@ -176,20 +173,20 @@ where
         reader: P::In,
         greeted: ShortGreeted,
         connection: Connection,
-        pass: NamedPass<Locked<D, C, W>, N>,
+        pass: NamedPass<LockedOf<T>, N>,
     ) -> Result<(), Stop<P>>
         ensures ok { OnOk result (spawner.new.faults ≡ spawner.old.faults) }
         ensures err { IfErr result (λ stop. StopsAtStart spawner.old.faults spawner.new.faults stop) }
     {
         let shared = Arc::try_clone(&self.shared)?;
-        let session = Reading {
+        let session = ReadingSession {
             shared,
             reader,
             greeted,
             connection,
             pass,
         };
-        start_choosing(self.shared.alloc, spawner, session)?;
+        start_choosing(self.shared.serving.alloc, spawner, session)?;
         self.sessions = self.sessions.saturating_add(1);
         Ok(())
     }
@@ -200,13 +197,13 @@ where
         spawner: &mut Spawner<H>,
         writer: P::Out,
         conn: u32,
-        pass: NamedPass<Locked<D, C, W>, N>,
+        pass: NamedPass<LockedOf<T>, N>,
     ) -> Result<(), Stop<P>>
         ensures ok { OnOk result (spawner.new.faults ≡ spawner.old.faults) }
         ensures err { IfErr result (λ stop. StopsAtStart spawner.old.faults spawner.new.faults stop) }
     {
         let shared = Arc::try_clone(&self.shared)?;
-        let session = Writing {
+        let session = WritingSession {
             shared,
             writer,
             conn,
@@ -221,7 +218,7 @@ where
     fn note_writer(&self, conn: u32) -> Result<(), Stop<P>>
         ensures { (before : ℕ) (now : ℕ) → IfErr result (λ stop. StopsAtStart before now stop) }
     {
-        match self.shared.writers.add(&self.shared.rt, conn) {
+        match self.shared.writers.add(&self.shared.serving.rt, conn) {
             Ok(()) => Ok(()),
             Err(_) => Err(Stop::OutOfMemory),
         }
@@ -233,8 +230,7 @@ where
         spawner: &mut Spawner<H>,
         link: Link<P::In, P::Out>,
         greeted: ShortGreeted,
-        number: u32,
-        passes: SessionPasses<Locked<D, C, W>, N>,
+        admission: Admission<LockedOf<T>, N>,
     ) -> Result<(), Stop<P>>
         ensures ok { OnOk result (spawner.new.faults ≡ spawner.old.faults) }
         ensures err { IfErr result (λ stop. StopsAtStart spawner.old.faults spawner.new.faults stop) }
@@ -244,7 +240,11 @@ where
             reader,
             writer,
         } = link;
-        let SessionPasses { reading, writing } = passes;
+        let Admission {
+            number,
+            reading,
+            writing,
+        } = admission;
         let connection = Connection { number, channel };
         self.start_reading(spawner, reader, greeted, connection, reading)?;
         self.note_writer(number)?;

@@ -1,39 +1,72 @@
 //! Links whose handshake is done.
 
-ghost use Rattle.std.specs.Prelude.{◌≡◌, ℕ, IfErr, OnOk};
+ghost use Rattle.std.specs.Prelude.{◌≡◌, ◌≤◌, ℕ, All, Err, IfErr, OnOk};
+ghost use Rattle.std.specs.Vec.{vec_capacity};
 ghost use Rattle.history_lock.specs.Names.{known};
 ghost use Rattle.zmtp_peer.specs.Limits.{IsShortIdentity};
-ghost use Rattle.controller_workers.specs.Halts.{StopCause};
-ghost use Rattle.controller_threads.specs.Ends.{AdmitCause};
+ghost use Rattle.controller_desk.specs.declared.fault.ActError.{ActError as Refusal};
+ghost use Rattle.controller_workers.specs.Halts.{StopCause, RefusalCause};
+ghost use Rattle.controller_workers.specs.Passes.{IsSince};
 
 use crate::caller::Caller;
 use cluster_types::config::Channel;
 use controller_desk::fault::ActError;
-use controller_desk::locked::Locked;
 use controller_workers::halt::Halt;
 use controller_workers::handed::{Link, ShortGreeted};
 use controller_workers::naming::Naming;
 use controller_workers::passes::NamedPass;
 use controller_workers::port::Port;
+use controller_workers::shared::Shared;
 use controller_workers::stop::Stop;
-use disk_model::disk::Disk;
 use edges::sink::{Sink, write_all};
 use load_schemes::chooser::Chooser;
-use session_threads::admission::AdmitEnd;
+use session_threads::admission::{AdmitEnd, Admitted, PassPool, SessionPasses, admit};
+use session_threads::context::{LockedOf, SessionTypes};
 use std::alloc::Global;
-use std::sync::Wait;
 use std::thread::Threads;
-use thread_edges::clock::Clock;
-use thread_edges::gate::Gate;
+use thread_edges::gate::{Gate, Point};
 use thread_edges::spawner::Spawner;
-use thread_edges::words::Words;
 use zmtp_peer::writing::error_octets;
 
-/// The passes of the two sessions of a link.
+/// A link that was admitted: the number of its connection, and the passes of its two sessions.
 #[derive(Drop)]
-pub struct SessionPasses<T, N: Naming> {
+pub struct Admission<T, N: Naming> {
+    pub number: u32,
     pub reading: NamedPass<T, N>,
     pub writing: NamedPass<T, N>,
+}
+
+/// Admits a link by a pool whose passes have seen what was seen at the start, and wakes who flushes.
+fn admit_link<P: Port + Drop, T: SessionTypes, N: Naming>(
+    shared: &Shared<P, T, N>,
+    chooser: &Chooser,
+    pool: &mut PassPool<LockedOf<T>>,
+    channel: Channel,
+    identity: &[u8],
+) -> Result<Admission<LockedOf<T>, N>, AdmitEnd>
+    requires since { IsSince N.lock N.start pool.old.pass }
+    requires kept { All (IsSince N.lock N.start) pool.old.kept.items }
+    requires spare { 2 ≤ vec_capacity pool.old.kept }
+    requires identity { IsShortIdentity identity.now }
+    ensures since { IsSince N.lock N.start pool.new.pass }
+    ensures kept { All (IsSince N.lock N.start) pool.new.kept.items }
+    ensures spare { 2 ≤ vec_capacity pool.new.kept }
+    ensures cause { (e : Refusal) → result ≡ Err (AdmitEnd.Act e) → RefusalCause e N.start (known pool.new.pass).seen }
+{
+    let context = shared.context();
+    let admitted = admit(&context, chooser, pool, channel, identity);
+    shared.serving.gate.wake(Point::Flush, 0);
+    match admitted {
+        Ok(Admitted { conn, passes }) => {
+            let SessionPasses { reading, writing } = passes;
+            Ok(Admission {
+                number: conn,
+                reading: NamedPass::new(reading),
+                writing: NamedPass::new(writing),
+            })
+        }
+        Err(end) => Err(end),
+    }
 }
 
 /// Tells the other side of a link that there is no room for it, where memory and link let it.
@@ -45,73 +78,27 @@ fn tell_busy<K: Sink>(alloc: Global, writer: &mut K) {
 
 impl<
     P: Port + Drop + Send + 'static,
-    D: Disk + Drop + Send + Sync + 'static,
-    C: Clock + Drop + Send + Sync + 'static,
-    W: Words + Drop + Send + Sync + 'static,
-    G: Gate + Drop + Send + Sync + 'static,
+    T: SessionTypes + Send + Sync + 'static,
     N: Naming + Send + Sync + 'static,
-    R: Wait + Drop + Copy + Send + Sync + 'static,
-> Caller<P, D, C, W, G, N, R>
+> Caller<P, T, N>
 where
     P::In: Send + 'static,
     P::Out: Send + 'static,
+    T::Disk: Send + Sync + 'static,
+    T::Clock: Send + Sync + 'static,
+    T::Words: Send + Sync + 'static,
+    T::Gate: Send + Sync + 'static,
+    T::Runtime: Copy + Send + Sync + 'static,
 {
-    /// A pass for a session: the last one that is kept, or else one of the caller's own.
-    fn session_pass(&mut self) -> Option<NamedPass<Locked<D, C, W>, N>> {
-        match self.kept.pop() {
-            Some(pass) => Some(pass),
-            None => self.shared.split(&mut self.pass),
-        }
-    }
-
-    /// Passes for the two sessions of a link.
-    fn session_passes(&mut self) -> Option<SessionPasses<Locked<D, C, W>, N>> {
-        let reading = self.session_pass()?;
-        match self.session_pass() {
-            Some(writing) => Some(SessionPasses { reading, writing }),
-            None => {
-                let _ = self.kept.push(reading);
-                None
-            }
-        }
-    }
-
-    /// Brings the connection of a link up, and takes passes for its sessions.
-    fn admit(
-        &mut self,
-        chooser: &Chooser,
-        channel: Channel,
-        identity: &[u8],
-    ) -> Result<(u32, SessionPasses<Locked<D, C, W>, N>), AdmitEnd>
-        requires { IsShortIdentity identity.now }
-        ensures { IfErr result (λ end. AdmitCause end N.start (known self.new.pass).seen) }
-    {
-        let Some(passes) = self.session_passes() else {
-            return Err(AdmitEnd::NoPass);
-        };
-        match self
-            .shared
-            .open_conn(&mut self.pass, chooser, channel, identity)
-        {
-            Ok(conn) => Ok((conn, passes)),
-            Err(error) => {
-                let SessionPasses { reading, writing } = passes;
-                let _ = self.kept.push(reading);
-                let _ = self.kept.push(writing);
-                Err(AdmitEnd::Act(error))
-            }
-        }
-    }
-
     /// Refuses a link: where the history is full the controller is halted.
     fn refuse(&self, end: AdmitEnd, link: Link<P::In, P::Out>) -> Result<(), Stop<P>>
-        requires { AdmitCause end N.start (known self.now.pass).seen }
-        ensures { (before : ℕ) (now : ℕ) → IfErr result (λ stop. StopCause P.faults N.start (known self.now.pass).seen before now stop) }
+        requires { (e : Refusal) → end ≡ AdmitEnd.Act e → RefusalCause e N.start (known self.now.pool.pass).seen }
+        ensures { (before : ℕ) (now : ℕ) → IfErr result (λ stop. StopCause P.faults N.start (known self.now.pool.pass).seen before now stop) }
     {
         let Link { mut writer, .. } = link;
         match end {
             AdmitEnd::NoPass | AdmitEnd::Act(ActError::TooManyConnections) => {
-                tell_busy(self.shared.alloc, &mut writer);
+                tell_busy(self.shared.serving.alloc, &mut writer);
                 Ok(())
             }
             AdmitEnd::Act(ActError::HistoryFull { entries, bytes }) => {
@@ -130,10 +117,18 @@ where
         greeted: ShortGreeted,
     ) -> Result<(), Stop<P>>
         ensures ok { OnOk result (spawner.new.faults ≡ spawner.old.faults) }
-        ensures cause { IfErr result (λ stop. StopCause P.faults N.start (known self.new.pass).seen spawner.old.faults spawner.new.faults stop) }
+        ensures cause { IfErr result (λ stop. StopCause P.faults N.start (known self.new.pool.pass).seen spawner.old.faults spawner.new.faults stop) }
     {
-        match self.admit(chooser, link.channel, greeted.greeted.identity.as_slice()) {
-            Ok((number, passes)) => { self.start_sessions(spawner, link, greeted, number, passes) }
+        let identity = greeted.greeted.identity.as_slice();
+        let admitted = admit_link(
+            &*self.shared,
+            chooser,
+            &mut self.pool,
+            link.channel,
+            identity,
+        );
+        match admitted {
+            Ok(admission) => self.start_sessions(spawner, link, greeted, admission),
             Err(end) => self.refuse(end, link),
         }
     }

@@ -8,59 +8,50 @@ ghost use Rattle.controller_workers.specs.Passes.{IsSince};
 
 use crate::caller::Caller;
 use crate::end::ServeEnd;
-use controller_desk::desk::Desk;
-use controller_desk::locked::Locked;
 use controller_workers::naming::Naming;
 use controller_workers::port::Port;
 use controller_workers::ports::Ports;
-use controller_workers::shared::new_shared;
-use disk_model::disk::Disk;
-use history_lock::lock::Pass;
-use hmac_sign::Key;
+use controller_workers::shared::{Serving, new_shared};
 use load_schemes::chooser::Chooser;
-use std::alloc::Global;
+use session_threads::context::{LockedOf, PassOf, SessionTypes};
 use std::marker::Brand;
-use std::sync::{Arc, Wait};
 use std::thread::Threads;
-use thread_edges::clock::Clock;
-use thread_edges::gate::Gate;
 use thread_edges::links::Listener;
 use thread_edges::spawner::Spawner;
-use thread_edges::words::Words;
 
 /// Serves, with a name for the lock of the desk and for what the pass has seen.
 fn serve_named<
     P: Port + Drop + Send + 'static,
-    D: Disk + Drop + Send + Sync + 'static,
-    C: Clock + Drop + Send + Sync + 'static,
-    W: Words + Drop + Send + Sync + 'static,
-    G: Gate + Drop + Send + Sync + 'static,
+    T: SessionTypes + Send + Sync + 'static,
     N: Naming + Send + Sync + 'static,
-    R: Wait + Drop + Copy + Send + Sync + 'static,
     H: Threads + Drop,
 >(
-    rt: R,
-    alloc: Global,
+    serving: Serving<T>,
     ports: Ports<P>,
-    desk: Arc<Desk<D, C, W>, Global>,
-    pass: Pass<Locked<D, C, W>>,
+    pass: PassOf<T>,
     chooser: &Chooser,
-    key: Key,
     spawner: &mut Spawner<H>,
-    gate: Arc<G, Global>,
-) -> ServeEnd<P, Locked<D, C, W>>
+) -> ServeEnd<P, LockedOf<T>>
 where
     P::In: Send + 'static,
     P::Out: Send + 'static,
-    requires named { lock_id (arc_value desk).lock ≡ N.lock }
+    T::Disk: Send + Sync + 'static,
+    T::Clock: Send + Sync + 'static,
+    T::Words: Send + Sync + 'static,
+    T::Gate: Send + Sync + 'static,
+    T::Runtime: Copy + Send + Sync + 'static,
+    requires named { lock_id (arc_value serving.desk).lock ≡ N.lock }
     requires since { IsSince N.lock N.start pass }
     requires room { 3 ≤ room_of pass }
     ensures { EndCause N.lock N.start P.links P.faults spawner.old.faults spawner.new.faults result }
 {
-    let Ok(shared) = new_shared::<P, D, C, W, G, N, R>(rt, alloc, desk, key, gate) else {
+    let rt = serving.rt;
+    let Ok(shared) = new_shared::<P, T, N>(serving) else {
         return ServeEnd::OutOfMemory;
     };
-    let mut caller = Caller::new(shared, pass);
+    let Ok(mut caller) = Caller::new(shared, pass) else {
+        return ServeEnd::OutOfMemory;
+    };
     match caller.serve(spawner, chooser, ports) {
         Ok(()) => {
             spawner.join_all(&rt);
@@ -78,28 +69,24 @@ where
 /// each link that is served beside others; links beyond that are told `busy`.
 pub fn serve<
     L: Listener + Drop + Send + 'static,
-    D: Disk + Drop + Send + Sync + 'static,
-    C: Clock + Drop + Send + Sync + 'static,
-    W: Words + Drop + Send + Sync + 'static,
-    G: Gate + Drop + Send + Sync + 'static,
-    R: Wait + Drop + Copy + Send + Sync + 'static,
+    T: SessionTypes + Send + Sync + 'static,
     H: Threads + Drop,
 >(
-    rt: R,
-    alloc: Global,
+    serving: Serving<T>,
     ports: Ports<L>,
-    desk: Arc<Desk<D, C, W>, Global>,
-    pass: Pass<Locked<D, C, W>>,
+    pass: PassOf<T>,
     chooser: &Chooser,
-    key: Key,
     spawner: &mut Spawner<H>,
-    gate: Arc<G, Global>,
-) -> ServeEnd<L, Locked<D, C, W>>
-    requires idle { IsIdle (lock_id (arc_value desk).lock) pass }
+) -> ServeEnd<L, LockedOf<T>>
+where
+    T::Disk: Send + Sync + 'static,
+    T::Clock: Send + Sync + 'static,
+    T::Words: Send + Sync + 'static,
+    T::Gate: Send + Sync + 'static,
+    T::Runtime: Copy + Send + Sync + 'static,
+    requires idle { IsIdle (lock_id (arc_value serving.desk).lock) pass }
     requires room { 3 ≤ room_of pass }
-    ensures { EndCause (lock_id (arc_value desk).lock) (known pass).seen L.links L.faults spawner.old.faults spawner.new.faults result }
+    ensures { EndCause (lock_id (arc_value serving.desk).lock) (known pass).seen L.links L.faults spawner.old.faults spawner.new.faults result }
 {
-    serve_named::<L, D, C, W, G, Brand, R, H>(
-        rt, alloc, ports, desk, pass, chooser, key, spawner, gate,
-    )
+    serve_named::<L, T, Brand, H>(serving, ports, pass, chooser, spawner)
 }

@@ -28,53 +28,35 @@ use Rattle.controller_workers.specs.declared.halt.Halt.{Halt}
 use Rattle.controller_workers.specs.declared.halt.Halt.TheVariants as halts
 use Rattle.controller_workers.specs.declared.stop.Stop.{Stop}
 use Rattle.controller_workers.specs.Halts.{has_risen, HaltCause, RefusalCause, StopCause, StopsAtStart}
+use Rattle.std.proofs.lemmas.Bool.{or_right, and_from}
+use Rattle.cluster_types.proofs.Booleans.{or_off_left, or_off_right, and_left}
 
 -- A SHUTDOWN STAYS ASKED
 
-either_is : (a b : Bool) → b ≡ true → (a || b) ≡ true
-either_is true b is = refl
-either_is false b is = is
-
-first_is : (a b : Bool) → (a || b) ≡ false → a ≡ false
-first_is true b is = cc
-first_is false b is = refl
-
-second_is : (a b : Bool) → (a || b) ≡ false → b ≡ false
-second_is true b is = cc
-second_is false b is = is
-
 entry_keeps : (e : Entry) (older : History) → is_open_entry e ≡ false → is_stopping older ≡ true → is_stopping (e ∷ older) ≡ true
 entry_keeps (Input (Open moment scheme hwm misses)) older off is = cc
-entry_keeps (Input (Up conn channel moment word identity)) older off is = either_is (asks_shutdown (event_in (facts older) (Input (Up conn channel moment word identity)))) (is_stopping older) is
-entry_keeps (Input (Down conn moment word)) older off is = either_is (asks_shutdown (event_in (facts older) (Input (Down conn moment word)))) (is_stopping older) is
-entry_keeps (Input (In conn moment word m)) older off is = either_is (asks_shutdown (event_in (facts older) (Input (In conn moment word m)))) (is_stopping older) is
-entry_keeps (Input (Beat moment word)) older off is = either_is (asks_shutdown (event_in (facts older) (Input (Beat moment word)))) (is_stopping older) is
-entry_keeps (Input (Time moment word)) older off is = either_is (asks_shutdown (event_in (facts older) (Input (Time moment word)))) (is_stopping older) is
-entry_keeps (Hand id n) older off is = either_is (asks_shutdown (event_in (facts older) (Hand id n))) (is_stopping older) is
-entry_keeps (Settle id v c) older off is = either_is (asks_shutdown (event_in (facts older) (Settle id v c))) (is_stopping older) is
-entry_keeps (Lose n) older off is = either_is (asks_shutdown (event_in (facts older) (Lose n))) (is_stopping older) is
+entry_keeps (Input (Up conn channel moment word identity)) older off is = or_right (asks_shutdown (event_in (facts older) (Input (Up conn channel moment word identity)))) (is_stopping older) is
+entry_keeps (Input (Down conn moment word)) older off is = or_right (asks_shutdown (event_in (facts older) (Input (Down conn moment word)))) (is_stopping older) is
+entry_keeps (Input (In conn moment word m)) older off is = or_right (asks_shutdown (event_in (facts older) (Input (In conn moment word m)))) (is_stopping older) is
+entry_keeps (Input (Beat moment word)) older off is = or_right (asks_shutdown (event_in (facts older) (Input (Beat moment word)))) (is_stopping older) is
+entry_keeps (Input (Time moment word)) older off is = or_right (asks_shutdown (event_in (facts older) (Input (Time moment word)))) (is_stopping older) is
+entry_keeps (Hand id n) older off is = or_right (asks_shutdown (event_in (facts older) (Hand id n))) (is_stopping older) is
+entry_keeps (Settle id v c) older off is = or_right (asks_shutdown (event_in (facts older) (Settle id v c))) (is_stopping older) is
+entry_keeps (Lose n) older off is = or_right (asks_shutdown (event_in (facts older) (Lose n))) (is_stopping older) is
 
 entries_keep : (es old : History) → list_any is_open_entry es ≡ false → is_stopping old ≡ true → is_stopping (es ++ old) ≡ true
 entries_keep [] old off is = is
 entries_keep (e ∷ es) old off is =
-    entry_keeps e (es ++ old) (first_is (is_open_entry e) (list_any is_open_entry es) off) (entries_keep es old (second_is (is_open_entry e) (list_any is_open_entry es) off) is)
+    entry_keeps e (es ++ old) (or_off_left (is_open_entry e) (list_any is_open_entry es) off) (entries_keep es old (or_off_right (is_open_entry e) (list_any is_open_entry es) off) is)
 
 pub still_stopping : (a b : Content) → Extends a b → is_stopping a.list ≡ true → is_stopping b.list ≡ true
 still_stopping a b on is = subst (λ (h : History). is_stopping h ≡ true) (sym on.list) (entries_keep on.beyond a.list on.no_open is)
 
 -- CAUSES LAST
 
-and_left : (a b : Bool) → (a && b) ≡ true → a ≡ true
-and_left true b is = refl
-and_left false b is = cc
-
 and_right : (a b : Bool) → (a && b) ≡ true → b ≡ true
 and_right true b is = is
 and_right false b is = cc
-
-and_both : (a b : Bool) → a ≡ true → b ≡ true → (a && b) ≡ true
-and_both true b p q = q
-and_both false b p q = cc
 
 risen_later : (a b c : ℕ) → has_risen a b ≡ true → b ≤ c → has_risen a c ≡ true
 risen_later a b c risen more = grind (arith, nat_tests)
@@ -86,7 +68,7 @@ pub halt_later : (halt : Halt) (start a b : Content) → HaltCause halt start a 
 halt_later halts.Stopping start a b cause on = still_stopping a b on cause
 halt_later halts.DiskFault start a b cause on = risen_later (faults_seen start) (faults_seen a) (faults_seen b) cause (on.counts 0)
 halt_later (halts.HistoryFull entries bytes) start a b cause on =
-    and_both _ _ (risen_later (fulls_seen start) (fulls_seen a) (fulls_seen b) (and_left _ _ cause) (on.counts 2)) (and_right (has_risen (fulls_seen start) (fulls_seen a)) _ cause)
+    and_from _ _ (risen_later (fulls_seen start) (fulls_seen a) (fulls_seen b) (and_left _ _ cause) (on.counts 2)) (and_right (has_risen (fulls_seen start) (fulls_seen a)) _ cause)
 
 pub halts_later : (halt : Option Halt) (start a b : Content) → IfSome halt (λ h. HaltCause h start a) → Extends a b → IfSome halt (λ h. HaltCause h start b)
 halts_later None start a b cause on = tt
@@ -97,7 +79,7 @@ halts_later (Some halt) start a b cause on = halt_later halt start a b cause on
 pub full_halt : (entries bytes : ℕ) (start : Content) (u w : View) → Extends start u.seen → Rose (fulls_seen u.seen) (fulls_seen w.seen) × (is_past (limits_seen u.seen) (record { entries = entries; bytes = bytes }) ≡ true) →
     HaltCause (halts.HistoryFull entries bytes) start w.seen
 full_halt entries bytes start u w on cause =
-    and_both _ _ (risen_since (fulls_seen start) (fulls_seen u.seen) (fulls_seen w.seen) (fulls_seen w.seen) (on.counts 2) cause.0 (le_refl _))
+    and_from _ _ (risen_since (fulls_seen start) (fulls_seen u.seen) (fulls_seen w.seen) (fulls_seen w.seen) (on.counts 2) cause.0 (le_refl _))
     (past_lower (limits_seen start) (limits_seen u.seen) (record { entries = entries; bytes = bytes }) (on.counts 4) (on.counts 5) cause.1)
 
 pub refusal_cause : {D : Type 0} (faults : D → ℕ) (start : Content) (u w : View) (before after : StoreView D) (input : InputType) (e : ActError) → Extends start u.seen → InTurn faults u before after w → IsRefusedAs before input e after → RefusalCause e start w.seen

@@ -3,6 +3,9 @@ use Rattle.std.proofs.Common.{◌≡◌, ℕ, ◌-◌, List, [], ◌∷◌, ◌+
 use Rattle.std.specs.List.{list_any}
 use Rattle.cluster_types.specs.declared.entry.Entry.{Entry}
 use Rattle.controller_desk.specs.declared.desk.Desk.{Desk}
+use Rattle.disk_model.specs.declared.disk.Disk.{Ghosts as OfDisk}
+use Rattle.thread_edges.specs.declared.clock.Clock.{Ghosts as OfClock}
+use Rattle.thread_edges.specs.declared.words.Words.{Ghosts as OfWords}
 use Rattle.controller_desk.specs.Turns.{beyond}
 use Rattle.history_lock.specs.declared.known.Content.{Content}
 use Rattle.history_lock.specs.declared.lock.Pass.{Pass}
@@ -38,8 +41,8 @@ extends_of a b on = record { beyond = beyond a.list b.list; list = on.0; no_open
 -- PASSES
 
 -- the lock of a desk that is lent
-pub named : {D C W : Type 0} {lent desk : Desk D C W} {lock : LockId} → lent ≡ desk → lock_id desk.lock ≡ lock → lock_id lent.lock ≡ lock
-named same is = ap (λ (d : Desk _ _ _). lock_id d.lock) same ∙ is
+pub named : {D C W : Type 0} {disk : OfDisk D} {clock : OfClock C} {words : OfWords W} {lent desk : Desk D C W disk clock words} {lock : LockId} → lent ≡ desk → lock_id desk.lock ≡ lock → lock_id lent.lock ≡ lock
+named same is = ap (λ d. lock_id d.lock) same ∙ is
 
 module _ {T : Type 0} (desk lock : LockId) (start : Content) (old new : Pass T) where
   -- a pass that has gone on

@@ -1,5 +1,7 @@
 -- Ports that have ended.
-use Rattle.std.specs.Prelude.{◌≡◌, List, [], Bool, true, false, Option, Some, IsSome}
+use Rattle.std.specs.Prelude.{◌≡◌, List, [], Bool, true, false, Option, Some, None, IsSome}
+use Rattle.cluster_types.specs.declared.config.Channel.{Channel}
+use Rattle.cluster_types.specs.declared.config.Channel.TheVariants as channels
 use Rattle.controller_workers.specs.declared.ports.Ports.{Ports}
 
 -- no link is left, where it is told
@@ -25,3 +27,15 @@ pub record AreAll {P : Type 0} (ports : Ports (Option P)) : Type 0 where
   pub task : IsSome ports.task
   pub mux : IsSome ports.mux
   pub engine : IsSome ports.engine
+
+module _ {P : Type 0} where
+  -- none is there yet
+  abbrev pub no_ports : Ports (Option P)
+  no_ports = record { hub = None; task = None; mux = None; engine = None }
+
+  -- the same with the port of one channel
+  abbrev pub with_port : Channel → P → Ports (Option P) → Ports (Option P)
+  with_port channels.Hub port ports = record ports { hub = Some port }
+  with_port channels.Task port ports = record ports { task = Some port }
+  with_port channels.Mux port ports = record ports { mux = Some port }
+  with_port channels.Engine port ports = record ports { engine = Some port }

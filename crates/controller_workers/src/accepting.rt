@@ -6,37 +6,26 @@ use crate::port::Port;
 use crate::ports::ended_port;
 use crate::shared::Shared;
 use cluster_types::config::Channel;
-use controller_desk::locked::Locked;
-use disk_model::disk::Disk;
+use session_threads::context::{LockedOf, SessionTypes};
 use std::alloc::Global;
 use std::sync::{Arc, Wait};
-use thread_edges::clock::Clock;
 use thread_edges::gate::{Gate, Point};
 use thread_edges::links::Accepted;
 use thread_edges::spawner::Job;
-use thread_edges::words::Words;
 
 /// Accepts the links of a port.
 #[derive(Drop)]
-pub struct Accepting<P: Port, D: Disk, C: Clock, W: Words, G, N: Naming, R> {
-    pub shared: Arc<Shared<P, D, C, W, G, N, R>, Global>,
+pub struct Accepting<P: Port, T: SessionTypes, N: Naming> {
+    pub shared: Arc<Shared<P, T, N>, Global>,
     pub channel: Channel,
     pub port: P,
 }
 
-impl<
-    P: Port + Drop,
-    D: Disk + Drop,
-    C: Clock + Drop,
-    W: Words + Drop,
-    G: Gate + Drop,
-    N: Naming,
-    R: Wait + Drop,
-> Shared<P, D, C, W, G, N, R> {
+impl<P: Port + Drop, T: SessionTypes, N: Naming> Shared<P, T, N> {
     /// Hands over the links of a port, until it ends or fails.
-    fn accept_links(&self, channel: Channel, mut port: P) -> Handed<P, Locked<D, C, W>, N> {
-        for _ in self.rt.forever() {
-            match port.accept(&self.rt) {
+    fn accept_links(&self, channel: Channel, mut port: P) -> Handed<P, LockedOf<T>, N> {
+        for _ in self.serving.rt.forever() {
+            match port.accept(&self.serving.rt) {
                 Accepted::Pair(reader, writer) => self.hand(Handed::Accepted(Link {
                     channel,
                     reader,
@@ -45,21 +34,13 @@ impl<
                 Accepted::End => return Handed::PortEnded(channel, ended_port(port)),
                 Accepted::Failed => return Handed::PortFailed(failed_port(channel, port)),
             }
-            self.gate.pass(&self.rt, Point::Accepted, 0);
+            self.serving.gate.pass(&self.serving.rt, Point::Accepted, 0);
         }
         unreachable!()
     }
 }
 
-impl<
-    P: Port + Drop,
-    D: Disk + Drop,
-    C: Clock + Drop,
-    W: Words + Drop,
-    G: Gate + Drop,
-    N: Naming,
-    R: Wait + Drop,
-> Job for Accepting<P, D, C, W, G, N, R> {
+impl<P: Port + Drop, T: SessionTypes, N: Naming> Job for Accepting<P, T, N> {
     fn run(self) {
         let Accepting {
             shared,

@@ -1,7 +1,7 @@
 //! The four ports of a controller.
 
-ghost use Rattle.std.specs.Prelude.{IsTrue, IsSome};
-ghost use Rattle.controller_workers.specs.Ports.{HasNoLink, HaveNoLinks, AreAll};
+ghost use Rattle.std.specs.Prelude.{◌≡◌, IsTrue, IsSome};
+ghost use Rattle.controller_workers.specs.Ports.{HasNoLink, HaveNoLinks, AreAll, no_ports, with_port};
 
 use crate::port::Port;
 use cluster_types::config::Channel;
@@ -34,7 +34,9 @@ pub type EndedPorts<P> = Ports<Option<EndedPort<P>>>;
 
 impl<P: Port + Drop> Ports<Option<EndedPort<P>>> {
     /// None yet.
-    pub fn none() -> EndedPorts<P> {
+    pub fn none() -> EndedPorts<P>
+        ensures { result ≡ no_ports }
+    {
         Ports {
             hub: None,
             task: None,
@@ -44,7 +46,9 @@ impl<P: Port + Drop> Ports<Option<EndedPort<P>>> {
     }
 
     /// Puts a port to those that have ended.
-    pub fn put(&mut self, channel: Channel, port: EndedPort<P>) {
+    pub fn put(&mut self, channel: Channel, port: EndedPort<P>)
+        ensures { self.new ≡ with_port channel port self.old }
+    {
         match channel {
             Channel::Hub => self.hub = Some(port),
             Channel::Task => self.task = Some(port),

@@ -16,17 +16,13 @@ use crate::shared::Shared;
 use crate::starting::ChoosingJob;
 use crate::writers::wake_each;
 use controller_desk::fault::ActError;
-use controller_desk::locked::Locked;
-use disk_model::disk::Disk;
-use history_lock::lock::Pass;
 use load_schemes::chooser::Chooser;
+use session_threads::context::{LockedOf, PassOf, SessionTypes};
 use std::alloc::Global;
 use std::sync::{Arc, Wait};
 use task_journal::fault::AppendFault;
-use thread_edges::clock::Clock;
 use thread_edges::gate::{Gate, Point};
 use thread_edges::spawner::Job;
-use thread_edges::words::Words;
 
 /// What is done again and again.
 #[derive(Clone, Copy, Debug, PartialEq, Eq)]
@@ -39,17 +35,17 @@ pub enum Rhythm {
 
 /// Does the same again and again.
 #[derive(Drop)]
-pub struct Recurring<P: Port, D: Disk, C: Clock, W: Words, G, N: Naming, R> {
-    pub shared: Arc<Shared<P, D, C, W, G, N, R>, Global>,
+pub struct Recurring<P: Port, T: SessionTypes, N: Naming> {
+    pub shared: Arc<Shared<P, T, N>, Global>,
     pub rhythm: Rhythm,
-    pub pass: NamedPass<Locked<D, C, W>, N>,
+    pub pass: NamedPass<LockedOf<T>, N>,
 }
 
 /// Flushes what is entered.
 #[derive(Drop)]
-pub struct Flushing<P: Port, D: Disk, C: Clock, W: Words, G, N: Naming, R> {
-    pub shared: Arc<Shared<P, D, C, W, G, N, R>, Global>,
-    pub pass: NamedPass<Locked<D, C, W>, N>,
+pub struct Flushing<P: Port, T: SessionTypes, N: Naming> {
+    pub shared: Arc<Shared<P, T, N>, Global>,
+    pub pass: NamedPass<LockedOf<T>, N>,
 }
 
 /// Whether a step that was tried ends the controller.
@@ -74,84 +70,66 @@ fn halt_after(flushed: Result<(), AppendFault>, is_stopping: bool) -> Option<Hal
     }
 }
 
-impl<
-    P: Port + Drop,
-    D: Disk + Drop,
-    C: Clock + Drop,
-    W: Words + Drop,
-    G: Gate + Drop,
-    N: Naming,
-    R: Wait + Drop,
-> Shared<P, D, C, W, G, N, R> {
+impl<P: Port + Drop, T: SessionTypes, N: Naming> Shared<P, T, N> {
     /// Sends heartbeats once. It goes on after want of memory, and after a call of the disk that failed.
-    fn beat(&self, pass: &mut Pass<Locked<D, C, W>>, chooser: &Chooser) -> Option<Halt>
+    fn beat(&self, pass: &mut PassOf<T>, chooser: &Chooser) -> Option<Halt>
         requires since { IsSince N.lock N.start pass.old }
         ensures since { IsSince N.lock N.start pass.new }
         ensures cause { IfSome result (λ halt. HaltCause halt N.start (known pass.new).seen) }
     {
-        let tried = self.desk.beat(&self.rt, pass, chooser);
+        let tried = self.serving.desk.beat(&self.serving.rt, pass, chooser);
         halt_of(tried)
     }
 
     /// Looks at the timeouts once. It goes on after want of memory, and after a call of the disk that failed.
-    fn time(&self, pass: &mut Pass<Locked<D, C, W>>, chooser: &Chooser) -> Option<Halt>
+    fn time(&self, pass: &mut PassOf<T>, chooser: &Chooser) -> Option<Halt>
         requires since { IsSince N.lock N.start pass.old }
         ensures since { IsSince N.lock N.start pass.new }
         ensures cause { IfSome result (λ halt. HaltCause halt N.start (known pass.new).seen) }
     {
-        let tried = self.desk.time(&self.rt, pass, chooser);
+        let tried = self.serving.desk.time(&self.serving.rt, pass, chooser);
         halt_of(tried)
     }
 
     /// Waits for its turn, and does once what recurs.
-    fn take_turn(
-        &self,
-        pass: &mut Pass<Locked<D, C, W>>,
-        chooser: &Chooser,
-        rhythm: Rhythm,
-    ) -> Option<Halt>
+    fn take_turn(&self, pass: &mut PassOf<T>, chooser: &Chooser, rhythm: Rhythm) -> Option<Halt>
         requires since { IsSince N.lock N.start pass.old }
         ensures since { IsSince N.lock N.start pass.new }
         ensures cause { IfSome result (λ halt. HaltCause halt N.start (known pass.new).seen) }
     {
         match rhythm {
             Rhythm::Beat => {
-                self.gate.pass(&self.rt, Point::Beat, 0);
+                self.serving.gate.pass(&self.serving.rt, Point::Beat, 0);
                 self.beat(pass, chooser)
             }
             Rhythm::Time => {
-                self.gate.pass(&self.rt, Point::Time, 0);
+                self.serving.gate.pass(&self.serving.rt, Point::Time, 0);
                 self.time(pass, chooser)
             }
         }
     }
 
     /// Waits for its turn, does once what recurs, and wakes who flushes.
-    fn recur(
-        &self,
-        pass: &mut Pass<Locked<D, C, W>>,
-        chooser: &Chooser,
-        rhythm: Rhythm,
-    ) -> Option<Halt>
+    fn recur(&self, pass: &mut PassOf<T>, chooser: &Chooser, rhythm: Rhythm) -> Option<Halt>
         requires since { IsSince N.lock N.start pass.old }
         ensures since { IsSince N.lock N.start pass.new }
         ensures cause { IfSome result (λ halt. HaltCause halt N.start (known pass.new).seen) }
     {
         let halt = self.take_turn(pass, chooser, rhythm);
-        self.gate.wake(Point::Flush, 0);
+        self.serving.gate.wake(Point::Flush, 0);
         halt
     }
 
     /// Does what recurs until no links are left.
     fn keep_rhythm(
         &self,
-        mut pass: Pass<Locked<D, C, W>>,
+        mut pass: PassOf<T>,
         chooser: &Chooser,
         rhythm: Rhythm,
-    ) -> Handed<P, Locked<D, C, W>, N>
+    ) -> Handed<P, LockedOf<T>, N>
         requires { IsSince N.lock N.start pass }
     {
-        for _ in self.rt.forever() {
+        for _ in self.serving.rt.forever() {
             if let Some(halt) = self.recur(&mut pass, chooser, rhythm) {
                 return Handed::Halted(Halted::new(halt, pass));
             }
@@ -163,41 +141,41 @@ impl<
     }
 
     /// Flushes once. What was entered before a shutdown is then flushed too.
-    fn flush_entered(&self, pass: &mut Pass<Locked<D, C, W>>) -> Option<Halt>
+    fn flush_entered(&self, pass: &mut PassOf<T>) -> Option<Halt>
         requires since { IsSince N.lock N.start pass.old }
         ensures since { IsSince N.lock N.start pass.new }
         ensures cause { IfSome result (λ halt. HaltCause halt N.start (known pass.new).seen) }
     {
-        let is_stopping = self.desk.stopping(&self.rt, pass);
-        let flushed = self.desk.flush(&self.rt, pass);
+        let is_stopping = self.serving.desk.stopping(&self.serving.rt, pass);
+        let flushed = self.serving.desk.flush(&self.serving.rt, pass);
         halt_after(flushed, is_stopping)
     }
 
     /// Keeps those of these connections for which there is something to take, or which aren't live.
-    fn keep_news(&self, pass: &mut Pass<Locked<D, C, W>>, conns: &mut Vec<u32>)
+    fn keep_news(&self, pass: &mut PassOf<T>, conns: &mut Vec<u32>)
         requires since { IsSince N.lock N.start pass.old }
         ensures since { IsSince N.lock N.start pass.new }
         ensures later { Extends (known pass.old).seen (known pass.new).seen }
     {
-        self.desk.keep_news(&self.rt, pass, conns);
+        self.serving.desk.keep_news(&self.serving.rt, pass, conns);
     }
 
     /// Wakes the writers that have something to write, or whose connection isn't live. Where there is no memory for a list of
     /// the writers it wakes all.
-    fn wake_writers(&self, pass: &mut Pass<Locked<D, C, W>>, conns: &mut Vec<u32>)
+    fn wake_writers(&self, pass: &mut PassOf<T>, conns: &mut Vec<u32>)
         requires since { IsSince N.lock N.start pass.old }
         ensures since { IsSince N.lock N.start pass.new }
         ensures later { Extends (known pass.old).seen (known pass.new).seen }
     {
-        if self.writers.copy_into(&self.rt, conns).is_err() {
-            self.writers.wake_all(&self.rt, &*self.gate);
+        if self.writers.copy_into(&self.serving.rt, conns).is_err() {
+            self.writers.wake_all(&self.serving.rt, &*self.serving.gate);
         }
         self.keep_news(pass, conns);
-        wake_each(&*self.gate, conns.as_slice());
+        wake_each(&*self.serving.gate, conns.as_slice());
     }
 
     /// Flushes once, and wakes the writers that then have something to write. `conns` is a buffer.
-    fn flush(&self, pass: &mut Pass<Locked<D, C, W>>, conns: &mut Vec<u32>) -> Option<Halt>
+    fn flush(&self, pass: &mut PassOf<T>, conns: &mut Vec<u32>) -> Option<Halt>
         requires since { IsSince N.lock N.start pass.old }
         ensures since { IsSince N.lock N.start pass.new }
         ensures cause { IfSome result (λ halt. HaltCause halt N.start (known pass.new).seen) }
@@ -208,13 +186,13 @@ impl<
     }
 
     /// Flushes until no links are left, and once more.
-    fn keep_flushing(&self, mut pass: Pass<Locked<D, C, W>>) -> Handed<P, Locked<D, C, W>, N>
+    fn keep_flushing(&self, mut pass: PassOf<T>) -> Handed<P, LockedOf<T>, N>
         requires { IsSince N.lock N.start pass }
     {
-        let mut conns = Vec::new(self.alloc);
-        self.gate.pass(&self.rt, Point::Flush, 0);
-        for _ in self.rt.forever() {
-            let wakes = self.gate.wakes(Point::Flush, 0);
+        let mut conns = Vec::new(self.serving.alloc);
+        self.serving.gate.pass(&self.serving.rt, Point::Flush, 0);
+        for _ in self.serving.rt.forever() {
+            let wakes = self.serving.gate.wakes(Point::Flush, 0);
             let is_last = self.is_ending();
             if let Some(halt) = self.flush(&mut pass, &mut conns) {
                 return Handed::Halted(Halted::new(halt, pass));
@@ -222,21 +200,15 @@ impl<
             if is_last {
                 return Handed::WorkerEnded(NamedPass::new(pass));
             }
-            self.gate.wait(&self.rt, Point::Flush, 0, wakes);
+            self.serving
+                .gate
+                .wait(&self.serving.rt, Point::Flush, 0, wakes);
         }
         unreachable!()
     }
 }
 
-impl<
-    P: Port + Drop,
-    D: Disk + Drop,
-    C: Clock + Drop,
-    W: Words + Drop,
-    G: Gate + Drop,
-    N: Naming,
-    R: Wait + Drop,
-> ChoosingJob for Recurring<P, D, C, W, G, N, R> {
+impl<P: Port + Drop, T: SessionTypes, N: Naming> ChoosingJob for Recurring<P, T, N> {
     fn run(self, chooser: &Chooser) {
         let Recurring {
             shared,
@@ -249,15 +221,7 @@ impl<
     }
 }
 
-impl<
-    P: Port + Drop,
-    D: Disk + Drop,
-    C: Clock + Drop,
-    W: Words + Drop,
-    G: Gate + Drop,
-    N: Naming,
-    R: Wait + Drop,
-> Job for Flushing<P, D, C, W, G, N, R> {
+impl<P: Port + Drop, T: SessionTypes, N: Naming> Job for Flushing<P, T, N> {
     fn run(self) {
         let Flushing { shared, pass } = self;
         let NamedPass { pass, of: _ } = pass;

@@ -7,36 +7,17 @@ use Rattle.zmtp_frames.specs.Greeting.{own_greeting}
 use Rattle.zmtp_peer.specs.declared.fault.PeerFault.{PeerFault}
 use Rattle.zmtp_peer.specs.PeerStream.{Talk, begins, talked, sent, identity, or_later, messages, fault_of}
 use Rattle.zmtp_peer.proofs.Pieces.{talked_append, sent_append, identity_append, messages_append}
-use Rattle.link_greeting.specs.Greeting.{AddedFront, IsGreeted, IsRefused, IsGreetedInPart, IsHandshake}
-use Rattle.link_greeting.proofs.Early.{without_identity}
+use Rattle.link_greeting.specs.Greeting.{IsGreeted, IsRefused, IsGreetedInPart, IsHandshake}
+use Rattle.link_messages.specs.Written.{AddedFront}
+use Rattle.edges.proofs.Additions.{added_both, added_none}
+use Rattle.zmtp_peer.proofs.Order.{without_identity}
+use Rattle.link_messages.proofs.Fronts.{front_behind, front_whole}
 
 took_none : (x : Option (List ℕ)) → Took [] x x
 took_none None = refl
 took_none (Some octets) = refl
 
 -- OCTETS THAT ARE WRITTEN
-
-pub added_more : (a b : List ℕ) (x y z : Option (List ℕ)) → Added a x y → Added b y z → Added (a ++ b) x z
-added_more a b None y z first next = next ∙ rw first refl
-added_more a b (Some written) y z first next = next ∙ rw first (ap Some (append_assoc written a b))
-
-pub front_behind : (a b : List ℕ) (x y z : Option (List ℕ)) → Added a x y → AddedFront b y z → AddedFront (a ++ b) x z
-front_behind a b x y z first f = record {
-  front = a ++ f.front;
-  rest = f.rest;
-  parts = ap (λ (o : List ℕ). a ++ o) f.parts ∙ sym (append_assoc a f.front f.rest);
-  added = added_more a f.front x y z first f.added;
-}
-
-pub front_whole : (a : List ℕ) (x y : Option (List ℕ)) → Added a x y → AddedFront a x y
-front_whole a x y added = record { front = a; rest = []; parts = sym (append-nil a); added = added }
-
-pub added_none : (x : Option (List ℕ)) → Added [] x x
-added_none None = refl
-added_none (Some written) = ap Some (sym (append-nil written))
-
-pub front_none : (a : List ℕ) (x : Option (List ℕ)) → AddedFront a x x
-front_none a x = record { front = []; rest = a; parts = refl; added = added_none x }
 
 -- octets were read whose stream gives no identity and has no fault, and all was written that it calls for
 pub record Shaking (left rest old new : Option (List ℕ)) (now : Talk) : Type 0 where
@@ -67,7 +48,7 @@ shaking_on left rest later old mid new now piece s took added none = record {
   took = took_more s.octets piece left rest later s.took took;
   talk_is = talk_both s.octets piece now s.talk_is;
   nobody = name_both s.octets piece now s.talk_is s.nobody ∙ none;
-  added = subst (λ (xs : List ℕ). Added xs old new) (sent_both s.octets piece now s.talk_is) (added_more (own_greeting ++ sent begins s.octets) (sent now piece) old mid new s.added added);
+  added = subst (λ (xs : List ℕ). Added xs old new) (sent_both s.octets piece now s.talk_is) (added_both (own_greeting ++ sent begins s.octets) (sent now piece) old mid new s.added added);
 }
 
 pub shaking_refused : (left rest old new : Option (List ℕ)) (now : Talk) (fault : Option PeerFault) → Shaking left rest old new now → fault_of now.phase ≡ fault → IsRefused fault left rest old new
@@ -94,5 +75,5 @@ shaking_done left rest later old mid new now after piece name early s took added
   talk_is = is ∙ talk_both s.octets piece now s.talk_is;
   identity_is = name_both s.octets piece now s.talk_is s.nobody ∙ h.identity_is;
   messages = messages_append begins s.octets piece ∙ ap (λ (ms : List (List (List ℕ))). ms ++ messages (talked begins s.octets) piece) (without_identity s.octets s.nobody) ∙ ap (λ (t : Talk). messages t piece) (sym s.talk_is) ∙ h.messages_are;
-  added = subst (λ (xs : List ℕ). Added xs old new) (sent_both s.octets piece now s.talk_is) (added_more (own_greeting ++ sent begins s.octets) (sent now piece) old mid new s.added added);
+  added = subst (λ (xs : List ℕ). Added xs old new) (sent_both s.octets piece now s.talk_is) (added_both (own_greeting ++ sent begins s.octets) (sent now piece) old mid new s.added added);
 }

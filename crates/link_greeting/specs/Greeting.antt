@@ -1,16 +1,10 @@
 -- What a handshake reads and writes.
 use Rattle.std.specs.Prelude.{◌≡◌, ℕ, List, ◌++◌, Option, Some, None, All}
+use Rattle.link_messages.specs.Written.{AddedFront}
 use Rattle.edges.specs.Streams.{Took, Added}
 use Rattle.zmtp_peer.specs.declared.fault.PeerFault.{PeerFault}
 use Rattle.zmtp_peer.specs.Limits.{IsShortMessage, IsShortIdentity}
 use Rattle.zmtp_peer.specs.PeerStream.{Talk, begins, talked, identity, messages, peer_stream}
-
--- a front of octets was written
-pub record AddedFront (octets : List ℕ) (old new : Option (List ℕ)) : Type 0 where
-  pub front : List ℕ
-  pub rest : List ℕ
-  pub parts : octets ≡ front ++ rest
-  pub added : Added front old new
 
 -- octets were read whose stream gives an identity and these messages, and all was written that it calls for
 pub record IsGreeted (talk : Talk) (identity : List ℕ) (early : List (List (List ℕ))) (left rest old new : Option (List ℕ)) : Type 0 where

@@ -7,7 +7,8 @@ ghost use Rattle.zmtp_peer.specs.declared.fault.PeerFault.{PeerFault as Fault};
 ghost use Rattle.zmtp_peer.specs.Limits.{IsShortMessage, IsShortIdentity};
 ghost use Rattle.zmtp_peer.specs.PeerStream.{talked, sent, identity, fault_of};
 ghost use Rattle.link_greeting.specs.Ends.{EndsGreeting, EndsPiece};
-ghost use Rattle.link_greeting.specs.Greeting.{AddedFront, IsGreeted, IsRefused, IsGreetedInPart, IsHandshake};
+ghost use Rattle.link_greeting.specs.Greeting.{IsGreeted, IsRefused, IsGreetedInPart, IsHandshake};
+ghost use Rattle.link_messages.specs.Written.{AddedFront};
 
 use crate::end::SessionEnd;
 use crate::link::write;

@@ -18,8 +18,8 @@ fn numbered_identity(alloc: Global, conn: u32) -> Result<Octets, AllocError>
     Octets::new(alloc, text.as_bytes())
 }
 
-/// The identity of a connection, after its number where it has none.
-fn identity_or_number(alloc: Global, conn: u32, identity: &[u8]) -> Result<Octets, AllocError>
+/// The identity of a connection: `conn-` and its number where the one that came is empty.
+pub fn identity_or_number(alloc: Global, conn: u32, identity: &[u8]) -> Result<Octets, AllocError>
     ensures { IfOk result (λ i. i ≡ identity_or_number conn identity.now) }
 {
     if identity.len() == 0 {

@@ -6,8 +6,8 @@ ghost use Rattle.history_lock.specs.Names.{IsIdle, lock_id, room_of};
 ghost use Rattle.record_codec.specs.Spelling.{IsShort};
 
 use crate::controller::{
-    AMPLE, ASK, Desked, Held, OWN, hub_ports, in_one_piece, in_two_pieces, new_chooser, new_desk,
-    new_gate, new_key, port_of,
+    AMPLE, ASK, Desked, Held, OWN, Types, hub_ports, in_one_piece, in_two_pieces, new_chooser,
+    new_desk, new_gate, new_key, port_of,
 };
 use crate::gate::{CountGate, Step};
 use cluster_types::config::Channel;
@@ -19,6 +19,7 @@ use controller_desk::reading::Reading;
 use controller_threads::end::ServeEnd;
 use controller_threads::serving::serve;
 use controller_workers::ports::Ports;
+use controller_workers::shared::Serving;
 use history_lock::lock::Pass;
 use out_queues::taken::Taken;
 use std::alloc::Global;
@@ -64,17 +65,14 @@ fn served_to_the_end<R: Abort + Wait + Threads + time::Clock + Drop + Copy + Sen
     let served = Arc::try_clone(desk).expect(rt, "memory is ample");
     let gate = Arc::try_clone(gate).expect(rt, "memory is ample");
     let mut spawner = Spawner::beside(alloc, *rt).expect(rt, "memory is ample");
-    match serve(
-        *rt,
+    let serving = Serving::<Types<R>> {
+        rt: *rt,
         alloc,
-        ports,
-        served,
-        pass,
-        &chooser,
+        desk: served,
         key,
-        &mut spawner,
         gate,
-    ) {
+    };
+    match serve(serving, ports, pass, &chooser, &mut spawner) {
         ServeEnd::Ended { pass, .. } => pass,
         _ => panic!(rt; "the controller ends before its links"),
     }

@@ -13,12 +13,14 @@ use controller_desk::locked::Locked;
 use controller_threads::end::ServeEnd;
 use controller_threads::serving::serve;
 use controller_workers::ports::Ports;
+use controller_workers::shared::Serving;
 use disk_model::memory::MemDisk;
 use edges::memory::{MemSink, MemSource};
 use history_lock::lock::Pass;
 use hmac_sign::Key;
 use load_schemes::chooser::{Choose, Chooser};
 use load_schemes::place::place_of;
+use session_threads::context::TypesOf;
 use std::alloc::Global;
 use std::process::Abort;
 use std::sync::{Arc, Wait};
@@ -33,6 +35,9 @@ use thread_edges::words::ListWords;
 pub type Desked = Desk<MemDisk, ListClock, ListWords>;
 
 pub type Held = Locked<MemDisk, ListClock, ListWords>;
+
+/// What sessions stand on here.
+pub type Types<R> = TypesOf<MemDisk, ListClock, ListWords, CountGate<R>, R>;
 
 pub type End = ServeEnd<MemListener, Held>;
 
@@ -166,7 +171,14 @@ pub fn served_by<R: Abort + Wait + Threads + time::Clock + Drop + Copy + Send + 
     let key = new_key(rt, alloc);
     let desk = Arc::try_clone(desk).expect(rt, "memory is ample");
     let gate = Arc::try_clone(gate).expect(rt, "memory is ample");
-    serve(*rt, alloc, ports, desk, pass, &chooser, key, spawner, gate)
+    let serving = Serving::<Types<R>> {
+        rt: *rt,
+        alloc,
+        desk,
+        key,
+        gate,
+    };
+    serve(serving, ports, pass, &chooser, spawner)
 }
 
 /// The end of a controller in threads, over a desk of its own whose history may have so many entries.

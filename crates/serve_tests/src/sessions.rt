@@ -1,26 +1,34 @@
 //! A link from its handshake to its end, over a desk on a disk in memory.
 
-ghost use Rattle.std.specs.Prelude.{◌≡◌, ◌≤◌, ◌+◌, [], All};
-ghost use Rattle.std.specs.Vec.{vec_len, vec_capacity};
+ghost use Rattle.std.specs.Prelude.{◌≡◌, ◌≤◌, [], All};
+ghost use Rattle.std.specs.Vec.{vec_capacity};
 ghost use Rattle.zmtp_peer.specs.Limits.{IsShortMessage, IsShortIdentity};
 
 use crate::controller::{AMPLE, Held, OWN, new_chooser, new_desk, new_key};
 use cluster_types::config::Channel;
+use disk_model::memory::MemDisk;
 use edges::memory::{MemSink, MemSource};
+use history_lock::lock::Pass;
 use link_greeting::end::SessionEnd;
 use link_greeting::greeting::{Greeted, greet};
-use session_threads::admission::{AdmitEnd, Admitted, Passes, admit};
+use session_threads::admission::{AdmitEnd, Admitted, PassPool, SessionPasses, admit};
 use session_threads::connection::Connection;
+use session_threads::context::{SessionContext, TypesOf};
 use session_threads::reading::read_session;
 use session_threads::writing::write_session;
 use std::alloc::Global;
 use std::process::Abort;
 use std::sync::Wait;
+use thread_edges::clock::ListClock;
 use thread_edges::gate::OpenGate;
+use thread_edges::words::ListWords;
 
 /// The registration of the engine `e0`, signed under the key `k`.
 const JOIN: &[u8] =
     b"\x01\x09<IDS|MSG>\x01@3549f2a96cf35bac1fff6b249a8cf48461be3ba2d296ae29a930f967679b268d\x01\x84{\"msg_id\":\"e0-0\",\"session\":\"e0\",\"username\":\"e0\",\"date\":\"1970-01-01T00:00:00.007Z\",\"msg_type\":\"registration_request\",\"version\":\"5.3\"}\x01\x02{}\x01\x02{}\0\x0d{\"uuid\":\"e0\"}";
+
+/// What sessions stand on here.
+type OpenTypes<R> = TypesOf<MemDisk, ListClock, ListWords, OpenGate, R>;
 
 /// A link over these octets whose handshake is done.
 fn greeted<R: Wait + Abort>(
@@ -38,76 +46,58 @@ fn greeted<R: Wait + Abort>(
     }
 }
 
-/// No passes, with room for two.
-fn no_passes<R: Abort>(rt: &R, alloc: Global) -> Passes<Held>
-    ensures none { result.items ≡ [] }
-    ensures spare { vec_len result + 2 ≤ vec_capacity result }
+/// A pool with this pass alone.
+fn pool_of<R: Abort>(rt: &R, alloc: Global, pass: Pass<Held>) -> PassPool<Held>
+    ensures pass { result.pass ≡ pass }
+    ensures none { result.kept.items ≡ [] }
+    ensures spare { 2 ≤ vec_capacity result.kept }
 {
-    Vec::with_capacity(alloc, 2).expect(rt, "memory is ample")
+    let kept = Vec::with_capacity(alloc, 2).expect(rt, "memory is ample");
+    PassPool { pass, kept }
 }
 
 /// The octets that a link writes whose other side sends these and ends.
-fn served<R: Wait + Abort>(rt: &R, alloc: Global, octets: &[u8]) -> MemSink {
+fn served<R: Wait + Abort + Drop>(rt: &R, alloc: Global, octets: &[u8]) -> MemSink {
     let chooser = new_chooser(rt, alloc);
     let key = new_key(rt, alloc);
-    let (desk, mut pass) = new_desk(rt, alloc, AMPLE);
-    let mut reader = MemSource::new(alloc, octets, &[]).expect(rt, "memory is ample");
-    let mut writer = MemSink::new(alloc, &[]).expect(rt, "memory is ample");
-    let Greeted {
-        peer,
-        identity,
-        early,
-    } = greeted(rt, alloc, &mut reader, &mut writer);
-    let mut kept = no_passes(rt, alloc);
-    let admitted = admit(
-        rt,
-        &desk,
-        &mut pass,
-        &mut kept,
-        &chooser,
-        Channel::Engine,
-        identity.as_slice(),
-    );
-    let Ok(
-        Admitted {
-            conn,
-            mut reading,
-            mut writing,
-        },
-    ) = admitted
-    else {
-        panic!(rt; "no link is admitted");
-    };
+    let (desk, pass) = new_desk(rt, alloc, AMPLE);
     let gate = OpenGate::new();
-    let connection = Connection {
-        number: conn,
-        channel: Channel::Engine,
-    };
-    let end = read_session(
+    let context = SessionContext::<OpenTypes<R>> {
         rt,
         alloc,
-        &mut reader,
-        peer,
-        early,
-        &desk,
-        &mut reading,
+        desk: &desk,
+        key: &key,
+        gate: &gate,
+    };
+    let mut reader = MemSource::new(alloc, octets, &[]).expect(rt, "memory is ample");
+    let mut writer = MemSink::new(alloc, &[]).expect(rt, "memory is ample");
+    let greeted = greeted(rt, alloc, &mut reader, &mut writer);
+    let mut pool = pool_of(rt, alloc, pass);
+    let channel = Channel::Engine;
+    let identity = greeted.identity.as_slice();
+    let Ok(admitted) = admit(&context, &chooser, &mut pool, channel, identity) else {
+        panic!(rt; "no link is admitted");
+    };
+    let Admitted {
+        conn: number,
+        passes,
+    } = admitted;
+    let SessionPasses {
+        mut reading,
+        mut writing,
+    } = passes;
+    let connection = Connection { number, channel };
+    let end = read_session(
+        &context,
         &chooser,
+        &mut reader,
+        greeted,
+        &mut reading,
         connection,
-        &key,
-        &gate,
     );
     assert_eq!(rt; end, SessionEnd::Ended);
     desk.flush(rt, &mut reading).expect(rt, "a flush");
-    let end = write_session(
-        rt,
-        alloc,
-        &mut writer,
-        &desk,
-        &mut writing,
-        conn,
-        &key,
-        &gate,
-    );
+    let end = write_session(&context, &mut writer, &mut writing, number);
     assert_eq!(rt; end, SessionEnd::Closed);
     writer
 }
@@ -136,19 +126,20 @@ fn a_link_with_a_registration(rt: HostRuntime) {
 fn a_link_without_passes(rt: HostRuntime) {
     let alloc = rt.alloc();
     let chooser = new_chooser(&rt, alloc);
+    let key = new_key(&rt, alloc);
     let (desk, mut pass) = new_desk(&rt, alloc, AMPLE);
-    let Ok(mut little) = desk.split(&mut pass, 1) else {
+    let Ok(little) = desk.split(&mut pass, 1) else {
         panic!(rt; "no pass is split off");
     };
-    let mut kept = no_passes(&rt, alloc);
-    let admitted = admit(
-        &rt,
-        &desk,
-        &mut little,
-        &mut kept,
-        &chooser,
-        Channel::Hub,
-        b"",
-    );
+    let gate = OpenGate::new();
+    let context = SessionContext::<OpenTypes<HostRuntime>> {
+        rt: &rt,
+        alloc,
+        desk: &desk,
+        key: &key,
+        gate: &gate,
+    };
+    let mut pool = pool_of(&rt, alloc, little);
+    let admitted = admit(&context, &chooser, &mut pool, Channel::Hub, b"");
     assert!(rt; matches!(admitted, Err(AdmitEnd::NoPass)));
 }

@@ -29,7 +29,8 @@ use Rattle.link_greeting.specs.declared.end.SessionEnd.{SessionEnd}
 use Rattle.link_greeting.specs.declared.end.SessionEnd.TheVariants as ends
 use Rattle.session_threads.specs.Ends.{IsEndOf, EndsHearing}
 use Rattle.session_threads.specs.Passes.{AddsBehind, inputs_among}
-use Rattle.session_threads.specs.Reading.{signed, IsEnteredAs, IsEntered, HearsAs, HearAll, Entered, EnteredFront}
+use Rattle.session_threads.specs.Reading.{IsEnteredAs, IsEntered, HearsAs, HearAll, Entered, EnteredFront}
+use Rattle.link_messages.specs.Message.{signed}
 use Rattle.session_threads.proofs.Turns.{adds_none, adds_more, entries_of, turn_adds, turn_list, inputs_append, step_inputs, stay_adds}
 
 -- CHAINS

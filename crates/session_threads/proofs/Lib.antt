@@ -1,9 +1,9 @@
+pub mod Admitting
 pub mod Causes
 pub mod Down
 pub mod Entering
 pub mod Finishing
 pub mod Going
 pub mod Sending
-pub mod Short
 pub mod Taking
 pub mod Turns

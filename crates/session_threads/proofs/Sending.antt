@@ -2,10 +2,11 @@
 use Rattle.std.proofs.Common.{ℕ, List, [], ◌++◌, Option, subst}
 use Rattle.edges.specs.Streams.{Added}
 use Rattle.history_lock.specs.declared.known.View.{View}
-use Rattle.link_greeting.specs.Greeting.{AddedFront}
+use Rattle.link_messages.specs.Written.{AddedFront}
 use Rattle.session_threads.specs.Writing.{Took, WritesFront, WritesWhole}
-use Rattle.link_greeting.proofs.Shaking.{added_more, added_none, front_behind, front_whole}
 use Rattle.session_threads.proofs.Taking.{took_none, took_more, took_outs}
+use Rattle.edges.proofs.Additions.{added_both, added_none}
+use Rattle.link_messages.proofs.Fronts.{front_behind, front_whole}
 
 -- all that was taken was written
 pub record Sent (key : List ℕ) (conn : ℕ) (u v : View) (old now : Option (List ℕ)) : Type 0 where
@@ -20,7 +21,7 @@ pub sent_more : (key : List ℕ) (conn : ℕ) (u v w : View) (old now later : Op
 sent_more key conn u v w old now later octets s t added = record {
   octets = s.octets ++ octets;
   took = took_more key conn u v w s.octets octets s.took t;
-  added = added_more s.octets octets old now later s.added added;
+  added = added_both s.octets octets old now later s.added added;
 }
 
 pub whole : (key : List ℕ) (conn : ℕ) (u v : View) (old now : Option (List ℕ)) → Sent key conn u v old now → WritesWhole key conn u v old now

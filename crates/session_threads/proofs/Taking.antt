@@ -22,8 +22,11 @@ use Rattle.controller_desk.specs.Calls.{HasTaken}
 use Rattle.controller_desk.specs.Contents.{first_values, conn_numbers, content_of, taken_place, taken_seen}
 use Rattle.controller_desk.specs.Turns.{InTurn}
 use Rattle.session_threads.specs.Passes.{AddsBehind}
-use Rattle.session_threads.specs.Writing.{octets_of, Placed, Takes, TakeAll, RiseFrom, StandIn, outs_among, HasNoMore, TookOuts, TookAll, Took}
+use Rattle.session_threads.specs.Writing.{Placed, Takes, TakeAll, RiseFrom, StandIn, outs_among, HasNoMore, TookOuts, TookAll, Took}
+use Rattle.link_messages.specs.Outs.{octets_of}
 use Rattle.session_threads.proofs.Turns.{stay_adds, turn_list}
+use Rattle.cluster_store.proofs.Outs.{outs_are}
+use Rattle.cluster_types.proofs.Booleans.{or_off_left, or_off_right}
 
 -- COUNTS
 
@@ -61,18 +64,6 @@ one_entry e older conn before =
     ∙ ap (λ (xs : List Out). xs ++ firsts (sendings (e ∷ older) (outs_on conn (outs (e ∷ older))))) before
     ∙ ap (λ (xs : List Out). outs_to older conn ++ xs) (firsts_of (e ∷ older) (outs_on conn (outs (e ∷ older))))
 
-outs_are : (history : History) (conn : ℕ) → firsts (sendings_to history conn) ≡ outs_to history conn
-outs_are [] conn = refl
-outs_are (Input (Open moment scheme hwm misses) ∷ older) conn = refl
-outs_are (Input (Up c channel moment word identity) ∷ older) conn = one_entry (Input (Up c channel moment word identity)) older conn (outs_are older conn)
-outs_are (Input (Down c moment word) ∷ older) conn = one_entry (Input (Down c moment word)) older conn (outs_are older conn)
-outs_are (Input (In c moment word m) ∷ older) conn = one_entry (Input (In c moment word m)) older conn (outs_are older conn)
-outs_are (Input (Beat moment word) ∷ older) conn = one_entry (Input (Beat moment word)) older conn (outs_are older conn)
-outs_are (Input (Time moment word) ∷ older) conn = one_entry (Input (Time moment word)) older conn (outs_are older conn)
-outs_are (Hand id n ∷ older) conn = one_entry (Hand id n) older conn (outs_are older conn)
-outs_are (Settle id v c ∷ older) conn = one_entry (Settle id v c) older conn (outs_are older conn)
-outs_are (Lose n ∷ older) conn = one_entry (Lose n) older conn (outs_are older conn)
-
 out_at : (history : History) (conn place : ℕ) → slice_get (outs_to history conn) place ≡ option_map (λ s. s.1) (slice_get (sendings_to history conn) place)
 out_at history conn place = ap (λ (os : List Out). slice_get os place) (sym (outs_are history conn)) ∙ slice_get-map (λ (s : Sending). s.1) (sendings_to history conn) place
 
@@ -82,14 +73,6 @@ get_more : (xs ys : List Out) (place : ℕ) (o : Out) → slice_get xs place ≡
 get_more [] ys place o is = absurd (none-some _ is)
 get_more (x ∷ xs) ys zero o is = is
 get_more (x ∷ xs) ys (suc place) o is = get_more xs ys place o is
-
-first_is : (a b : Bool) → (a || b) ≡ false → a ≡ false
-first_is true b is = cc
-first_is false b is = refl
-
-second_is : (a b : Bool) → (a || b) ≡ false → b ≡ false
-second_is true b is = cc
-second_is false b is = is
 
 entry_stays : (e : Entry) (older : History) (conn place : ℕ) (o : Out) → is_open_entry e ≡ false → slice_get (outs_to older conn) place ≡ Some o → slice_get (outs_to (e ∷ older) conn) place ≡ Some o
 entry_stays (Input (Open moment scheme hwm misses)) older conn place o off is = cc
@@ -105,7 +88,7 @@ entry_stays (Lose n) older conn place o off is = get_more (outs_to older conn) (
 out_stays : (es old : History) (conn place : ℕ) (o : Out) → list_any is_open_entry es ≡ false → slice_get (outs_to old conn) place ≡ Some o → slice_get (outs_to (es ++ old) conn) place ≡ Some o
 out_stays [] old conn place o off is = is
 out_stays (e ∷ es) old conn place o off is =
-    entry_stays e (es ++ old) conn place o (first_is (is_open_entry e) (list_any is_open_entry es) off) (out_stays es old conn place o (second_is (is_open_entry e) (list_any is_open_entry es) off) is)
+    entry_stays e (es ++ old) conn place o (or_off_left (is_open_entry e) (list_any is_open_entry es) off) (out_stays es old conn place o (or_off_right (is_open_entry e) (list_any is_open_entry es) off) is)
 
 stays_in : (a b : Content) (conn place : ℕ) (o : Out) → Extends a b → slice_get (outs_to a.list conn) place ≡ Some o → slice_get (outs_to b.list conn) place ≡ Some o
 stays_in a b conn place o e is = subst (λ (h : History). slice_get (outs_to h conn) place ≡ Some o) (sym e.list) (out_stays e.beyond a.list conn place o e.no_open is)

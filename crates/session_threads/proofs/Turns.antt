@@ -73,14 +73,6 @@ inputs_append ((place, Hand id n) ∷ xs) ys = inputs_append xs ys
 inputs_append ((place, Settle id v c) ∷ xs) ys = inputs_append xs ys
 inputs_append ((place, Lose n) ∷ xs) ys = inputs_append xs ys
 
-first_is : (a b : Bool) → (a || b) ≡ false → a ≡ false
-first_is true b is = cc
-first_is false b is = refl
-
-second_is : (a b : Bool) → (a || b) ≡ false → b ≡ false
-second_is true b is = cc
-second_is false b is = is
-
 placed_inputs : (n : ℕ) (ds : List Entry) (input : InputType) → list_any is_input ds ≡ false → inputs_among (placed n (ds ++ Input input ∷ [])) ≡ input ∷ []
 placed_inputs n [] input off = refl
 placed_inputs n (Input other ∷ ds) input off = cc

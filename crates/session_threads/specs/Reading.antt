@@ -12,7 +12,7 @@ use Rattle.edges.specs.Streams.{Took}
 use Rattle.history_lock.specs.declared.known.Content.{Content}
 use Rattle.history_lock.specs.declared.known.View.{View}
 use Rattle.history_lock.specs.History.{Extends}
-use Rattle.jupyter_parts.specs.declared.fault.PartsError.{PartsError}
+use Rattle.link_messages.specs.Message.{signed}
 use Rattle.jupyter_parts.specs.Signed.{read_parts}
 use Rattle.zmtp_peer.specs.declared.fault.PeerFault.{PeerFault}
 use Rattle.zmtp_peer.specs.PeerStream.{Talk, talked, messages, fault_of}
@@ -33,11 +33,6 @@ pub record IsEntered (conn : ℕ) (old : Content) (message : Message) (inputs : 
   pub later : Extends old before
   pub meant : IsEnteredAs conn message (heard before.list conn message) inputs
   pub extends : Extends before new
-
--- the message that frames are, where they are signed
-abbrev pub signed : Result Message PartsError → Option Message
-signed (Ok message) = Some message
-signed (Err fault) = None
 
 -- of frames: what isn't signed with the key is passed over
 abbrev pub HearsAs : ℕ → Content → Option Message → List InputType → Content → Type 0

@@ -1,30 +1,16 @@
 -- What a writing session takes and writes.
-use Rattle.std.specs.Prelude.{◌≡◌, ◌≤◌, ⊤, ℕ, suc, min, List, [], ◌∷◌, length, map, take, slice_get, Option, Some, None, false}
+use Rattle.std.specs.Prelude.{◌≡◌, ◌≤◌, ⊤, ℕ, suc, List, [], ◌∷◌, length, map, take, slice_get, Option, Some, None, false}
 use Rattle.std.specs.List.{flat_map}
 use Rattle.cluster_types.specs.declared.out.Out.{Out}
-use Rattle.cluster_types.specs.declared.out.Out.TheVariants.{Pass, Made}
-use Rattle.cluster_types.specs.Limits.{last_moment}
 use Rattle.cluster_defs.specs.Outs.{outs_to}
-use Rattle.cluster_outgo.specs.Frames.{frames_of}
 use Rattle.cluster_store.specs.Stores.{is_live}
 use Rattle.edges.specs.Streams.{Added}
 use Rattle.history_lock.specs.declared.known.Content.{Content}
 use Rattle.history_lock.specs.declared.known.View.{View}
 use Rattle.history_lock.specs.History.{Extends}
-use Rattle.zmtp_peer.specs.Message.{message_written}
-use Rattle.link_greeting.specs.Greeting.{AddedFront}
+use Rattle.link_messages.specs.Outs.{octets_of}
+use Rattle.link_messages.specs.Written.{AddedFront}
 use Rattle.controller_desk.specs.Contents.{taken_seen}
-
--- OCTETS
-
--- an out whose moment has a date: one past the last such moment counts as that
-abbrev pub dated : Out → Out
-dated (Pass conn message) = Pass conn message
-dated (Made conn moment msg_id msg_type parent content buffers) = Made conn (min moment last_moment) msg_id msg_type parent content buffers
-
--- the octets of an out, signed under a key
-abbrev pub octets_of : List ℕ → Out → List ℕ
-octets_of key out = message_written (frames_of key (dated out))
 
 -- TAKES
 

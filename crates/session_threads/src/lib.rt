@@ -4,6 +4,7 @@
 
 pub mod admission;
 pub mod connection;
+pub mod context;
 mod hearing;
 mod outgoing;
 pub mod reading;

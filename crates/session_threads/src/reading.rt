@@ -14,108 +14,79 @@ ghost use Rattle.controller_desk.specs.Contents.{Rests};
 ghost use Rattle.session_threads.specs.Reading.{Entered, EnteredFront, TakesDown, HeardFront, HeardWith, ReadsFront, ReadsWhole};
 
 use crate::connection::Connection;
+use crate::context::{PassOf, SessionContext, SessionTypes};
 use crate::hearing::{end_of, hear_all};
-use controller_desk::desk::Desk;
 use controller_desk::fault::ActError;
-use controller_desk::locked::Locked;
-use disk_model::disk::Disk;
 use edges::source::{Got, Source};
-use history_lock::lock::Pass;
-use hmac_sign::Key;
 use link_greeting::end::SessionEnd;
+use link_greeting::greeting::Greeted;
 use load_schemes::chooser::Chooser;
-use std::alloc::Global;
 use std::sync::Wait;
-use thread_edges::clock::Clock;
 use thread_edges::gate::{Gate, Point};
-use thread_edges::words::Words;
 use zmtp_peer::fault::PeerFault;
 use zmtp_peer::peer::Peer;
-use zmtp_peer::phase::FramesList;
 
 /// How many octets are read at a time.
 const PIECE_OCTETS: usize = 65_536;
 
 /// Enters the messages of a piece of the stream. It tells the fault of the stream.
-fn take_piece<R: Wait, D: Disk + Drop, C: Clock + Drop, W: Words + Drop, G: Gate>(
-    rt: &R,
-    alloc: Global,
-    peer: &mut Peer,
-    desk: &Desk<D, C, W>,
-    pass: &mut Pass<Locked<D, C, W>>,
+fn take_piece<T: SessionTypes>(
+    context: &SessionContext<T>,
     chooser: &Chooser,
+    peer: &mut Peer,
+    pass: &mut PassOf<T>,
     connection: Connection,
-    key: &Key,
-    gate: &G,
     piece: &[u8],
 ) -> Result<Option<PeerFault>, SessionEnd>
-    requires idle { IsIdle (lock_id desk.now.lock) pass.old }
-    ensures idle { IsIdle (lock_id desk.now.lock) pass.new }
+    requires idle { IsIdle (lock_id context.now.desk.now.lock) pass.old }
+    ensures idle { IsIdle (lock_id context.now.desk.now.lock) pass.new }
     ensures room { room_of pass.new ≡ room_of pass.old }
-    ensures ok { OnOk result (Entered key.now connection.number (messages peer.old.talk piece.now) [] (known pass.old) (known pass.new)) }
+    ensures ok { OnOk result (Entered context.now.key.now connection.number (messages peer.old.talk piece.now) [] (known pass.old) (known pass.new)) }
     ensures talk { OnOk result (peer.new.talk ≡ talked peer.old.talk piece.now) }
     ensures fault { IfOk result (λ fault. fault ≡ fault_of (talked peer.old.talk piece.now).phase) }
-    ensures err { OnErr result (EnteredFront key.now connection.number (messages peer.old.talk piece.now) (known pass.old) (known pass.new)) }
+    ensures err { OnErr result (EnteredFront context.now.key.now connection.number (messages peer.old.talk piece.now) (known pass.old) (known pass.new)) }
     ensures ends { IfErr result EndsHearing }
     ensures cause { IfErr result (λ e. HasDeskCause e (known pass.old) (known pass.new)) }
     ensures closed { result ≡ Err SessionEnd.Closed → (is_live (known pass.new).seen.list connection.number ≡ false) × Rests (known pass.new).seen }
 {
     let fed = peer.feed(piece)?;
-    hear_all(
-        rt,
-        alloc,
-        desk,
-        pass,
-        chooser,
-        connection,
-        key,
-        gate,
-        fed.messages.as_slice(),
-    )?;
+    hear_all(context, chooser, pass, connection, fed.messages.as_slice())?;
     Ok(fed.fault)
 }
 
 /// Reads the stream to its end, and enters its messages.
-fn read_on<R: Wait, S: Source, D: Disk + Drop, C: Clock + Drop, W: Words + Drop, G: Gate>(
-    rt: &R,
-    alloc: Global,
+fn read_on<T: SessionTypes, S: Source>(
+    context: &SessionContext<T>,
+    chooser: &Chooser,
     reader: &mut S,
     mut peer: Peer,
-    desk: &Desk<D, C, W>,
-    pass: &mut Pass<Locked<D, C, W>>,
-    chooser: &Chooser,
+    pass: &mut PassOf<T>,
     connection: Connection,
-    key: &Key,
-    gate: &G,
 ) -> SessionEnd
-    requires idle { IsIdle (lock_id desk.now.lock) pass.old }
+    requires idle { IsIdle (lock_id context.now.desk.now.lock) pass.old }
     requires faultless { fault_of peer.talk.phase ≡ None }
-    ensures idle { IsIdle (lock_id desk.now.lock) pass.new }
+    ensures idle { IsIdle (lock_id context.now.desk.now.lock) pass.new }
     ensures room { room_of pass.new ≡ room_of pass.old }
-    ensures front { HeardFront key.now connection.number [] peer.talk (S.left reader.old) (S.left reader.new) (known pass.old) (known pass.new) }
-    ensures ended { result ≡ SessionEnd.Ended → HeardWith key.now connection.number [] peer.talk None (S.left reader.old) (S.left reader.new) (known pass.old) (known pass.new) × IsAtEnd (S.left reader.new) }
-    ensures fault { (f : Fault) → result ≡ SessionEnd.ZmtpFault f → HeardWith key.now connection.number [] peer.talk (Some f) (S.left reader.old) (S.left reader.new) (known pass.old) (known pass.new) }
-    ensures link { result ≡ SessionEnd.LinkFault → HeardWith key.now connection.number [] peer.talk None (S.left reader.old) (S.left reader.new) (known pass.old) (known pass.new) × Rose (S.faults reader.old) (S.faults reader.new) }
+    ensures front { HeardFront context.now.key.now connection.number [] peer.talk (S.left reader.old) (S.left reader.new) (known pass.old) (known pass.new) }
+    ensures ended { result ≡ SessionEnd.Ended → HeardWith context.now.key.now connection.number [] peer.talk None (S.left reader.old) (S.left reader.new) (known pass.old) (known pass.new) × IsAtEnd (S.left reader.new) }
+    ensures fault { (f : Fault) → result ≡ SessionEnd.ZmtpFault f → HeardWith context.now.key.now connection.number [] peer.talk (Some f) (S.left reader.old) (S.left reader.new) (known pass.old) (known pass.new) }
+    ensures link { result ≡ SessionEnd.LinkFault → HeardWith context.now.key.now connection.number [] peer.talk None (S.left reader.old) (S.left reader.new) (known pass.old) (known pass.new) × Rose (S.faults reader.old) (S.faults reader.new) }
     ensures closed { result ≡ SessionEnd.Closed → (is_live (known pass.new).seen.list connection.number ≡ false) × Rests (known pass.new).seen }
     ensures cause { HasDeskCause result (known pass.old) (known pass.new) }
 {
     let mut piece = [0u8; PIECE_OCTETS];
-    for _ in rt.forever() {
+    for _ in context.rt.forever() {
         let count = match reader.read(&mut piece) {
             Got::Bytes(count) => count,
             Got::End => return SessionEnd::Ended,
             Got::Failed => return SessionEnd::LinkFault,
         };
         match take_piece(
-            rt,
-            alloc,
-            &mut peer,
-            desk,
-            pass,
+            context,
             chooser,
+            &mut peer,
+            pass,
             connection,
-            key,
-            gate,
             &piece[..count],
         ) {
             Ok(None) => {}
@@ -127,47 +98,31 @@ fn read_on<R: Wait, S: Source, D: Disk + Drop, C: Clock + Drop, W: Words + Drop,
 }
 
 /// Enters the messages that came with the handshake, then reads the stream to its end and enters its messages.
-fn hear_stream<R: Wait, S: Source, D: Disk + Drop, C: Clock + Drop, W: Words + Drop, G: Gate>(
-    rt: &R,
-    alloc: Global,
-    reader: &mut S,
-    peer: Peer,
-    early: FramesList,
-    desk: &Desk<D, C, W>,
-    pass: &mut Pass<Locked<D, C, W>>,
+fn hear_stream<T: SessionTypes, S: Source>(
+    context: &SessionContext<T>,
     chooser: &Chooser,
+    reader: &mut S,
+    greeted: Greeted,
+    pass: &mut PassOf<T>,
     connection: Connection,
-    key: &Key,
-    gate: &G,
 ) -> SessionEnd
-    requires idle { IsIdle (lock_id desk.now.lock) pass.old }
-    requires short { All IsShortMessage early }
-    ensures idle { IsIdle (lock_id desk.now.lock) pass.new }
+    requires idle { IsIdle (lock_id context.now.desk.now.lock) pass.old }
+    requires short { All IsShortMessage greeted.early }
+    ensures idle { IsIdle (lock_id context.now.desk.now.lock) pass.new }
     ensures room { room_of pass.new ≡ room_of pass.old }
-    ensures front { HeardFront key.now connection.number early peer.talk (S.left reader.old) (S.left reader.new) (known pass.old) (known pass.new) }
-    ensures ended { result ≡ SessionEnd.Ended → HeardWith key.now connection.number early peer.talk None (S.left reader.old) (S.left reader.new) (known pass.old) (known pass.new) × IsAtEnd (S.left reader.new) }
-    ensures fault { (f : Fault) → result ≡ SessionEnd.ZmtpFault f → HeardWith key.now connection.number early peer.talk (Some f) (S.left reader.old) (S.left reader.new) (known pass.old) (known pass.new) }
-    ensures link { result ≡ SessionEnd.LinkFault → HeardWith key.now connection.number early peer.talk None (S.left reader.old) (S.left reader.new) (known pass.old) (known pass.new) × Rose (S.faults reader.old) (S.faults reader.new) }
+    ensures front { HeardFront context.now.key.now connection.number greeted.early greeted.peer.talk (S.left reader.old) (S.left reader.new) (known pass.old) (known pass.new) }
+    ensures ended { result ≡ SessionEnd.Ended → HeardWith context.now.key.now connection.number greeted.early greeted.peer.talk None (S.left reader.old) (S.left reader.new) (known pass.old) (known pass.new) × IsAtEnd (S.left reader.new) }
+    ensures fault { (f : Fault) → result ≡ SessionEnd.ZmtpFault f → HeardWith context.now.key.now connection.number greeted.early greeted.peer.talk (Some f) (S.left reader.old) (S.left reader.new) (known pass.old) (known pass.new) }
+    ensures link { result ≡ SessionEnd.LinkFault → HeardWith context.now.key.now connection.number greeted.early greeted.peer.talk None (S.left reader.old) (S.left reader.new) (known pass.old) (known pass.new) × Rose (S.faults reader.old) (S.faults reader.new) }
     ensures closed { result ≡ SessionEnd.Closed → (is_live (known pass.new).seen.list connection.number ≡ false) × Rests (known pass.new).seen }
     ensures cause { HasDeskCause result (known pass.old) (known pass.new) }
 {
-    match hear_all(
-        rt,
-        alloc,
-        desk,
-        pass,
-        chooser,
-        connection,
-        key,
-        gate,
-        early.as_slice(),
-    ) {
+    let Greeted { peer, early, .. } = greeted;
+    match hear_all(context, chooser, pass, connection, early.as_slice()) {
         Err(end) => end,
         Ok(()) => match peer.fault() {
             Some(fault) => SessionEnd::ZmtpFault(fault),
-            None => read_on(
-                rt, alloc, reader, peer, desk, pass, chooser, connection, key, gate,
-            ),
+            None => read_on(context, chooser, reader, peer, pass, connection),
         },
     }
 }
@@ -186,16 +141,15 @@ fn refused_end(end: SessionEnd, error: ActError) -> SessionEnd
 }
 
 /// Takes a connection down.
-fn take_down<R: Wait, D: Disk + Drop, C: Clock + Drop, W: Words + Drop>(
-    rt: &R,
-    desk: &Desk<D, C, W>,
-    pass: &mut Pass<Locked<D, C, W>>,
+fn take_down<T: SessionTypes>(
+    context: &SessionContext<T>,
     chooser: &Chooser,
+    pass: &mut PassOf<T>,
     conn: u32,
     end: SessionEnd,
 ) -> SessionEnd
-    requires idle { IsIdle (lock_id desk.now.lock) pass.old }
-    ensures idle { IsIdle (lock_id desk.now.lock) pass.new }
+    requires idle { IsIdle (lock_id context.now.desk.now.lock) pass.old }
+    ensures idle { IsIdle (lock_id context.now.desk.now.lock) pass.new }
     ensures room { room_of pass.new ≡ room_of pass.old }
     ensures down { TakesDown conn (known pass.old) (known pass.new) }
     ensures keeps { KeepsEnd end result }
@@ -203,23 +157,22 @@ fn take_down<R: Wait, D: Disk + Drop, C: Clock + Drop, W: Words + Drop>(
     ensures cause { (result ≡ end) ⊎ HasDeskCause result (known pass.old) (known pass.new) }
     ensures rests { Rests (known pass.new).seen }
 {
-    match desk.close_conn(rt, pass, chooser, conn) {
+    match context.desk.close_conn(context.rt, pass, chooser, conn) {
         Ok(_) => end,
         Err(error) => refused_end(end, error),
     }
 }
 
 /// Takes a connection down at the end of its session, where it may be live.
-fn finish<R: Wait, D: Disk + Drop, C: Clock + Drop, W: Words + Drop>(
-    rt: &R,
-    desk: &Desk<D, C, W>,
-    pass: &mut Pass<Locked<D, C, W>>,
+fn finish<T: SessionTypes>(
+    context: &SessionContext<T>,
     chooser: &Chooser,
+    pass: &mut PassOf<T>,
     conn: u32,
     end: SessionEnd,
 ) -> SessionEnd
-    requires idle { IsIdle (lock_id desk.now.lock) pass.old }
-    ensures idle { IsIdle (lock_id desk.now.lock) pass.new }
+    requires idle { IsIdle (lock_id context.now.desk.now.lock) pass.old }
+    ensures idle { IsIdle (lock_id context.now.desk.now.lock) pass.new }
     ensures room { room_of pass.new ≡ room_of pass.old }
     ensures down { TakesDown conn (known pass.old) (known pass.new) }
     ensures keeps { KeepsEnd end result }
@@ -230,7 +183,7 @@ fn finish<R: Wait, D: Disk + Drop, C: Clock + Drop, W: Words + Drop>(
 {
     match end {
         SessionEnd::Closed => end,
-        _ => take_down(rt, desk, pass, chooser, conn, end),
+        _ => take_down(context, chooser, pass, conn, end),
     }
 }
 
@@ -240,36 +193,29 @@ fn finish<R: Wait, D: Disk + Drop, C: Clock + Drop, W: Words + Drop>(
 ///
 /// It passes the gate at `Read` before the messages of the handshake and before those of each piece, wakes who waits at
 /// `Flush` after them, and in the end who waits at `Idle` on its connection.
-pub fn read_session<R: Wait, S: Source, D: Disk + Drop, C: Clock + Drop, W: Words + Drop, G: Gate>(
-    rt: &R,
-    alloc: Global,
-    reader: &mut S,
-    peer: Peer,
-    early: FramesList,
-    desk: &Desk<D, C, W>,
-    pass: &mut Pass<Locked<D, C, W>>,
+pub fn read_session<T: SessionTypes, S: Source>(
+    context: &SessionContext<T>,
     chooser: &Chooser,
+    reader: &mut S,
+    greeted: Greeted,
+    pass: &mut PassOf<T>,
     connection: Connection,
-    key: &Key,
-    gate: &G,
 ) -> SessionEnd
-    requires idle { IsIdle (lock_id desk.now.lock) pass.old }
-    requires short { All IsShortMessage early }
-    ensures idle { IsIdle (lock_id desk.now.lock) pass.new }
+    requires idle { IsIdle (lock_id context.now.desk.now.lock) pass.old }
+    requires short { All IsShortMessage greeted.early }
+    ensures idle { IsIdle (lock_id context.now.desk.now.lock) pass.new }
     ensures room { room_of pass.new ≡ room_of pass.old }
-    ensures front { ReadsFront key.now connection.number early peer.talk (S.left reader.old) (S.left reader.new) (known pass.old) (known pass.new) }
-    ensures ended { result ≡ SessionEnd.Ended → ReadsWhole key.now connection.number early peer.talk None (S.left reader.old) (S.left reader.new) (known pass.old) (known pass.new) × IsAtEnd (S.left reader.new) }
-    ensures fault { (f : Fault) → result ≡ SessionEnd.ZmtpFault f → ReadsWhole key.now connection.number early peer.talk (Some f) (S.left reader.old) (S.left reader.new) (known pass.old) (known pass.new) }
-    ensures link { result ≡ SessionEnd.LinkFault → ReadsWhole key.now connection.number early peer.talk None (S.left reader.old) (S.left reader.new) (known pass.old) (known pass.new) × Rose (S.faults reader.old) (S.faults reader.new) }
+    ensures front { ReadsFront context.now.key.now connection.number greeted.early greeted.peer.talk (S.left reader.old) (S.left reader.new) (known pass.old) (known pass.new) }
+    ensures ended { result ≡ SessionEnd.Ended → ReadsWhole context.now.key.now connection.number greeted.early greeted.peer.talk None (S.left reader.old) (S.left reader.new) (known pass.old) (known pass.new) × IsAtEnd (S.left reader.new) }
+    ensures fault { (f : Fault) → result ≡ SessionEnd.ZmtpFault f → ReadsWhole context.now.key.now connection.number greeted.early greeted.peer.talk (Some f) (S.left reader.old) (S.left reader.new) (known pass.old) (known pass.new) }
+    ensures link { result ≡ SessionEnd.LinkFault → ReadsWhole context.now.key.now connection.number greeted.early greeted.peer.talk None (S.left reader.old) (S.left reader.new) (known pass.old) (known pass.new) × Rose (S.faults reader.old) (S.faults reader.new) }
     ensures closed { result ≡ SessionEnd.Closed → is_live (known pass.new).seen.list connection.number ≡ false }
     ensures cause { HasDeskCause result (known pass.old) (known pass.new) }
     ensures rests { Rests (known pass.new).seen }
 {
-    let end = hear_stream(
-        rt, alloc, reader, peer, early, desk, pass, chooser, connection, key, gate,
-    );
-    let end = finish(rt, desk, pass, chooser, connection.number, end);
-    gate.wake(Point::Flush, 0);
-    gate.wake(Point::Idle, connection.number);
+    let end = hear_stream(context, chooser, reader, greeted, pass, connection);
+    let end = finish(context, chooser, pass, connection.number, end);
+    context.gate.wake(Point::Flush, 0);
+    context.gate.wake(Point::Idle, connection.number);
     end
 }

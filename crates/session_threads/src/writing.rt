@@ -7,20 +7,14 @@ ghost use Rattle.session_threads.specs.Ends.{EndsWriting};
 ghost use Rattle.controller_desk.specs.Contents.{Rests};
 ghost use Rattle.session_threads.specs.Writing.{HasNoMore, WritesFront, WritesWhole};
 
+use crate::context::{PassOf, SessionContext, SessionTypes};
 use crate::outgoing::{BatchEnd, take_batch};
-use controller_desk::desk::Desk;
-use controller_desk::locked::Locked;
-use disk_model::disk::Disk;
 use edges::sink::Sink;
-use history_lock::lock::Pass;
-use hmac_sign::Key;
 use link_greeting::end::SessionEnd;
 use link_greeting::link::write;
-use std::alloc::{AllocError, Global};
+use std::alloc::AllocError;
 use std::sync::Wait;
-use thread_edges::clock::Clock;
 use thread_edges::gate::{Gate, Point};
-use thread_edges::words::Words;
 
 /// Passes the gate for so many outs that were written.
 fn pass_wrote<R: Wait, G: Gate>(rt: &R, gate: &G, conn: u32, outs: usize) {
@@ -30,33 +24,29 @@ fn pass_wrote<R: Wait, G: Gate>(rt: &R, gate: &G, conn: u32, outs: usize) {
 }
 
 /// Writes the outs of a connection, in their order, until it isn't live and none is left. All outs that may be handed out
-/// are written at once, up to some octets.
+/// are written at once, but that no further one is taken once there are 4,096 of them or 65,536 octets of them.
 ///
 /// It passes the gate at `Wrote` for each out, after it was written. Where there is nothing to write yet it waits at `Idle`
 /// until it is woken, unless it was since it began to look.
-pub fn write_session<R: Wait, K: Sink, D: Disk + Drop, C: Clock + Drop, W: Words + Drop, G: Gate>(
-    rt: &R,
-    alloc: Global,
+pub fn write_session<T: SessionTypes, K: Sink>(
+    context: &SessionContext<T>,
     writer: &mut K,
-    desk: &Desk<D, C, W>,
-    pass: &mut Pass<Locked<D, C, W>>,
+    pass: &mut PassOf<T>,
     conn: u32,
-    key: &Key,
-    gate: &G,
 ) -> SessionEnd
-    requires idle { IsIdle (lock_id desk.now.lock) pass.old }
-    ensures idle { IsIdle (lock_id desk.now.lock) pass.new }
+    requires idle { IsIdle (lock_id context.now.desk.now.lock) pass.old }
+    ensures idle { IsIdle (lock_id context.now.desk.now.lock) pass.new }
     ensures room { room_of pass.new ≡ room_of pass.old }
-    ensures front { WritesFront key.now conn (known pass.old) (known pass.new) (K.written writer.old) (K.written writer.new) }
-    ensures whole { result ≡ SessionEnd.Closed → WritesWhole key.now conn (known pass.old) (known pass.new) (K.written writer.old) (K.written writer.new) }
+    ensures front { WritesFront context.now.key.now conn (known pass.old) (known pass.new) (K.written writer.old) (K.written writer.new) }
+    ensures whole { result ≡ SessionEnd.Closed → WritesWhole context.now.key.now conn (known pass.old) (known pass.new) (K.written writer.old) (K.written writer.new) }
     ensures closed { result ≡ SessionEnd.Closed → HasNoMore conn (known pass.new).seen }
     ensures ends { EndsWriting result }
     ensures cause { result ≡ SessionEnd.LinkFault → Rose (K.faults writer.old) (K.faults writer.new) }
     ensures rests { Rests (known pass.new).seen }
 {
-    for _ in rt.forever() {
-        let wakes = gate.wakes(Point::Idle, conn);
-        let batch = match take_batch(rt, alloc, desk, pass, conn, key) {
+    for _ in context.rt.forever() {
+        let wakes = context.gate.wakes(Point::Idle, conn);
+        let batch = match take_batch(context, pass, conn) {
             Ok(batch) => batch,
             Err(AllocError) => return SessionEnd::OutOfMemory,
         };
@@ -64,10 +54,10 @@ pub fn write_session<R: Wait, K: Sink, D: Disk + Drop, C: Clock + Drop, W: Words
             Ok(()) => {}
             Err(end) => return end,
         }
-        pass_wrote(rt, gate, conn, batch.outs);
+        pass_wrote(context.rt, context.gate, conn, batch.outs);
         match batch.end {
             BatchEnd::Full => {}
-            BatchEnd::NothingYet => gate.wait(rt, Point::Idle, conn, wakes),
+            BatchEnd::NothingYet => context.gate.wait(context.rt, Point::Idle, conn, wakes),
             BatchEnd::Closed => return SessionEnd::Closed,
         }
     }

@@ -9,10 +9,6 @@ use Rattle.link_commands.specs.declared.engine.EngineEnd.TheVariants as engines
 use Rattle.standing_commands.specs.Commands.{By, Telling}
 use Rattle.standing_commands.specs.Serving.{no_memory}
 
-pub some_all : {X : Type 0} (o : Option X) (P : X → Type 0) → ((x : X) → P x) → IfSome o P
-some_all None P each = tt
-some_all (Some x) P each = each x
-
 -- each command may end so, where nothing was done
 pub memory_by : {P I O D K A B : Type 0} (T : Type 0) (tells : Type 0) (image : D → List ℕ → Type 0) (told : Telling D K P A B) (disk : D) (starts : ℕ) (link : Tells I O) (links : Option (List (I × O))) (no_link : Type 0) (coming output : Option (List ℕ)) (no_output : Type 0) (c : StandingCommand) →
     By {P = P} {I = I} {O = O} {D = D} {K = K} {T = T} {A = A} {B = B} tells image told disk (record { before = starts; now = starts }) link (record { before = links; now = links }) no_link coming (record { before = output; now = output }) no_output c (no_memory {P = P} {I = I} {O = O} {D = D} {K = K} {T = T})

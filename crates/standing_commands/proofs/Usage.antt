@@ -78,7 +78,3 @@ by_not_usage tells image told disk starts link links no_link coming output no_ou
 by_not_usage tells image told disk starts link links no_link coming output no_output (Serve host port database options) result (same, still, inr (inr (start, begun, over))) is = serve_not _ _ _ over.desk over.end (sym (ap (λ r. r.0) over.is) ∙ is)
 by_not_usage tells image told disk starts link links no_link coming output no_output (Engine host port uuid key) result (same, still, (end, ends, shown)) is = engine_not _ _ _ _ end (sym (ap (λ r. r.0) shown) ∙ is)
 by_not_usage tells image told disk starts link links no_link coming output no_output (Client host port action key) result (still, (end, later, ends, shown)) is = client_not _ _ _ _ end (sym (ap (λ r. r.0) shown) ∙ is)
-
-pub read_by_none : {X : Type 0} (o : Option X) (P : X → Type 0) → IfSome o P → ((x : X) → P x → ⊥) → o ≡ None
-read_by_none None P all never = refl
-read_by_none (Some x) P all never = absurd (never x all)

@@ -9,6 +9,9 @@ use Rattle.command_words.specs.declared.ending.Ending.TheVariants as plain
 use Rattle.command_words.specs.declared.ending.StandingEnding.{StandingEnding}
 use Rattle.command_words.specs.declared.ending.StandingEnding.TheVariants as endings
 use Rattle.controller_desk.specs.declared.desk.Desk.{Desk}
+use Rattle.disk_model.specs.declared.disk.Disk.{Ghosts as OfDisk}
+use Rattle.thread_edges.specs.declared.clock.Clock.{Ghosts as OfClock}
+use Rattle.thread_edges.specs.declared.words.Words.{Ghosts as OfWords}
 use Rattle.controller_desk.specs.Contents.{faults_seen}
 use Rattle.controller_threads.specs.Ends.{EndCause}
 use Rattle.controller_threads.specs.declared.end.ServeEnd.{ServeEnd}
@@ -25,7 +28,7 @@ use Rattle.task_journal.specs.declared.fault.OpenFault.{OpenFault}
 use Rattle.task_journal.specs.declared.fault.OpenFault.TheVariants as refusals
 
 -- the lock of a desk that threads share
-abbrev pub lock_of : {D C W Z : Type 0} → Arc (Desk D C W) Z → LockId
+abbrev pub lock_of : {D C W Z : Type 0} {disk : OfDisk D} {clock : OfClock C} {words : OfWords W} → Arc (Desk D C W disk clock words) Z → LockId
 lock_of desk = lock_id (arc_value desk).lock
 
 -- how the program ends where a controller over a desk has ended so, and what shows it

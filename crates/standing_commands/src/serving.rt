@@ -16,10 +16,12 @@ use controller_desk::locked::Locked;
 use controller_threads::end::ServeEnd;
 use controller_threads::serving::serve;
 use controller_workers::ports::Ports;
+use controller_workers::shared::Serving;
 use disk_model::disk::Disk;
 use hmac_sign::Key;
 use load_schemes::chooser::Chooser;
 use quick_commands::opening::{config_of, ending_of_refusal};
+use session_threads::context::TypesOf;
 use std::alloc::Global;
 use std::sync::{Arc, Wait};
 use std::thread::Threads;
@@ -117,7 +119,14 @@ fn serve_store<
     let Ok(shared) = Arc::try_clone(&desk) else {
         return (StandingEnding::Plain(Ending::OutOfMemory), Shown::Nothing);
     };
-    let end = serve(rt, alloc, ports, shared, pass, chooser, key, spawner, gate);
+    let serving = Serving::<TypesOf<D, C, W, G, R>> {
+        rt,
+        alloc,
+        desk: shared,
+        key,
+        gate,
+    };
+    let end = serve(serving, ports, pass, chooser, spawner);
     shown_end(desk, end)
 }
 

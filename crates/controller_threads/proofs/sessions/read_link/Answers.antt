@@ -1,6 +1,6 @@
-use Rattle.controller_workers.proofs.Seeing.{named, since_later}
+use Rattle.controller_workers.proofs.Seeing.{since_later}
 use Rattle.controller_threads.proofs.sessions.read_link.Goals as goal
 
 pub returns-clause-since : goal.returns-clause-since
 returns-clause-since g c =
-    since_later _ g.N.Naming.lock g.N.Naming.start c.args.pass.now c.read_session.new.pass (named c.deref.ensures c.args.shared.now.named) c.requires.since c.read_session.ensures.idle c.read_session.ensures.front.entered.adds.later
+    since_later _ g.N.Naming.lock g.N.Naming.start c.args.pass.now c.read_session.new.pass c.context.ensures c.requires.since c.read_session.ensures.idle c.read_session.ensures.front.entered.adds.later

@@ -1,7 +1,7 @@
 use Rattle.std.proofs.Common.{◌∙◌, refl, arith}
-use Rattle.link_greeting.proofs.Results.{at_err}
 use Rattle.session_threads.proofs.Entering.{none_entered, entered_next, front_here}
 use Rattle.session_threads.proofs.hearing.hear_each.Goals as goal
+use Rattle.cluster_types.proofs.Options.{at_err}
 
 pub loop-frames-init : goal.loop-frames-init
 loop-frames-init g c = record { idle = c.requires.idle; room = refl; entered = none_entered _ _ _ }

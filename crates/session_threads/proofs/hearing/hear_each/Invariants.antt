@@ -5,7 +5,7 @@ use Rattle.session_threads.proofs.hearing.hear_each.Given as goal
 
 abbrev pub invariant-loop-frames : goal.invariant-loop-frames
 invariant-loop-frames g l = record {
-  idle : IsIdle (lock_id l.desk.lock) l.pass;
+  idle : IsIdle (lock_id l.context.desk.now.lock) l.pass;
   room : room_of l.pass ≡ room_of l.initial.pass;
-  entered : Entered l.key l.connection.number (take l.frames-index l.messages) [] (known l.initial.pass) (known l.pass);
+  entered : Entered l.context.key.now l.connection.number (take l.frames-index l.messages) [] (known l.initial.pass) (known l.pass);
 }

@@ -6,8 +6,8 @@ use Rattle.session_threads.proofs.outgoing.take_batch.Given as goal
 
 abbrev pub invariant-loop-outs : goal.invariant-loop-outs
 invariant-loop-outs g l = record {
-  idle : IsIdle (lock_id l.desk.lock) l.pass;
+  idle : IsIdle (lock_id l.context.desk.now.lock) l.pass;
   room : room_of l.pass ≡ room_of l.fn.pass;
-  took : Took l.key l.conn l.octets.items (known l.fn.pass) (known l.pass);
+  took : Took l.context.key.now l.conn l.octets.items (known l.fn.pass) (known l.pass);
   rested : 0 < l.outs → Rests (known l.pass).seen;
 }

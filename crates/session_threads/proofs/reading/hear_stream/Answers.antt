@@ -13,7 +13,7 @@ hear_all-requires-clause-short g c = subst (λ (ms : List (List (List ℕ))). Al
 
 pub returns-in-Err-clause-front : goal.returns-in-Err-clause-front
 returns-in-Err-clause-front g c =
-    front_early _ _ _ _ _ _ _ (subst (λ (ms : List (List (List ℕ))). EnteredFront c.args.key.now c.args.connection.number ms (known c.args.pass.now) (known c.hear_all.new.pass)) c.as_slice.ensures c.in-Err.ensures.err)
+    front_early _ _ _ _ _ _ _ (subst (λ (ms : List (List (List ℕ))). EnteredFront c.args.context.now.key.now c.args.connection.number ms (known c.args.pass.now) (known c.hear_all.new.pass)) c.as_slice.ensures c.in-Err.ensures.err)
 
 pub returns-in-Err-clause-ended : goal.returns-in-Err-clause-ended
 returns-in-Err-clause-ended g c = λ is. absurd (subst EndsHearing is c.in-Err.ensures.ends)
@@ -29,38 +29,38 @@ returns-in-Err-clause-closed g c = λ is. c.in-Err.ensures.closed (ap Err is)
 
 pub returns-in-Some-clause-front : goal.returns-in-Some-clause-front
 returns-in-Some-clause-front g c =
-    front_of _ _ _ _ _ _ _ _ _ (heard_early _ _ _ c.args.peer.talk _ _ _ (subst (λ (ms : List (List (List ℕ))). Entered c.args.key.now c.args.connection.number ms [] (known c.args.pass.now) (known c.hear_all.new.pass)) c.as_slice.ensures c.in-Ok.ensures.ok))
+    front_of _ _ _ _ _ _ _ _ _ (heard_early _ _ _ c.args.greeted.peer.talk _ _ _ (subst (λ (ms : List (List (List ℕ))). Entered c.args.context.now.key.now c.args.connection.number ms [] (known c.args.pass.now) (known c.hear_all.new.pass)) c.as_slice.ensures c.in-Ok.ensures.ok))
 
 pub returns-in-Some-clause-fault : goal.returns-in-Some-clause-fault
 returns-in-Some-clause-fault g c =
     λ f is.
     let same : Some c.in-Some.fault ≡ Some f = cc in (
-      c.args.peer.talk,
-      heard_early _ _ _ c.args.peer.talk _ _ _ (subst (λ (ms : List (List (List ℕ))). Entered c.args.key.now c.args.connection.number ms [] (known c.args.pass.now) (known c.hear_all.new.pass)) c.as_slice.ensures c.in-Ok.ensures.ok),
+      c.args.greeted.peer.talk,
+      heard_early _ _ _ c.args.greeted.peer.talk _ _ _ (subst (λ (ms : List (List (List ℕ))). Entered c.args.context.now.key.now c.args.connection.number ms [] (known c.args.pass.now) (known c.hear_all.new.pass)) c.as_slice.ensures c.in-Ok.ensures.ok),
       sym c.fault.ensures ∙ c.in-Some.is ∙ same,
     )
 
-pub returns-in-None-clause-front : goal.returns-in-None-clause-front
-returns-in-None-clause-front g c =
-    front_behind _ _ _ _ _ _ _ _ _ (subst (λ (ms : List (List (List ℕ))). Entered c.args.key.now c.args.connection.number ms [] (known c.args.pass.now) (known c.hear_all.new.pass)) c.as_slice.ensures c.in-Ok.ensures.ok) c.read_on.ensures.front
+pub returns-clause-front : goal.returns-clause-front
+returns-clause-front g c =
+    front_behind _ _ _ _ _ _ _ _ _ (subst (λ (ms : List (List (List ℕ))). Entered c.args.context.now.key.now c.args.connection.number ms [] (known c.args.pass.now) (known c.hear_all.new.pass)) c.as_slice.ensures c.in-Ok.ensures.ok) c.read_on.ensures.front
 
-pub returns-in-None-clause-ended : goal.returns-in-None-clause-ended
-returns-in-None-clause-ended g c =
+pub returns-clause-ended : goal.returns-clause-ended
+returns-clause-ended g c =
     λ is.
     let h = c.read_on.ensures.ended is in
-    (with_behind _ _ _ _ _ _ _ _ _ _ (subst (λ (ms : List (List (List ℕ))). Entered c.args.key.now c.args.connection.number ms [] (known c.args.pass.now) (known c.hear_all.new.pass)) c.as_slice.ensures c.in-Ok.ensures.ok) h.0, h.1)
+    (with_behind _ _ _ _ _ _ _ _ _ _ (subst (λ (ms : List (List (List ℕ))). Entered c.args.context.now.key.now c.args.connection.number ms [] (known c.args.pass.now) (known c.hear_all.new.pass)) c.as_slice.ensures c.in-Ok.ensures.ok) h.0, h.1)
 
-pub returns-in-None-clause-fault : goal.returns-in-None-clause-fault
-returns-in-None-clause-fault g c =
-    λ f is. with_behind _ _ _ _ _ _ _ _ _ _ (subst (λ (ms : List (List (List ℕ))). Entered c.args.key.now c.args.connection.number ms [] (known c.args.pass.now) (known c.hear_all.new.pass)) c.as_slice.ensures c.in-Ok.ensures.ok) (c.read_on.ensures.fault f is)
+pub returns-clause-fault : goal.returns-clause-fault
+returns-clause-fault g c =
+    λ f is. with_behind _ _ _ _ _ _ _ _ _ _ (subst (λ (ms : List (List (List ℕ))). Entered c.args.context.now.key.now c.args.connection.number ms [] (known c.args.pass.now) (known c.hear_all.new.pass)) c.as_slice.ensures c.in-Ok.ensures.ok) (c.read_on.ensures.fault f is)
 
-pub returns-in-None-clause-link : goal.returns-in-None-clause-link
-returns-in-None-clause-link g c =
+pub returns-clause-link : goal.returns-clause-link
+returns-clause-link g c =
     λ is.
     let h = c.read_on.ensures.link is in
-    (with_behind _ _ _ _ _ _ _ _ _ _ (subst (λ (ms : List (List (List ℕ))). Entered c.args.key.now c.args.connection.number ms [] (known c.args.pass.now) (known c.hear_all.new.pass)) c.as_slice.ensures c.in-Ok.ensures.ok) h.0, h.1)
+    (with_behind _ _ _ _ _ _ _ _ _ _ (subst (λ (ms : List (List (List ℕ))). Entered c.args.context.now.key.now c.args.connection.number ms [] (known c.args.pass.now) (known c.hear_all.new.pass)) c.as_slice.ensures c.in-Ok.ensures.ok) h.0, h.1)
 
-pub returns-in-None-clause-cause : goal.returns-in-None-clause-cause
-returns-in-None-clause-cause g c =
-    let e = subst (λ (ms : List (List (List ℕ))). Entered c.args.key.now c.args.connection.number ms [] (known c.args.pass.now) (known c.hear_all.new.pass)) c.as_slice.ensures c.in-Ok.ensures.ok in
+pub returns-clause-cause : goal.returns-clause-cause
+returns-clause-cause g c =
+    let e = subst (λ (ms : List (List (List ℕ))). Entered c.args.context.now.key.now c.args.connection.number ms [] (known c.args.pass.now) (known c.hear_all.new.pass)) c.as_slice.ensures c.in-Ok.ensures.ok in
     cause_since _ _ _ _ e.adds.later c.read_on.ensures.cause

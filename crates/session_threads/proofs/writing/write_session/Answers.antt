@@ -1,9 +1,9 @@
 use Rattle.std.proofs.Common.{◌∙◌, List, ℕ, refl, subst, arith, le_refl}
 use Rattle.edges.specs.Streams.{Added}
-use Rattle.link_greeting.specs.Greeting.{AddedFront}
+use Rattle.link_messages.specs.Written.{AddedFront}
 use Rattle.session_threads.proofs.Sending.{sent_none, sent_more, whole, front_now, front_more}
-use Rattle.link_greeting.proofs.Shaking.{front_none}
 use Rattle.session_threads.proofs.writing.write_session.Goals as goal
+use Rattle.link_messages.proofs.Fronts.{front_none}
 
 pub loop-init : goal.loop-init
 loop-init g c = record { idle = c.requires.idle; room = refl; sent = sent_none _ _ _ _; writes = le_refl _ }

@@ -1,7 +1,6 @@
 use Rattle.std.proofs.Common.{◌≡◌, ap, inr, subst}
 use Rattle.std.specs.Arc.{arc_value}
 use Rattle.controller_desk.specs.Contents.{content_of}
-use Rattle.controller_desk.specs.declared.desk.Desk.{Desk}
 use Rattle.controller_threads.specs.Ends.{EndCause}
 use Rattle.history_lock.specs.declared.known.Content.{Content}
 use Rattle.history_lock.specs.declared.known.View.{View}
@@ -14,7 +13,7 @@ returns g c =
     let at_start : EndCause (lock_of c.in-Ok-try_clone.shared) (content_of g.D.Disk.faults c.args.store) g.L.Listener.links g.L.Listener.faults c.args.spawner.now.faults c.serve-end.new.spawner.faults c.serve-end.result =
     subst (λ (start : Content). EndCause (lock_of c.in-Ok-try_clone.shared) start g.L.Listener.links g.L.Listener.faults c.args.spawner.now.faults c.serve-end.new.spawner.faults c.serve-end.result) (ap (λ (v : View). v.seen) c.in-Ok.ensures.known) c.serve-end.ensures in
     let arcs : arc_value c.in-Ok-try_clone.shared ≡ arc_value c.in-Ok-new.desk = c.in-Ok-try_clone.ensures in
-    let same : lock_of c.in-Ok-try_clone.shared ≡ lock_of c.in-Ok-new.desk = ap (λ (d : Desk g.row.D.Denot g.row.C.Denot g.row.W.Denot). lock_id d.lock) arcs in
+    let same : lock_of c.in-Ok-try_clone.shared ≡ lock_of c.in-Ok-new.desk = ap (λ d. lock_id d.lock) arcs in
     inr (record {
       desk = c.in-Ok-new.desk;
       end = c.serve-end.result;

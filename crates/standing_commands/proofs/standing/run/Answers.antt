@@ -3,8 +3,9 @@ use Rattle.command_words.specs.Standing.{standing_reading}
 use Rattle.standing_commands.specs.Commands.{By}
 use Rattle.standing_commands.specs.Serving.{lock_of, no_memory}
 use Rattle.standing_commands.proofs.Ranges.{reading_in}
-use Rattle.standing_commands.proofs.Memory.{memory_by, some_all}
+use Rattle.standing_commands.proofs.Memory.{memory_by}
 use Rattle.standing_commands.proofs.standing.run.Goals as goal
+use Rattle.quick_commands.proofs.Unbegun.{some_all}
 
 pub obey-requires-after_bounds : goal.obey-requires-after_bounds
 obey-requires-after_bounds g c κs bounds = reading_in c.args.words.now c.in-Ok.command c.in-Ok.ensures.ok

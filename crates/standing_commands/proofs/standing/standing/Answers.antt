@@ -6,8 +6,9 @@ use Rattle.quick_commands.specs.Written.{Said}
 use Rattle.standing_commands.specs.Commands.{By}
 use Rattle.standing_commands.specs.Serving.{lock_of}
 use Rattle.standing_commands.proofs.Saying.{ends_as}
-use Rattle.standing_commands.proofs.Usage.{by_not_usage, read_by_none, usage_of}
+use Rattle.standing_commands.proofs.Usage.{by_not_usage, usage_of}
 use Rattle.standing_commands.proofs.standing.standing.Goals as goal
+use Rattle.quick_commands.proofs.Ends.{read_by_none}
 
 pub returns-clause-ended : goal.returns-clause-ended
 returns-clause-ended g c =

@@ -8,4 +8,4 @@ use Rattle.controller_desk.proofs.desk.Desk.stopping.Goals as goal
 -- the store is put back as it was taken, so that the turn adds nothing
 pub returns-clause-added : goal.returns-clause-added
 returns-clause-added g c =
-    (turned [] (known c.args.pass.now) _ _ (content_of g.D.Disk.faults c.enter-locked.result) (content_of g.D.Disk.faults c.enter-locked.result) c.enter-locked.ensures.later c.enter-locked.ensures.known c.leave.ensures.known refl (extends_self _)).added
+    (turned [] (known c.args.pass.now) _ _ (content_of g.D.Disk.faults c.enter-locked.result.store.value) (content_of g.D.Disk.faults c.enter-locked.result.store.value) c.enter-locked.ensures.later c.enter-locked.ensures.known c.leave.ensures.known refl (extends_self _)).added

@@ -1,11 +1,20 @@
-use Rattle.std.proofs.Common.{sym, subst}
+use Rattle.std.proofs.Common.{◌≡◌, sym, subst}
 use Rattle.history_lock.specs.History.{Extends}
+use Rattle.controller_desk.specs.Calls.{HasTaken}
 use Rattle.controller_desk.specs.Contents.{content_of}
-use Rattle.controller_desk.proofs.Extending.{in_turn}
+use Rattle.controller_desk.proofs.Extending.{in_turn, taken_on}
 use Rattle.controller_desk.proofs.desk.Desk.take_out.Goals as goal
 
 pub leave-requires-clause-later : goal.leave-requires-clause-later
-leave-requires-clause-later g c = subst (λ v. Extends v.seen (content_of g.D.Disk.faults c.take_out-result.new.self)) (sym c.enter-locked.ensures.known) c.take_out-result.ensures.on.extends
+leave-requires-clause-later g c =
+    let same : c.deref_mut.result.now ≡ c.enter-locked.result.store.value = search in
+    let made = subst (λ v. HasTaken v c.args.conn c.take_on-result.result c.take_on-result.new.store) same c.take_on-result.ensures.taken in
+    let on = taken_on g.D.Disk.faults c.enter-locked.result.store.value c.args.conn c.take_on-result.result c.take_on-result.new.store made in
+    subst (λ v. Extends v.seen (content_of g.D.Disk.faults c.take_on-result.new.store)) (sym c.enter-locked.ensures.known) on.extends
 
 pub returns-clause-turn : goal.returns-clause-turn
-returns-clause-turn g c = (c.enter-locked.result, c.take_out-result.new.self, in_turn g.D.Disk.faults _ _ _ c.enter-locked.result c.take_out-result.new.self c.enter-locked.ensures.later c.enter-locked.ensures.known c.leave.ensures.known c.take_out-result.ensures.on, c.take_out-result.ensures.taken)
+returns-clause-turn g c =
+    let same : c.deref_mut.result.now ≡ c.enter-locked.result.store.value = search in
+    let made = subst (λ v. HasTaken v c.args.conn c.take_on-result.result c.take_on-result.new.store) same c.take_on-result.ensures.taken in
+    let on = taken_on g.D.Disk.faults c.enter-locked.result.store.value c.args.conn c.take_on-result.result c.take_on-result.new.store made in
+    (c.enter-locked.result.store.value, c.take_on-result.new.store, in_turn g.D.Disk.faults _ _ _ c.enter-locked.result.store.value c.take_on-result.new.store c.enter-locked.ensures.later c.enter-locked.ensures.known c.leave.ensures.known on, made)

@@ -1,11 +1,21 @@
-use Rattle.std.proofs.Common.{sym, subst}
+use Rattle.std.proofs.Common.{◌≡◌, sym, subst, refl}
+use Rattle.cluster_types.specs.declared.entry.Input.TheVariants.{Time}
 use Rattle.history_lock.specs.History.{Extends}
+use Rattle.controller_desk.specs.Calls.{HasTried}
 use Rattle.controller_desk.specs.Contents.{content_of}
-use Rattle.controller_desk.proofs.Extending.{in_turn}
+use Rattle.controller_desk.proofs.Extending.{in_turn, tried_on}
 use Rattle.controller_desk.proofs.desk.Desk.time.Goals as goal
 
 pub leave-requires-clause-later : goal.leave-requires-clause-later
-leave-requires-clause-later g c = subst (λ v. Extends v.seen (content_of g.D.Disk.faults c.time-result.new.self)) (sym c.enter-locked.ensures.known) c.time-result.ensures.on.extends
+leave-requires-clause-later g c =
+    let same : c.deref_mut.result.now ≡ c.enter-locked.result.store.value = search in
+    let made = subst (λ v. HasTried v (Time c.draw-stamp.result.moment c.draw-stamp.result.word) c.time_on-result.result c.time_on-result.new.store) same c.time_on-result.ensures.tried in
+    let on = tried_on g.D.Disk.faults c.enter-locked.result.store.value (Time c.draw-stamp.result.moment c.draw-stamp.result.word) c.time_on-result.result c.time_on-result.new.store c.draw-stamp.ensures.fulls refl made in
+    subst (λ v. Extends v.seen (content_of g.D.Disk.faults c.time_on-result.new.store)) (sym c.enter-locked.ensures.known) on.extends
 
 pub returns-clause-turn : goal.returns-clause-turn
-returns-clause-turn g c = (c.enter-locked.result, c.time-result.new.self, in_turn g.D.Disk.faults _ _ _ c.enter-locked.result c.time-result.new.self c.enter-locked.ensures.later c.enter-locked.ensures.known c.leave.ensures.known c.time-result.ensures.on, c.time-result.ensures.tried.0, c.time-result.ensures.tried.1, c.time-result.ensures.tried.2)
+returns-clause-turn g c =
+    let same : c.deref_mut.result.now ≡ c.enter-locked.result.store.value = search in
+    let made = subst (λ v. HasTried v (Time c.draw-stamp.result.moment c.draw-stamp.result.word) c.time_on-result.result c.time_on-result.new.store) same c.time_on-result.ensures.tried in
+    let on = tried_on g.D.Disk.faults c.enter-locked.result.store.value (Time c.draw-stamp.result.moment c.draw-stamp.result.word) c.time_on-result.result c.time_on-result.new.store c.draw-stamp.ensures.fulls refl made in
+    (c.enter-locked.result.store.value, c.time_on-result.new.store, in_turn g.D.Disk.faults _ _ _ c.enter-locked.result.store.value c.time_on-result.new.store c.enter-locked.ensures.later c.enter-locked.ensures.known c.leave.ensures.known on, (c.draw-stamp.result.moment, c.draw-stamp.result.word, made))

@@ -6,5 +6,5 @@ use Rattle.controller_workers.proofs.shared.Shared.flush_last.Goals as goal
 pub returns-clause-rested : goal.returns-clause-rested
 returns-clause-rested g c =
     let t = c.flush.ensures.turn in
-    rested_later _ g.N.Naming.lock g.N.Naming.start c.args.pass.now c.flush.new.pass (named c.deref.ensures c.args.self.now.named) c.requires.since c.flush.ensures.idle
-    (turn_later g.D.Disk.faults (known c.args.pass.now) (known c.flush.new.pass) t.0 t.1 t.2) c.flush.ensures.rests
+    rested_later _ g.N.Naming.lock g.N.Naming.start c.args.pass.now c.flush.new.pass (named c.deref.ensures c.args.self.now.named) c.requires.since c.flush.ensures.back.0
+    (turn_later g.T.Disk.Disk.faults (known c.args.pass.now) (known c.flush.new.pass) t.0 t.1 t.2) c.flush.ensures.back.2
