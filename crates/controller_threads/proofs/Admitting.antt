@@ -13,9 +13,9 @@ use Rattle.history_lock.specs.declared.lock.Pass.{Pass}
 use Rattle.history_lock.specs.History.{Extends}
 use Rattle.history_lock.proofs.Growing.{extends_self}
 use Rattle.history_lock.specs.Names.{LockId, known, IsIdle}
-use Rattle.controller_workers.specs.Halts.{RefusalCause}
-use Rattle.controller_workers.specs.Passes.{IsLater, IsSince}
-use Rattle.controller_workers.proofs.Halting.{refusal_cause}
+use Rattle.controller_threads.specs.Halts.{RefusalCause}
+use Rattle.controller_threads.specs.Passes.{IsLater, IsSince}
+use Rattle.controller_threads.proofs.Halting.{refusal_cause}
 use Rattle.session_threads.specs.declared.admission.AdmitEnd.{AdmitEnd}
 use Rattle.session_threads.specs.declared.admission.AdmitEnd.TheVariants.{NoPass, Act}
 use Rattle.session_threads.specs.Admission.{IsFrom, OpensInTurn}

@@ -1,1 +1,3 @@
 pub mod Admitting
+pub mod Halting
+pub mod Seeing

@@ -3,10 +3,10 @@ use Rattle.std.specs.Prelude.{◌≡◌, ◌≤◌, ⊤, ℕ, List, Option}
 use Rattle.cluster_types.specs.Causes.{Rose}
 use Rattle.history_lock.specs.declared.known.Content.{Content}
 use Rattle.history_lock.specs.Names.{LockId, known}
-use Rattle.controller_workers.specs.declared.halt.Halt.TheVariants as halts
-use Rattle.controller_workers.specs.Halts.{HaltCause}
-use Rattle.controller_workers.specs.Passes.{IsRested}
-use Rattle.controller_workers.specs.Ports.{HaveNoLinks}
+use Rattle.controller_threads.specs.declared.halt.Halt.TheVariants as halts
+use Rattle.controller_threads.specs.Halts.{HaltCause}
+use Rattle.controller_threads.specs.Passes.{IsRested}
+use Rattle.controller_threads.specs.Ports.{HaveNoLinks}
 use Rattle.link_greeting.specs.declared.end.SessionEnd.{SessionEnd}
 use Rattle.link_greeting.specs.declared.end.SessionEnd.TheVariants as sessions
 use Rattle.controller_threads.specs.declared.end.ServeEnd.{ServeEnd}

@@ -1,1 +1,4 @@
 pub mod Ends
+pub mod Halts
+pub mod Passes
+pub mod Ports

@@ -1,7 +1,7 @@
 //! How `serve` ends.
 
+use crate::ports::Ports;
 use cluster_types::config::Channel;
-use controller_workers::ports::Ports;
 use history_lock::lock::Pass;
 
 /// How `serve` ended, where it has ports `P` and a desk whose lock holds `T`.

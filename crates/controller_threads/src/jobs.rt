@@ -2,22 +2,22 @@
 
 ghost use Rattle.std.specs.Prelude.{◌≡◌, ◌≤◌, ◌<◌, ◌+◌, ℕ, IfErr, OnOk};
 ghost use Rattle.history_lock.specs.Names.{room_of};
-ghost use Rattle.controller_workers.specs.Halts.{StopsAtStart};
+ghost use Rattle.controller_threads.specs.Halts.{StopsAtStart};
 
+use crate::accepting::Accepting;
 use crate::caller::Caller;
+use crate::greeting::Greeting;
+use crate::handed::{Link, ShortGreeted};
+use crate::naming::Naming;
 use crate::opening::Admission;
+use crate::passes::NamedPass;
+use crate::port::Port;
+use crate::ports::Ports;
 use crate::sessions::{ReadingSession, WritingSession};
+use crate::starting::{start, start_choosing};
+use crate::stop::Stop;
+use crate::workers::{Flushing, Recurring, Rhythm};
 use cluster_types::config::Channel;
-use controller_workers::accepting::Accepting;
-use controller_workers::greeting::Greeting;
-use controller_workers::handed::{Link, ShortGreeted};
-use controller_workers::naming::Naming;
-use controller_workers::passes::NamedPass;
-use controller_workers::port::Port;
-use controller_workers::ports::Ports;
-use controller_workers::starting::{start, start_choosing};
-use controller_workers::stop::Stop;
-use controller_workers::workers::{Flushing, Recurring, Rhythm};
 use session_threads::connection::Connection;
 use session_threads::context::{LockedOf, SessionTypes};
 use std::sync::{Arc, Wait};

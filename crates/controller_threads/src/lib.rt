@@ -1,9 +1,23 @@
 //! The caller of a controller's threads, which gives each link its sessions over one desk.
 #![tactic(auto)]
 
+pub mod accepting;
 mod caller;
 pub mod end;
+pub mod greeting;
+pub mod halt;
+pub mod handed;
 mod jobs;
+pub mod naming;
 mod opening;
+pub mod passes;
+pub mod port;
+pub mod ports;
+pub mod queue;
 pub mod serving;
 mod sessions;
+pub mod shared;
+pub mod starting;
+pub mod stop;
+pub mod workers;
+pub mod writers;

@@ -8,7 +8,7 @@ use cluster_types::config::Scheme;
 use cluster_types::message::WordList;
 use command_words::ending::{Ending, StandingEnding};
 use command_words::standing::StandingCommand;
-use controller_workers::ports::Ports;
+use controller_threads::ports::Ports;
 use disk_model::disk::Disk;
 use disk_model::file::FileDisk;
 use disk_model::memory::MemDisk;

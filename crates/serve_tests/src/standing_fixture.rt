@@ -8,7 +8,7 @@ use cluster_types::message::WordList;
 use cluster_types::text::Text;
 use controller_desk::desk::Desk;
 use controller_desk::locked::Locked;
-use controller_workers::ports::Ports;
+use controller_threads::ports::Ports;
 use disk_model::memory::MemDisk;
 use edges::memory::{MemSink, MemSource};
 use load_schemes::chooser::{Choose, Chooser};

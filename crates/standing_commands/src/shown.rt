@@ -1,7 +1,7 @@
 //! What shows how a command ended.
 
 use cluster_types::config::Channel;
-use controller_workers::ports::Ports;
+use controller_threads::ports::Ports;
 use history_lock::lock::Pass;
 
 /// What shows the status of a command, over ports `P`, links of readers `I` and writers `O`, a disk `D`, and a desk `K` whose

@@ -17,7 +17,7 @@ use cluster_types::message::WordList;
 use command_words::command::CommandError;
 use command_words::ending::{Ending, StandingEnding};
 use command_words::standing::{StandingCommand, standing_command_of};
-use controller_workers::ports::Ports;
+use controller_threads::ports::Ports;
 use disk_model::disk::Disk;
 use edges::sink::Sink;
 use load_schemes::chooser::Chooser;

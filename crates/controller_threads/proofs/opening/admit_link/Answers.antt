@@ -1,6 +1,6 @@
 use Rattle.std.proofs.Common.{◌∙◌, Err, ap}
 use Rattle.history_lock.specs.Names.{known, lock_id}
-use Rattle.controller_workers.proofs.Seeing.{extends_of, since_later}
+use Rattle.controller_threads.proofs.Seeing.{extends_of, since_later}
 use Rattle.controller_threads.proofs.Admitting.{all_idle, all_since, opens_cause, opens_later, refused_later, since_from}
 use Rattle.controller_threads.proofs.opening.admit_link.Goals as goal
 

@@ -1,4 +1,4 @@
-use Rattle.controller_workers.proofs.Seeing.{since_later}
+use Rattle.controller_threads.proofs.Seeing.{since_later}
 use Rattle.controller_threads.proofs.sessions.read_link.Goals as goal
 
 pub returns-clause-since : goal.returns-clause-since

@@ -1,6 +1,6 @@
 use Rattle.history_lock.specs.Names.{known}
 use Rattle.session_threads.proofs.Taking.{take_extends}
-use Rattle.controller_workers.proofs.Seeing.{since_later}
+use Rattle.controller_threads.proofs.Seeing.{since_later}
 use Rattle.controller_threads.proofs.sessions.write_link.Goals as goal
 
 pub returns : goal.returns

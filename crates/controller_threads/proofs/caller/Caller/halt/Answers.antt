@@ -1,5 +1,5 @@
 use Rattle.history_lock.specs.Names.{known}
-use Rattle.controller_workers.proofs.Halting.{halt_later}
+use Rattle.controller_threads.proofs.Halting.{halt_later}
 use Rattle.controller_threads.proofs.caller.Caller.halt.Goals as goal
 
 pub returns : goal.returns

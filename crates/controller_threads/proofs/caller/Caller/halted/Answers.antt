@@ -1,8 +1,8 @@
 use Rattle.std.proofs.Common.{subst}
 use Rattle.history_lock.specs.Names.{known}
-use Rattle.controller_workers.specs.declared.halt.Halt.{Halt}
-use Rattle.controller_workers.specs.Halts.{HaltCause}
-use Rattle.controller_workers.proofs.Halting.{halt_later}
+use Rattle.controller_threads.specs.declared.halt.Halt.{Halt}
+use Rattle.controller_threads.specs.Halts.{HaltCause}
+use Rattle.controller_threads.proofs.Halting.{halt_later}
 use Rattle.controller_threads.proofs.caller.Caller.halted.Goals as goal
 
 pub returns-in-Stopping : goal.returns-in-Stopping

@@ -1,4 +1,4 @@
-use Rattle.controller_workers.proofs.Halting.{stops_at_start}
+use Rattle.controller_threads.proofs.Halting.{stops_at_start}
 use Rattle.controller_threads.proofs.caller.Caller.open.Goals as goal
 
 pub returns-in-Ok-clause-cause : goal.returns-in-Ok-clause-cause

@@ -1,5 +1,0 @@
-use Rattle.controller_workers.proofs.Seeing.{named}
-use Rattle.controller_workers.proofs.shared.Shared.context.Goals as goal
-
-pub returns : goal.returns
-returns g c = named c.deref.ensures c.args.self.now.named
