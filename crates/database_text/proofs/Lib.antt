@@ -3,7 +3,7 @@ mod Giving
 mod Printing
 mod Places
 mod Standing
-mod Thinning
+mod Thinned
 pub mod Differences
 mod Feeding
 pub mod Histories

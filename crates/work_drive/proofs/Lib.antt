@@ -2,7 +2,7 @@ mod Begins
 mod Counts
 mod Empty
 mod Paths
-mod Records
+mod RecordInputs
 mod Takes
 mod Fitting
 mod Rows

@@ -1,5 +1,5 @@
 use Rattle.database_text.proofs.Standing.{fit_legal}
-use Rattle.database_text.proofs.Thinning.{all_in_time}
+use Rattle.database_text.proofs.Thinned.{all_in_time}
 use Rattle.database_text.proofs.compact.thin_entries.Goals as goal
 
 pub thinned-requires-clause-legal : goal.thinned-requires-clause-legal

@@ -2,7 +2,7 @@ use Rattle.std.proofs.Common.{◌≡◌, ◌∙◌}
 use Rattle.std.proofs.lemmas.List.Elements.{All-same}
 use Rattle.record_codec.specs.Spelling.{HasRecord}
 use Rattle.database_text.specs.Compacted.{thin_list}
-use Rattle.database_text.proofs.Thinning.{thin_has}
+use Rattle.database_text.proofs.Thinned.{thin_has}
 use Rattle.database_text.proofs.compact.write_thin.Goals as goal
 
 pub write-requires : goal.write-requires

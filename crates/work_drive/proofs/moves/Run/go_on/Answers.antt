@@ -2,7 +2,7 @@ use Rattle.std.proofs.Common.{rules, ℤ, subst}
 use Rattle.std.specs.Int.{w64}
 use Rattle.std.proofs.Common.{of_z, to_z}
 use Rattle.work_drive.specs.Work.{RunView, Moves}
-use Rattle.work_drive.proofs.Records.{first_fits, rest_fits}
+use Rattle.work_drive.proofs.RecordInputs.{first_fits, rest_fits}
 use Rattle.work_drive.proofs.Takes.{takes}
 use Rattle.work_drive.proofs.moves.Run.go_on.Goals as goal
 
