@@ -84,7 +84,8 @@ fn take_piece(
     ensures kept { OnErr result (Keeps into.old.items into.new.items) }
 {
     let given = hear_on(links, from.conn, octets.as_slice())?;
-    take_given(inputs, into, key, from, &given)
+    take_given(inputs, into, key, from, &given)?;
+    Ok(())
 }
 
 /// Takes a record: the links are those while it is served, its inputs are added, and what its stream sends is appended.
