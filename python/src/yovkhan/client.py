@@ -12,9 +12,10 @@ import weakref
 from concurrent.futures import Future
 from concurrent.futures import TimeoutError as _FutureTimeout
 from concurrent.futures import wait as wait_for_futures
-from typing import Any, Callable, Dict, Iterator, List, Optional, Sequence, Set
+from typing import Any, Callable, Dict, Iterator, List, Optional, Sequence, Set, Tuple
 
 from . import error, query, requests
+from .caches import MetadataOf, Results
 from .channels import MUX, TASK, Channel
 from .dependency import ids_of
 from .executor import ViewExecutor
@@ -23,7 +24,7 @@ from .link import Loop, log
 from .parts import Gathering
 from .polling import Poller
 from .results import AsyncHubMapResult, AsyncHubResult, AsyncResult, Progress, forever, watched
-from .tasks import Metadata, Outcome, Task
+from .tasks import Outcome, Task
 from .views import BroadcastView, DirectView, LoadBalancedView
 from .wire import Headers, Message, Signer
 
@@ -56,8 +57,8 @@ class Client:
 
     def __init__(self, host: Optional[str] = None, port: Optional[int] = None, *, key: Any = None, key_file: Optional[str] = None,
                  session: Optional[str] = None, timeout: float = 10, reconnect: Optional[float] = None, block: bool = False) -> None:
-        host = host or os.environ.get("YOVKHAN_HOST", "127.0.0.1")
-        port = int(port or os.environ.get("YOVKHAN_PORT", 0))
+        host = host or os.environ.get("YOVKHAN_HOST") or "127.0.0.1"
+        port = int(port or os.environ.get("YOVKHAN_PORT") or 0)
         if not 0 < port < 65_533:
             raise ValueError("a port is needed, from 1 to 65,532: port=, or the variable YOVKHAN_PORT")
         if session is not None and not 0 < len(session.encode()) <= 200:
@@ -297,6 +298,8 @@ class Client:
                 raise error.NoEnginesRegistered("the cluster has no engines")
             return ids
         if isinstance(targets, (list, tuple, range, set)):
+            if not targets and not self.ids:
+                raise error.NoEnginesRegistered("the cluster has no engines")
             return [self._number(it) for it in targets]
         return self._number(targets)
 
@@ -476,7 +479,7 @@ class Client:
             return [jobs]
         if isinstance(jobs, (str, int)):
             return self._known_futures([self._id(jobs)])
-        ids = [self._id(it) for it in jobs if isinstance(it, (str, int))]
+        ids = [self._id(it) for it in jobs if not isinstance(it, Future)]
         return [it for it in jobs if isinstance(it, Future)] + self._known_futures(ids)
 
     def _known_futures(self, ids: Sequence[str]) -> List["Future[Any]"]:
@@ -657,9 +660,36 @@ class Client:
         `$lte`, `$gt`, `$gte`, `$ne`, `$in`, `$nin`, `$and`, `$or`. `keys` says which fields are wanted; `msg_id` is always there, and
         buffers only where they are asked for."""
         wanted = [keys] if isinstance(keys, str) else keys
+        query.matches(query_, {"msg_id": ""})
+        ids, ended = self._ids_for(query_)
+        outcomes = self.outcomes(ended)
+        records = [query.record_of(it, outcomes.get(it)) for it in ids]
+        return [query.chosen(it, wanted) for it in records if query.matches(query_, it)]
+
+    def _ids_for(self, query_: Dict[str, Any]) -> Tuple[List[str], List[str]]:
+        """The ids that a query may be about, in the order of submission, and those among them that have ended."""
+        if self._has_query is not False:
+            try:
+                asked = {"query": query.of_ids(query_), "keys": ["msg_id", "state"]}
+                records = self._ask("db_request", asked).content["records"]
+                self._has_query = True
+                return [it["msg_id"] for it in records], [it["msg_id"] for it in records if it["state"] not in ("pending", "running")]
+            except Unknown:
+                self._has_query = False
+        ids = query.named(query_, self.hub_history())
+        ended: "Future[List[str]]" = Future()
+        self._hub.statuses(ids, lambda _pending, completed, _unknown: ended.set_result(completed))
+        return ids, ended.result()
+
+    def outcomes(self, ids: Sequence[str]) -> Dict[str, Outcome]:
+        """The outcomes of ids that have ended, as they came."""
         self._must_be_open()
         self.may_wait()
-        return query.asked(self.hub_history(), self._hub, query_, wanted)
+        found: Dict[str, Outcome] = {}
+        done = threading.Event()
+        self._hub.fetch(ids, found.__setitem__, done.set)
+        done.wait()
+        return found
 
     # -- engines' control
 
@@ -721,69 +751,6 @@ class Client:
         if hub:
             self._ask("shutdown_request", {}, repeats=False, timeout=10)
             self.close()
-
-
-class Results(Dict[str, Any]):
-    """The values of ended requests that no result has taken, by id; an error stands in the place of a value."""
-
-    def __init__(self, tasks: Dict[str, Task]) -> None:
-        super().__init__()
-        self._of = tasks
-
-    def __getitem__(self, msg_id: str) -> Any:
-        task = self._of[msg_id]
-        if not task.is_done:
-            raise KeyError(msg_id)
-        settled = task.settled()
-        return settled.value if settled.error is None else settled.error
-
-    def __contains__(self, msg_id: object) -> bool:
-        return msg_id in self._of and self._of[str(msg_id)].is_done
-
-    def __iter__(self) -> Iterator[str]:
-        return iter([it for it in list(self._of) if it in self])
-
-    def __len__(self) -> int:
-        return sum(1 for _ in self)
-
-    def keys(self) -> Any:
-        return list(self)
-
-    def values(self) -> Any:
-        return [self[it] for it in self]
-
-    def items(self) -> Any:
-        return [(it, self[it]) for it in self]
-
-    def get(self, msg_id: str, default: Any = None) -> Any:  # type: ignore[override]
-        return self[msg_id] if msg_id in self else default
-
-
-class MetadataOf(Dict[str, Metadata]):
-    """What is known of requests that no result has taken, by id. A look-up of another id makes an empty record."""
-
-    def __init__(self, tasks: Dict[str, Task]) -> None:
-        super().__init__()
-        self._of = tasks
-
-    def __getitem__(self, msg_id: str) -> Metadata:
-        if msg_id in self._of:
-            return self._of[msg_id].metadata
-        if not dict.__contains__(self, msg_id):
-            self[msg_id] = Metadata(msg_id=msg_id)
-        return dict.__getitem__(self, msg_id)
-
-    def __contains__(self, msg_id: object) -> bool:
-        return msg_id in self._of or dict.__contains__(self, msg_id)
-
-    def __iter__(self) -> Iterator[str]:
-        return iter(list({**self._of, **dict.fromkeys(dict.keys(self))}))
-
-    def __len__(self) -> int:
-        return sum(1 for _ in self)
-
-    def forget(self, msg_id: str) -> None:
-        self.pop(msg_id, None)
 
 
 def ids_of_jobs(jobs: Any) -> List[Any]:

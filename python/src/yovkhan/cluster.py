@@ -15,6 +15,7 @@ import time
 from typing import Any, Dict, List, Optional
 
 from .client import Client
+from .engine import environment
 from .views import DirectView, LoadBalancedView
 
 HOST = "127.0.0.1"
@@ -54,10 +55,9 @@ def free_ports() -> int:
 
 
 def takes_key_file(words: List[str]) -> bool:
-    """Whether the program reads its key from a file."""
-    ran = subprocess.run([*words, "dump", "/dev/null", "--key-file", "/dev/null"], capture_output=True, check=False)
-    launcher = b"--key-file" in subprocess.run([*words, "--help"], capture_output=True, check=False).stdout
-    return launcher or ran.returncode not in (2,)
+    """Whether the program reads its key from a file. One that doesn't finds no reading in the words, and says so by status 2."""
+    tried = [*words, "client", HOST, "1", "history", "--key-file", os.devnull]
+    return subprocess.run(tried, stdin=subprocess.DEVNULL, capture_output=True, check=False).returncode != 2
 
 
 class Cluster:
@@ -159,10 +159,9 @@ class Cluster:
     def start_engine(self, name: str) -> "subprocess.Popen[bytes]":
         """Starts an engine of this name."""
         words = [sys.executable, "-m", "yovkhan", "engine", HOST, str(self.port), name, "--key-file", self.key_file]
-        from .engine import _environment  # pylint: disable=import-outside-toplevel
         with open(os.path.join(self.folder, f"{name}.log"), "ab") as said:
             self.engines[name] = subprocess.Popen(words, stdin=subprocess.DEVNULL, stdout=said, stderr=said, start_new_session=True,
-                                                  env=_environment())
+                                                  env=environment())
         return self.engines[name]
 
     def kill_controller(self) -> None:

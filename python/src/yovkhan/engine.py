@@ -126,7 +126,7 @@ class Engine:
         mine, theirs = socket.socketpair()
         words = [sys.executable, "-m", "yovkhan.worker", str(theirs.fileno())]
         self._process = subprocess.Popen(words, pass_fds=(theirs.fileno(),), stdin=subprocess.DEVNULL, stdout=self._out.write_end,
-                                         stderr=self._err.write_end, start_new_session=True, env=_environment())
+                                         stderr=self._err.write_end, start_new_session=True, env=environment())
         theirs.close()
         os.close(self._out.write_end)
         os.close(self._err.write_end)
@@ -336,7 +336,7 @@ class Engine:
         self._loop.stop()
 
 
-def _environment() -> Dict[str, str]:
+def environment() -> Dict[str, str]:
     """The environment of a worker: it finds this package where the engine did."""
     here = os.path.dirname(os.path.dirname(os.path.abspath(__file__)))
     paths = [here, *filter(None, os.environ.get("PYTHONPATH", "").split(os.pathsep))]

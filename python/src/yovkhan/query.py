@@ -2,11 +2,8 @@
 
 from __future__ import annotations
 
-import threading
-from datetime import datetime
 from typing import Any, Callable, Dict, List, Optional, Sequence
 
-from .hub import Hub
 from .tasks import Outcome
 from .wire import moment
 
@@ -51,44 +48,36 @@ def _meets(value: Any, wanted: Any) -> bool:
     return True
 
 
-def asked(ids: Sequence[str], hub: Hub, query: Dict[str, Any], keys: Optional[Sequence[str]]) -> List[Dict[str, Any]]:
-    """The records of these ids that match, with these fields."""
-    matches(query, {"msg_id": ""})
-    ended: Dict[str, Dict[str, Any]] = {}
-    done = threading.Event()
-
-    def each(msg_id: str, outcome: Outcome) -> None:
-        ended[msg_id] = record_of(msg_id, outcome)
-
-    def told(_pending: List[str], completed: List[str], _unknown: List[str]) -> None:
-        hub.fetch(completed, each, done.set)
-
-    hub.statuses(_named(query, ids), told)
-    done.wait()
-    records = [ended.get(it) or {**dict.fromkeys(FIELDS), "msg_id": it} for it in _named(query, ids)]
-    return [_chosen(it, keys) for it in records if matches(query, it)]
-
-
-def _named(query: Dict[str, Any], ids: Sequence[str]) -> List[str]:
-    """The ids that may match: fewer where the query names some."""
+def of_ids(query: Dict[str, Any]) -> Dict[str, Any]:
+    """The part of a query that the controller can look at: that of ids."""
     wanted = query.get("msg_id")
     if isinstance(wanted, str):
-        return [it for it in ids if it == wanted]
-    if isinstance(wanted, dict) and "$in" in wanted:
-        named = set(wanted["$in"])
-        return [it for it in ids if it in named]
-    return list(ids)
+        return {"msg_id": wanted}
+    if isinstance(wanted, dict) and set(wanted) == {"$in"} and len(wanted["$in"]) <= 4096:
+        return {"msg_id": {"$in": list(wanted["$in"])}}
+    return {}
 
 
-def record_of(msg_id: str, outcome: Outcome) -> Dict[str, Any]:
+def named(query: Dict[str, Any], ids: Sequence[str]) -> List[str]:
+    """The ids that may match: fewer where the query names some."""
+    wanted = of_ids(query).get("msg_id")
+    if wanted is None:
+        return list(ids)
+    names = {wanted} if isinstance(wanted, str) else set(wanted["$in"])
+    return [it for it in ids if it in names]
+
+
+def record_of(msg_id: str, outcome: Optional[Outcome]) -> Dict[str, Any]:
+    """All that is known of a request, ended or not."""
+    if outcome is None:
+        return {**dict.fromkeys(FIELDS), "msg_id": msg_id, "buffers": [], "result_buffers": []}
     metadata = outcome.metadata
-    submitted = moment(metadata.get("submitted"))
-    completed: Optional[datetime] = moment(metadata.get("completed"))
+    completed = moment(metadata.get("completed"))
     return {
         "msg_id": msg_id,
         "header": metadata.get("request"),
         "metadata": {},
-        "submitted": submitted,
+        "submitted": moment(metadata.get("submitted")),
         "started": moment(metadata.get("started")),
         "completed": completed,
         "received": completed,
@@ -103,6 +92,7 @@ def record_of(msg_id: str, outcome: Outcome) -> Dict[str, Any]:
     }
 
 
-def _chosen(record: Dict[str, Any], keys: Optional[Sequence[str]]) -> Dict[str, Any]:
+def chosen(record: Dict[str, Any], keys: Optional[Sequence[str]]) -> Dict[str, Any]:
+    """The fields that are wanted of a record, `msg_id` among them."""
     wanted = FIELDS if keys is None else ("msg_id", *keys)
     return {it: record.get(it) for it in dict.fromkeys(wanted)}

@@ -7,6 +7,7 @@ import collections
 import contextlib
 import json
 import math
+import queue
 from typing import TYPE_CHECKING, Any, Callable, Deque, Dict, Iterator, List, Optional, Sequence, Set, Tuple, Union
 
 from . import functions, remotely, requests, serialize
@@ -508,12 +509,8 @@ class LoadBalancedView(View):
             result = waiting[0] if ordered else ended.next(self.client)
             result.wait()
             waiting.remove(result)
-            if more:
-                yield_now = result
-                more = begin()
-                yield yield_now.get()
-            else:
-                yield result.get()
+            more = more and begin()
+            yield result.get()
 
     def _spread(self, made: ParallelFunction, seqs: List[Any], is_map: bool) -> AsyncMapResult:
         spread = Map(self, made.func, seqs, chunksize=made.chunksize or 1, keeps=made.return_exceptions, parts=not is_map)
@@ -529,9 +526,10 @@ class _Ended:
     """The results that ended, in the order in which they did."""
 
     def __init__(self) -> None:
-        import queue  # pylint: disable=import-outside-toplevel
-        self._queue: "queue.SimpleQueue[AsyncResult]" = queue.SimpleQueue()
-        self.add = self._queue.put
+        self._queue: "queue.SimpleQueue[Any]" = queue.SimpleQueue()
+
+    def add(self, result: Any) -> None:
+        self._queue.put(result)
 
     def next(self, client: "Client") -> AsyncResult:
         client.may_wait()
