@@ -544,15 +544,18 @@ class Client:
                 task = self._tasks[msg_id] = Task(msg_id, "hub", [], None)
             return task
 
-    def job(self, name: str) -> AsyncHubMapResult:
-        """The result of a map that was given this name, in any process and at any time. RemoteError with the name KeyError where there
-        is none."""
-        count = self._count_of(name)
+    def job(self, name: str, n: Optional[int] = None) -> AsyncHubMapResult:
+        """The result of a map that was given this name, in any process and at any time. It is that of the tasks that the controller
+        knows now; with `n` of so many, and those that it doesn't know yet are waited for. RemoteError with the name KeyError where it
+        knows none."""
+        count = self._count_of(name) if n is None else n
         if not count:
             failure = error.RemoteError("KeyError", f"the controller doesn't know {name}/0")
             failure.ids = [f"{name}/0"]
             raise failure
         tasks = [self._task_of(f"{name}/{it}") for it in range(count)]
+        for it in tasks:
+            it.may_come = n is not None
         return AsyncHubMapResult(self, tasks, fname=name)
 
     def _count_of(self, name: str) -> int:

@@ -66,12 +66,14 @@ class Poller:
 
     def _told(self, pending: List[str], completed: List[str], unknown: List[str]) -> None:
         moment = time.monotonic()
-        for msg_id in pending:
+        coming = [it for it in unknown if self._asked[it].may_come]
+        for msg_id in pending + coming:
             task = self._asked.pop(msg_id)
             task.ask_at = moment + task.ask_step
             task.ask_step = min(task.ask_step * 1.5, LAST)
         for msg_id in unknown:
-            self._end(msg_id).fail(_unknown(msg_id))
+            if msg_id in self._asked:
+                self._end(msg_id).fail(_unknown(msg_id))
         if completed:
             self._hub.fetch(completed, self._fetched)
 

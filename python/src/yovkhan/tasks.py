@@ -116,7 +116,7 @@ class Task:
     """A request: its octets until the outcome came, and then what came. Its value is unpickled where it is asked for first."""
 
     __slots__ = ("msg_id", "channel", "octets", "sent", "submitted", "outcome", "_settled", "watchers", "target", "notes", "joins",
-                 "again", "parts", "ask_at", "ask_step")
+                 "again", "parts", "ask_at", "ask_step", "may_come")
 
     def __init__(self, msg_id: str, channel: str, octets: List[Octets], submitted: Optional[str],
                  target: Optional[str] = None, notes: Optional[Dict[str, Any]] = None) -> None:
@@ -127,6 +127,7 @@ class Task:
         self._settled: Optional[Settled] = None
         self.watchers: List[Watcher] = []
         self.joins = False
+        self.may_come = False
         self.again: Optional[Callable[[], Tuple[str, List[Octets]]]] = None
         self.parts: Optional[List[Any]] = None
         self.ask_at = 0.0
