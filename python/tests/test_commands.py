@@ -68,6 +68,7 @@ def test_engines_are_watched(own_cluster):
         assert sorted(client.engines.values()) == ["w-0", "w-1"] and max(client.ids) == 2
         client.shutdown(targets=client.number_of("w-0"), block=True)
         until(lambda: list(client.engines.values()) == ["w-1"])
+        time.sleep(1)
     finally:
         watch.send_signal(signal.SIGTERM)
         said = watch.communicate(timeout=LIMIT)[1]

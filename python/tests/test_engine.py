@@ -182,10 +182,11 @@ class Peer:
     def __init__(self, port, key, name="peer"):
         self.signer, self.headers, self.reader, self.waiting = Signer(key), Headers(name), Reader(), []
         self.socket = socket.create_connection(("127.0.0.1", port), LIMIT)
-        self.socket.sendall(GREETING + ready(name.encode()))
+        self.socket.sendall(GREETING)
         greeting = b""
         while len(greeting) < 64:
             greeting += self.socket.recv(64 - len(greeting))
+        self.socket.sendall(ready(name.encode()))
 
     def send(self, msg_type, content, *, msg_id=None, parent=b"{}", metadata=b"{}", buffers=(), targets=()):
         parts = (self.headers.write(msg_id or os.urandom(8).hex(), msg_type, now()), parent, metadata, json.dumps(content).encode())

@@ -5,13 +5,15 @@ import hmac
 import json
 import os
 import random
+import threading
 
 import numpy
 import pytest
 
 import yovkhan
+from conftest import until
 from yovkhan import error, functions, query, serialize, wire
-from yovkhan.link import Reader
+from yovkhan.link import Link, Loop, Reader
 from yovkhan.tasks import ExecuteReply, Metadata
 from yovkhan.worker import clean
 
@@ -135,26 +137,21 @@ def test_errors_can_be_pickled():
 
 def test_the_wire_is_libzmqs():
     zmq = pytest.importorskip("zmq")
-    from yovkhan.link import GREETING, ready
-
+    came, loop = [], Loop()
     with zmq.Context() as context, context.socket(zmq.ROUTER) as router:
         port = router.bind_to_random_port("tcp://127.0.0.1")
-        import socket
-
-        with socket.create_connection(("127.0.0.1", port), 10) as sock:
-            sock.sendall(GREETING + ready(b"me") + b"".join(bytes(it) for it in wire.packed([b"a", b"b" * 300])))
-            assert router.poll(10_000)
-            assert router.recv_multipart() == [b"me", b"a", b"b" * 300]
-            router.send_multipart([b"me", b"x", b"y" * 70_000])
-            reader, came, skipped = Reader(), [], 64
-            while not came:
-                octets = sock.recv(65_536)
-                cut = min(skipped, len(octets))
-                skipped -= cut
-                room = reader.room()
-                if room is None:
-                    came += reader.feed(octets[cut:])
-                else:
-                    room[:len(octets)] = octets
-                    came += reader.filled(len(octets))
-        assert [bytes(it) for it in came[0]] == [b"x", b"y" * 70_000]
+        up = threading.Event()
+        link = Link(loop, ("127.0.0.1", port), b"me", up=up.set, take=came.extend, down=lambda: None)
+        thread = threading.Thread(target=loop.run)
+        thread.start()
+        loop.call(link.open)
+        assert up.wait(10)
+        link.send(wire.packed([b"a", b"b" * 300, b"c" * 70_000]))
+        assert router.poll(10_000)
+        assert router.recv_multipart() == [b"me", b"a", b"b" * 300, b"c" * 70_000]
+        router.send_multipart([b"me", b"x", b"y" * 1_000_000])
+        until(lambda: came, 10)
+        loop.call(link.close)
+        loop.call(loop.stop)
+        thread.join(10)
+    assert [bytes(it) for it in came[0]] == [b"x", b"y" * 1_000_000]

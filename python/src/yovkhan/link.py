@@ -19,7 +19,7 @@ log = logging.getLogger("yovkhan")
 
 _LONG, _COMMAND, _MORE = 2, 4, 1
 _PIECE = 262_144
-GREETING = b"\xff" + bytes(8) + b"\x7f\x03\x00NULL" + bytes(16) + bytes(32)
+GREETING = b"\xff" + bytes(7) + b"\x01\x7f\x03\x00NULL" + bytes(16) + bytes(32)
 
 
 def ready(identity: bytes) -> bytes:
@@ -207,20 +207,16 @@ class Stream:
     def __init__(self, loop: Loop, sock: socket.socket, take: Callable[[List[List[Octets]]], None], end: Callable[[], None]) -> None:
         self._loop, self._socket, self._take, self._ended = loop, sock, take, end
         self.reader = Reader()
-        self._greeting = 0
+        self._greeting, self._answer = 0, b""
         self._out: Deque[memoryview] = collections.deque()
         self._lock = threading.Lock()
         self._writing = False
         self.is_open = True
         loop.watch(sock, selectors.EVENT_READ, self._serve)
 
-    def expect_greeting(self) -> None:
-        """The stream begins with a greeting of 64 octets, which is read over."""
-        self._greeting = 64
-
-    @property
-    def greeted(self) -> bool:
-        return self._greeting == 0
+    def expect_greeting(self, answer: bytes) -> None:
+        """The stream begins with a greeting of 64 octets, which is read over, and answered with these."""
+        self._greeting, self._answer = len(GREETING), answer
 
     def send(self, pieces: Sequence[Octets]) -> bool:
         """Sends octets, behind those that wait. Any thread may call it. Whether the stream was open."""
@@ -311,6 +307,8 @@ class Stream:
     def _fed(self, octets: bytes) -> List[List[Octets]]:
         skipped = min(self._greeting, len(octets))
         self._greeting -= skipped
+        if skipped and not self._greeting:
+            self.send([self._answer])
         return self.reader.feed(octets[skipped:]) if len(octets) > skipped else []
 
     def _end(self) -> None:
@@ -386,8 +384,8 @@ class Link:
         self._dialling = None
         self._loop.forget(sock)
         self._stream = Stream(self._loop, sock, self._came, self._lost)
-        self._stream.expect_greeting()
-        self._stream.send([GREETING + ready(self._identity)])
+        self._stream.expect_greeting(ready(self._identity))
+        self._stream.send([GREETING])
 
     def _came(self, messages: List[List[Octets]]) -> None:
         assert self._stream is not None
