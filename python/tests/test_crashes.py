@@ -74,7 +74,7 @@ def test_pushes_come_back_after_a_restart(own_cluster):
     cluster.start_controller()
     view.push({"b": 6}, block=True)
     assert view["a + b"] == 11
-    assert client.ids != [0] and client[name]["b"] == 6 and client.number_of(name) == client.ids[0]
+    assert client[name]["b"] == 6 and client.number_of(name) == client.ids[0] != 0
     assert client.load_balanced_view(targets=[name]).apply_sync(lambda: 3) == 3
 
 

@@ -82,8 +82,8 @@ class Channel:
             asked = [msg_id for msg_id, it in self.tasks.items() if it.sent]
         if asked:
             self._hub.statuses(asked, lambda pending, completed, unknown: self._recovered(epoch, completed, unknown))
-        else:
-            self._recovered(epoch, [], [])
+        else:  # an answer of the hub tells of a restart, before what it ended is heard of
+            self._hub.ask("connection_request", {}).add_done_callback(lambda _: self._recovered(epoch, [], []))
 
     def _recovered(self, epoch: int, completed: List[str], unknown: List[str]) -> None:
         if epoch != self._epoch or not self.link.is_up:

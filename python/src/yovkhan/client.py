@@ -269,10 +269,16 @@ class Client:
 
     def number_of(self, name: str) -> int:
         """The number of the engine of this name. IndexError where none is there."""
-        for number, its in self.engines.items():
-            if its == name:
-                return number
+        for look in (lambda: self.engines, self._asked_anew):
+            for number, its in look().items():
+                if its == name:
+                    return number
         raise IndexError(f"there is no engine {name!r}")
+
+    def _asked_anew(self) -> Dict[int, str]:
+        """The engines, as the controller has them now."""
+        self._asked_at = -1.0
+        return self.engines
 
     def _number(self, key: Any) -> int:
         """The number that is meant by a number, one from the end, or a name."""
@@ -286,7 +292,7 @@ class Client:
             if -key > len(ids):
                 raise IndexError(f"there are {len(ids)} engines, and none is {key}")
             return ids[key]
-        if key not in self._ever and key not in self.ids:
+        if key not in self._ever and key not in self._asked_anew():
             raise IndexError(f"there is no engine {key}")
         return key
 
@@ -330,7 +336,7 @@ class Client:
 
     def _live(self, key: Any) -> int:
         number = self._number(key)
-        if number not in self.engines:
+        if number not in self.engines and number not in self._asked_anew():
             raise IndexError(f"there is no engine {key}")
         return number
 

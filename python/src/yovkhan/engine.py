@@ -8,6 +8,7 @@ from __future__ import annotations
 import collections
 import json
 import os
+import selectors
 import signal
 import socket
 import subprocess
@@ -26,14 +27,15 @@ _REPLIES, _REPLY_OCTETS, _ABORTED = 512, 33_554_432, 10_000
 
 
 class Output:
-    """What the worker writes to one of its streams."""
+    """What the worker writes to one of its streams. It is read before what else is ready: what was written ahead of a reply is here
+    when the reply is."""
 
     def __init__(self, loop: Loop) -> None:
         self._read_end, self.write_end = os.pipe()
         os.set_blocking(self._read_end, False)
         self._kept = bytearray()
         self._loop = loop
-        loop.watch(self._read_end, 1, self.drain)
+        loop.watch(self._read_end, selectors.EVENT_READ, self.drain, first=True)
 
     def drain(self, _events: int = 0) -> None:
         try:
@@ -52,7 +54,6 @@ class Output:
 
     def take(self) -> str:
         """The text since the last call."""
-        self.drain()
         if not self._kept:
             return ""
         text = bytes(self._kept[-OUTPUT_LIMIT:]).decode("utf-8", "replace")
@@ -136,6 +137,7 @@ class Engine:
 
     def _worker_ended(self) -> None:
         self._process.wait()
+        self._err.drain()
         text = self._err.take().strip()
         ended = self._process.returncode
         how = f"signal {-ended}" if ended < 0 else f"status {ended}"
@@ -184,9 +186,8 @@ class Engine:
     def _metadata(self, job: Job, info: bytes) -> bytes:
         """What a later reader wants to know of the request, before what the worker says of it."""
         header = job.message.header
-        known: Dict[str, Any] = {"engine": self.name, "engine_id": self.number, "submitted": header.get("date")}
-        for name, output in (("stdout", self._out), ("stderr", self._err)):
-            known[name] = output.take()
+        known: Dict[str, Any] = {"engine": self.name, "engine_id": self.number, "submitted": header.get("date"),
+                                 "stdout": self._out.take(), "stderr": self._err.take()}
         return json.dumps(known).encode()[:-1] + b',"request":' + bytes(job.message.frames[1]) + b"," + info[1:]
 
     # -- replies

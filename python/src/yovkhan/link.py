@@ -11,7 +11,7 @@ import socket
 import struct
 import threading
 import time
-from typing import Any, Callable, Deque, List, Optional, Sequence, Tuple
+from typing import Any, Callable, Deque, List, Optional, Sequence, Set, Tuple
 
 from .wire import LARGE, Octets
 
@@ -120,11 +120,15 @@ class Loop:
             end.setblocking(False)
         self._woken = False
         self._stopped = False
+        self._first: Set[int] = set()
         self.thread: Optional[int] = None
         self.watch(self._mine, selectors.EVENT_READ, self._drain)
 
-    def watch(self, sock: Any, events: int, ready_for: Callable[[int], None]) -> None:
-        self._selector.register(sock, events, ready_for)
+    def watch(self, sock: Any, events: int, ready_for: Callable[[int], None], first: bool = False) -> None:
+        """Calls `ready_for` when the socket is ready; before others that are ready where it comes `first`."""
+        key = self._selector.register(sock, events, ready_for)
+        if first:
+            self._first.add(key.fd)
 
     def change(self, sock: Any, events: int) -> None:
         self._selector.modify(sock, events, self._selector.get_key(sock).data)
@@ -189,7 +193,10 @@ class Loop:
             wait = self._due()
             if self._stopped:
                 break
-            for key, events in self._selector.select(wait):
+            found = self._selector.select(wait)
+            if len(found) > 1 and self._first:
+                found.sort(key=lambda it: it[0].fd not in self._first)
+            for key, events in found:
                 if not self._stopped:
                     self._run(key.data, events)
         self._selector.close()
@@ -334,6 +341,7 @@ class Link:
         self._up, self._take, self._down = up, take, down
         self._stream: Optional[Stream] = None
         self._dialling: Optional[socket.socket] = None
+        self._guard: Optional[Timer] = None
         self._delay = 0.02
         self._closed = False
         self.is_up = False
@@ -366,6 +374,8 @@ class Link:
             self._lost()
 
     def _retry(self) -> None:
+        if self._guard is not None:
+            self._guard.cancel()
         if self._dialling is not None:
             self._loop.forget(self._dialling)
             self._dialling.close()
@@ -397,7 +407,8 @@ class Link:
                 log.warning("the controller refused the handshake: %r", commands[0])
                 self._lost()
                 return
-            self._guard.cancel()
+            if self._guard is not None:
+                self._guard.cancel()
             self.is_up, self._delay = True, 0.02
             self._up()
         self._stream.reader.commands.clear()

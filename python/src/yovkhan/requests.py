@@ -14,8 +14,6 @@ from .error import TooLarge
 from .tasks import Task
 from .wire import BUFFER_LIMIT, DELIMITER, FRAME_LIMIT, PAYLOAD_LIMIT, VERSION, Headers, Octets, Signer, cut, digest, now, packed
 
-_PLAIN = frozenset((int, float, str, bytes, bool, type(None), complex))
-
 
 class Function(NamedTuple):
     """A function that was pickled once, for any number of calls."""
@@ -51,7 +49,7 @@ class Request(NamedTuple):
 
 def call(function: Function, arguments: Any, kind: str = "apply", **fields: Any) -> Request:
     """A request to call a function: `apply` with (args, kwargs), or `map` with a list for each parameter. Raises TooLarge."""
-    octets = _plain(arguments) if kind == "map" else None
+    octets = _plain(arguments, kind)
     if octets is not None and len(octets) <= FRAME_LIMIT and not fields:
         content = (f'{{"v":{VERSION},"name":{function.text},"call":"{kind}",'
                    f'"digests":["{function.digest}","{digest(octets)}"]}}')
@@ -62,11 +60,13 @@ def call(function: Function, arguments: Any, kind: str = "apply", **fields: Any)
     return Request("apply_request", _content(function, frames, counts, kind, fields), (function.octets, *frames))
 
 
-def _plain(arguments: Sequence[Sequence[Any]]) -> Optional[bytes]:
-    """The pickle of lists of plain values; None where something else is among them."""
-    if all(_PLAIN.issuperset(map(type, it)) for it in arguments):
-        return pickle.dumps(arguments, protocol=5)
-    return None
+def _plain(arguments: Any, kind: str) -> Optional[bytes]:
+    """The pickle of arguments that are plain values; None where something else is among them."""
+    if kind == "map":
+        plain = all(map(serialize.is_plain, arguments))
+    else:
+        plain = not arguments[1] and all(map(serialize.is_plain, arguments[0]))
+    return pickle.dumps(arguments, protocol=5) if plain else None
 
 
 def _content(function: Function, frames: Sequence[Octets], counts: Sequence[int], kind: str, fields: Dict[str, Any]) -> bytes:

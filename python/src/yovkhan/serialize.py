@@ -73,15 +73,20 @@ def _namespace() -> Dict[str, Any]:
     return sys.modules["__main__"].__dict__ if _place.namespace is None else _place.namespace
 
 
-@contextlib.contextmanager
-def reading_in(namespace: Optional[Dict[str, Any]], evaluates: bool = False) -> Iterator[None]:
+class reading_in:  # pylint: disable=invalid-name
     """What is read meanwhile has this namespace; references are evaluated in it where `evaluates`."""
-    before = _place.namespace, _place.evaluates
-    _place.namespace, _place.evaluates = namespace, evaluates
-    try:
-        yield
-    finally:
-        _place.namespace, _place.evaluates = before
+
+    __slots__ = ("_given", "_before")
+
+    def __init__(self, namespace: Optional[Dict[str, Any]], evaluates: bool = False) -> None:
+        self._given = namespace, evaluates
+
+    def __enter__(self) -> None:
+        self._before = _place.namespace, _place.evaluates
+        _place.namespace, _place.evaluates = self._given
+
+    def __exit__(self, *_: Any) -> None:
+        _place.namespace, _place.evaluates = self._before
 
 
 class Reference:
@@ -306,8 +311,19 @@ def loads(octets: Octets, namespace: Optional[Dict[str, Any]] = None) -> Any:
         return pickle.loads(octets)
 
 
+_PLAIN = frozenset((int, float, str, bytes, bool, type(None), complex))
+
+
+def is_plain(value: Any) -> bool:
+    """Whether the plain pickler does: a number, a text, or a list or tuple of these."""
+    kind = type(value)
+    return kind in _PLAIN or (kind is list or kind is tuple) and _PLAIN.issuperset(map(type, value))
+
+
 def parted(value: Any) -> List[Octets]:
     """The buffers of a value: its pickle, and behind it its large arrays as they lie."""
+    if is_plain(value):
+        return [pickle.dumps(value, protocol=5)]
     buffers: List[pickle.PickleBuffer] = []
     first = _pickled(value, buffers)[0]
     return [first, *(it.raw() for it in buffers)]

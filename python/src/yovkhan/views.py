@@ -556,8 +556,9 @@ class Map:
 
     def _tasks(self) -> Iterator[Task]:
         maker, notes, length = self._view.client.maker, self._notes, len(self._seqs[0])
+        seqs = [list(it) if isinstance(it, range) else it for it in self._seqs]
         for number, start in enumerate(range(0, length, self._chunksize)):
-            chunk = [it[start:start + self._chunksize] for it in self._seqs]
+            chunk = [it[start:start + self._chunksize] for it in seqs]
             if self._parts:
                 request = requests.call(self._function, (tuple(chunk), {}), "part")
             else:

@@ -54,18 +54,25 @@ def digest(octets: Octets) -> str:
 
 
 class Signer:
-    """Signs parts with a key, and tells whether a signature is theirs."""
+    """Signs parts with a key (HMAC-SHA256), and tells whether a signature is theirs."""
 
     def __init__(self, key: bytes) -> None:
-        self._key = key
+        block = (hashlib.sha256(key).digest() if len(key) > 64 else key).ljust(64, b"\0")
+        self._inner = hashlib.sha256(bytes(it ^ 0x36 for it in block))
+        self._outer = hashlib.sha256(bytes(it ^ 0x5C for it in block))
+
+    def _tag(self, parts: Sequence[Octets]) -> bytes:
+        inner, outer = self._inner.copy(), self._outer.copy()
+        inner.update(b"".join(parts))
+        outer.update(inner.digest())
+        return outer.hexdigest().encode()
 
     def sign(self, header: bytes, parent: bytes, metadata: bytes, content: bytes) -> bytes:
-        return hmac.digest(self._key, b"".join((header, parent, metadata, content)), "sha256").hex().encode()
+        return self._tag((header, parent, metadata, content))
 
     def signed(self, frames: Sequence[Octets]) -> bool:
         """Whether the frames from the signature on are signed with the key."""
-        tag = hmac.digest(self._key, b"".join(frames[1:5]), "sha256").hex().encode()
-        return hmac.compare_digest(tag, bytes(frames[0]))
+        return hmac.compare_digest(self._tag(frames[1:5]), bytes(frames[0]))
 
 
 class Headers:

@@ -14,12 +14,12 @@ import struct
 import sys
 import traceback
 import types
-from typing import Any, Callable, Dict, Iterator, List, Optional, Sequence, Tuple
+from typing import Any, Callable, Dict, List, Optional, Sequence, Tuple
 
 from . import serialize
 from .error import RemoteError, UnmetDependency, described, text_of
 from .link import Reader
-from .wire import FRAME_LIMIT, PAYLOAD_LIMIT, Octets, content_of, cut, digest, joined, now, packed, read
+from .wire import FRAME_LIMIT, PAYLOAD_LIMIT, VERSION, Octets, content_of, cut, digest, joined, now, packed, read
 
 OK, ERROR, DECLINED = b"ok", b"error", b"declined"
 _KEPT_SOURCES = 200
@@ -52,15 +52,6 @@ class Worker:
         if self._runs:
             raise KeyboardInterrupt
 
-    @contextlib.contextmanager
-    def _running(self) -> Iterator[None]:
-        """Meanwhile SIGINT is a KeyboardInterrupt."""
-        self._runs = True
-        try:
-            yield
-        finally:
-            self._runs = False
-
     def answer(self, msg_type: str, content: Octets, buffers: Sequence[Octets]) -> List[Octets]:
         """The reply: how it ended, what the engine is to say of it, its content and its buffers."""
         started = now()
@@ -76,7 +67,10 @@ class Worker:
         if call is None:
             return ERROR, {}, _error("NotSupported", msg_type, []), ()
         try:
-            return call(content, buffers)
+            try:
+                return call(content, buffers)
+            finally:
+                self._runs = False
         except UnmetDependency as error:
             how, info, made, frames = self._failed(error)
             return DECLINED, {**info, "dependencies_met": False}, made, frames
@@ -100,12 +94,16 @@ class Worker:
         kind = str(content.get("call", "apply"))
         with serialize.reading_in(self.namespace, evaluates=True), serialize.function_of(function, self.namespace) as f:
             given = serialize.whole(arguments)
-            with serialize.reading_in(self.namespace), self._running():
+            with serialize.reading_in(self.namespace):
+                self._runs = True
                 value = _called(f, kind, given, bool(content.get("exceptions")))
+                self._runs = False
                 made = serialize.parted(value)
         info = {"call": kind} if kind != "apply" else {}
         if content.get("parts") and sum(memoryview(it).nbytes for it in made) > PAYLOAD_LIMIT:
             return OK, info, self._in_parts(made), ()
+        if len(made) == 1 and len(made[0]) <= FRAME_LIMIT:
+            return OK, info, f'{{"status":"ok","v":{VERSION},"digests":["{digest(made[0])}"]}}'.encode(), made
         sent, counts = cut(made, "the result")
         return OK, info, content_of(sent, counts, status="ok"), sent
 
@@ -143,8 +141,10 @@ class Worker:
         code = str(content.get("code", ""))
         if not silent:
             self.count += 1
-        with serialize.reading_in(self.namespace), self._running():
+        with serialize.reading_in(self.namespace):
+            self._runs = True
             result = self._run(code, silent)
+            self._runs = False
         info: Dict[str, Any] = {"execution_count": self.count, "execute_input": code}
         if result is not None:
             info["execute_result"] = {"execution_count": self.count, "data": {"text/plain": clean(result)}, "metadata": {}}
@@ -257,8 +257,10 @@ def _flusher() -> Callable[[], None]:
 
     def flush() -> None:
         for stream in (sys.stdout, sys.stderr):
-            with contextlib.suppress(Exception):
+            try:
                 stream.flush()
+            except Exception:  # pylint: disable=broad-except
+                pass
         if flush_c is not None:
             flush_c(None)
 
