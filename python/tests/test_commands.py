@@ -150,6 +150,28 @@ def test_a_plain_script(cluster, tmp_path):
     assert run([sys.executable, str(path)], env=environment(cluster)) == "[0, 3, 6, 9]\n[0, 1, 4, 9]\n[1, 2, 4, 8]\n"
 
 
+def test_the_examples(tmp_path):
+    folder = os.path.join(TOP, "examples")
+    assert run([sys.executable, f"{folder}/squares.py"]) == "[100, 101, 104, 109, 116]\n[1, 5, 9, 13]\n[1, 5, 9, 13]\n"
+    assert run([sys.executable, f"{folder}/graph.py"]) == "42\nno rescue was needed\n"
+    kept = str(tmp_path / "kept")
+    end = f"the sum is {sum(n ** 2 for n in range(100))}\n"
+    first = run([sys.executable, f"{folder}/named.py", kept])
+    assert first.startswith("half of it") and end + "from scratch\n" in first and "finds 100 results" in first
+    assert run([sys.executable, f"{folder}/named.py", kept]).startswith(end + "from what was kept\n")
+
+
+def test_the_ten_minutes(tmp_path):
+    with open(os.path.join(TOP, "python", "README.md"), encoding="utf-8") as file:
+        text = file.read()
+    section = text[text.index("## Ten minutes"):text.index("## A cluster on several machines")]
+    lines = [it[4:] if it.startswith("    ") else "" for it in section.splitlines()]
+    path = tmp_path / "readme.py"
+    path.write_text("\n".join(lines) + "\nprint('all of it')\n")
+    said = run([sys.executable, str(path)], timeout=3 * LIMIT)
+    assert said.endswith("all of it\n") and "-5" not in said
+
+
 def test_in_pytest_with_workers(cluster, tmp_path):
     pytest.importorskip("xdist")
     pytest.importorskip("joblib")

@@ -94,7 +94,7 @@ class Poller:
 
 
 def _is_watched(task: Task) -> bool:
-    return any(watcher.is_watched() for watcher, _ in list(task.watchers))
+    return task.joins or any(watcher.is_watched() for watcher, _ in list(task.watchers))
 
 
 def _unknown(msg_id: str) -> error.RemoteError:
