@@ -260,6 +260,44 @@ def test_abort_of_tasks_that_wait(client):
     client.wait(busy, LIMIT)
 
 
+class Answer:
+    def __init__(self, **content):
+        self.content = content
+
+
+def test_a_controller_that_knows_more(client, monkeypatch):
+    """The questions `db_request` and `abort_request` are used where they are known: here a stand-in answers them."""
+    results = [client[0].apply_async(int), client[1].apply_async(lambda: 1 / 0)]
+    client.wait(results, LIMIT)
+    ids = [it.msg_ids[0] for it in results]
+    asked, ask = [], client._ask  # pylint: disable=protected-access
+
+    def stand_in(msg_type, content, repeats=True, timeout=None):
+        asked.append((msg_type, content))
+        if msg_type == "db_request":
+            wanted = content["query"].get("msg_id", {"$in": ids})
+            named = [wanted] if isinstance(wanted, str) else wanted["$in"]
+            return Answer(records=[{"msg_id": it, "state": "completed"} for it in named])
+        if msg_type == "abort_request":
+            return Answer(aborted=content["msg_ids"])
+        return ask(msg_type, content, repeats, timeout)
+
+    fallen_back = client.db_query({"msg_id": ids[0]}, keys="engine_uuid")
+    client._has_query = client._has_abort = None  # pylint: disable=protected-access
+    monkeypatch.setattr(client, "_ask", stand_in)
+    assert client.db_query({"msg_id": ids[0]}, keys="engine_uuid") == fallen_back
+    assert len(client.db_query({"engine_uuid": {"$ne": None}})) == 2
+    assert {it[0] for it in asked} == {"db_request"}
+    busy = client[:].apply_async(time.sleep, 0.5)
+    until(lambda: all(client.queue_status(it)["queue"] for it in range(4)))
+    late = [client.load_balanced_view().apply_async(int) for _ in range(6)]
+    until(lambda: client.queue_status()["unassigned"] == 2)
+    client.abort(late, block=True)
+    waited = [it[1]["msg_ids"] for it in asked if it[0] == "abort_request"]
+    assert len(waited) == 1 and len(waited[0]) == 2 and set(waited[0]) <= {it.msg_ids[0] for it in late}
+    client.wait([busy, *late], LIMIT)
+
+
 def test_a_signal_interrupts_a_function(client):
     result = client[0].apply_async(time.sleep, LIMIT)
     until(lambda: client.queue_status(0)["queue"] == 1)

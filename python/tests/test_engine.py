@@ -128,9 +128,10 @@ def test_a_worker_that_crashes(own_cluster):
     with pytest.raises(error.EngineError):
         gone.apply_sync(int)
     balanced = client.load_balanced_view()
+    lost = balanced.apply_async(crash, True)
     with pytest.raises(error.EngineError) as raised:
-        balanced.apply_async(crash, True).get(LIMIT)
-    assert raised.value.ename == "EngineError"
+        lost.get(LIMIT)
+    assert raised.value.ename == "EngineError" and lost.engine_id == raised.value.engine_info["engine_id"] in (0, 1)
     cluster.start_engine("another")
     client.wait_for_engines(1, timeout=LIMIT)
 

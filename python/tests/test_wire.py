@@ -101,6 +101,16 @@ def test_serializing():
         serialize.use("nothing")
 
 
+def test_a_check_runs_where_the_function_was_read():
+    @yovkhan.require("base64")
+    @yovkhan.interactive
+    def encode(octets):
+        return base64.b64encode(octets)  # noqa: F821
+
+    place = {}
+    assert serialize.loads(serialize.dumps(encode), place)(b"foo") == b"Zm9v" and "base64" in place
+
+
 def test_a_function_of_another_python():
     with pytest.raises(error.NotPicklable, match="cpython-30"):
         serialize._code(b"", "cpython-30")  # pylint: disable=protected-access

@@ -735,11 +735,12 @@ class Client:
         if self._has_abort is False or not msg_ids:
             return
         try:
-            self._ask("abort_request", {"msg_ids": msg_ids})
+            waiting = set(self.queue_status(verbose=True)["unassigned"])
+            self._ask("abort_request", {"msg_ids": [it for it in msg_ids if it in waiting]})
             self._has_abort = True
         except Unknown:
             self._has_abort = False
-        except (error.RemoteError, ValueError) as failure:
+        except error.RemoteError as failure:  # one was purged meanwhile, or there are too many
             log.debug("the controller aborted nothing: %s", failure)
 
     def send_signal(self, sig: Any, targets: Any = None, block: Optional[bool] = None) -> AsyncResult:

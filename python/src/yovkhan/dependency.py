@@ -28,11 +28,19 @@ class dependent:  # pylint: disable=invalid-name
         self.f, self.df, self.dargs, self.dkwargs = _wrapped_f, _wrapped_df, dargs, dkwargs
         self.__name__ = getattr(_wrapped_f, "__name__", "f")
         self.__doc__ = getattr(_wrapped_f, "__doc__", None)
+        self._namespace: Optional[Dict[str, Any]] = None
+
+    def __getstate__(self) -> Dict[str, Any]:
+        return {**self.__dict__, "_namespace": None}
+
+    def __setstate__(self, state: Dict[str, Any]) -> None:
+        self.__dict__.update(state, _namespace=serialize.namespace())
 
     def check_dependency(self) -> None:
-        """Raises UnmetDependency where the check says so."""
-        if self.df(*self.dargs, **self.dkwargs) is False:
-            raise UnmetDependency()
+        """Raises UnmetDependency where the check says so. It runs in the namespace that the function was read in."""
+        with serialize.reading_in(self._namespace):
+            if self.df(*self.dargs, **self.dkwargs) is False:
+                raise UnmetDependency()
 
     def __call__(self, *args: Any, **kwargs: Any) -> Any:
         self.check_dependency()
@@ -41,7 +49,7 @@ class dependent:  # pylint: disable=invalid-name
 
 def _require(*modules: str, objects: Optional[Dict[str, bytes]] = None) -> bool:
     """Puts modules and objects into the namespace of the engine; an ImportError declines."""
-    namespace = serialize._namespace()  # pylint: disable=protected-access
+    namespace = serialize.namespace()
     for name in modules:
         try:
             importlib.import_module(name)

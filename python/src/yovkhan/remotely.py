@@ -1,14 +1,11 @@
-"""What views have engines do in their namespaces. Engines import it; `namespace()` is that of the engine."""
+"""What views have engines do in their namespaces."""
 
 from __future__ import annotations
 
 from typing import Any, Dict, Sequence
 
 from . import serialize
-
-
-def namespace() -> Dict[str, Any]:
-    return serialize._namespace()  # pylint: disable=protected-access
+from .serialize import namespace
 
 
 def push(values: Dict[str, Any]) -> None:

@@ -69,7 +69,8 @@ class _Place(threading.local):
 _place = _Place()
 
 
-def _namespace() -> Dict[str, Any]:
+def namespace() -> Dict[str, Any]:
+    """The globals of functions of `__main__` that are read now: on an engine its namespace."""
     return sys.modules["__main__"].__dict__ if _place.namespace is None else _place.namespace
 
 
@@ -105,7 +106,7 @@ class Reference:
 
 
 def _referred(name: str) -> Any:
-    return eval(name, _namespace()) if _place.evaluates else Reference(name)  # pylint: disable=eval-used
+    return eval(name, namespace()) if _place.evaluates else Reference(name)  # pylint: disable=eval-used
 
 
 def interactive(f: Any) -> Any:
@@ -131,7 +132,7 @@ def _code(octets: bytes, tag: str) -> types.CodeType:
 
 def _bare_function(octets: bytes, tag: str, name: str, free: int) -> types.FunctionType:
     cells = tuple(types.CellType() for _ in range(free)) if free else None
-    return types.FunctionType(_code(octets, tag), _namespace(), name, None, cells)
+    return types.FunctionType(_code(octets, tag), namespace(), name, None, cells)
 
 
 def _fill_function(made: types.FunctionType, state: Dict[str, Any]) -> None:

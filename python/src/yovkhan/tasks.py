@@ -2,6 +2,7 @@
 
 from __future__ import annotations
 
+import re
 import threading
 from datetime import datetime, timezone
 from typing import Any, Callable, Dict, List, Mapping, Optional, Sequence, Tuple, Union
@@ -238,6 +239,12 @@ def _engine_name(octets: str) -> str:
         return octets
 
 
+def _lost_engine(ename: str, evalue: str, msg_type: str) -> Optional[Dict[str, Any]]:
+    """Which engine was lost, where the controller says so."""
+    lost = re.match(r"engine (\d+) was lost", evalue) if ename == "EngineError" else None
+    return {"engine_id": int(lost[1]), "method": msg_type.replace("_reply", "")} if lost else None
+
+
 def failure_of(outcome: Outcome, content: Dict[str, Any], msg_id: str) -> BaseException:
     """The error that an outcome tells of."""
     ename, evalue = str(content.get("ename", "")), str(content.get("evalue", ""))
@@ -249,7 +256,7 @@ def failure_of(outcome: Outcome, content: Dict[str, Any], msg_id: str) -> BaseEx
         return error.remote_error(ename, evalue)
     if content.get("status") in ("aborted", "abort"):
         return error.remote_error("TaskAborted", ename and evalue or f"{msg_id} was aborted")
-    info = content.get("engine_info") or None
+    info = content.get("engine_info") or _lost_engine(ename, evalue, outcome.msg_type)
     return error.remote_error(ename or "Error", evalue, content.get("traceback") or [], info)
 
 
