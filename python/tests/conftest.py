@@ -4,6 +4,7 @@ The program is the one that the variable IPCLUSTER names, or the checkout's that
 
 import contextlib
 import os
+import signal
 import subprocess
 import sys
 import time
@@ -67,6 +68,18 @@ def until(there, seconds=LIMIT, step=0.02):
     while not there():
         assert time.monotonic() < end, "it takes too long"
         time.sleep(step)
+
+
+@contextlib.contextmanager
+def busy(client, targets):
+    """Keeps engines busy meanwhile: the result of what runs there, which a signal ends."""
+    result = client.direct_view(targets).apply_async(time.sleep, 10 * LIMIT)
+    numbers = [targets] if isinstance(targets, int) else client.ids if targets == "all" else targets
+    until(lambda: all(client.queue_status(it)["queue"] for it in numbers))
+    try:
+        yield result
+    finally:
+        until(lambda: client.send_signal(signal.SIGINT, targets).wait(LIMIT) and result.wait(0.5))
 
 
 def run(words, timeout=LIMIT, **how):

@@ -8,7 +8,7 @@ import time
 import pytest
 
 import yovkhan
-from conftest import LIMIT, remote, until
+from conftest import LIMIT, busy, remote
 from yovkhan import Dependency, error
 
 
@@ -165,13 +165,12 @@ def test_retries(view):
 
 
 def test_timeout(client):
-    busy = client[0].apply_async(time.sleep, 3.5)
-    until(lambda: client.queue_status(0)["queue"])
-    first = client.load_balanced_view([0]).apply_async(int)
-    with pytest.raises(error.TaskTimeout) as raised:
-        client.load_balanced_view([0], timeout=0.5).apply_async(int).get(LIMIT)
-    assert raised.value.ename == "TaskTimeout"
-    client.wait([busy, first], LIMIT)
+    with busy(client, 0):
+        first = client.load_balanced_view([0]).apply_async(int)
+        with pytest.raises(error.TaskTimeout) as raised:
+            client.load_balanced_view([0], timeout=0.5).apply_async(int).get(LIMIT)
+        assert raised.value.ename == "TaskTimeout"
+    assert first.get(LIMIT) == 0
 
 
 def test_a_decline_moves_a_task(client, view):

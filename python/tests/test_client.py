@@ -1,7 +1,6 @@
 """The client: engines, waits, results by id, what the controller knows, control of engines."""
 
 import os
-import signal
 import socket
 import threading
 import time
@@ -10,7 +9,7 @@ from concurrent.futures import Future
 import pytest
 
 import yovkhan
-from conftest import LIMIT, remote, until
+from conftest import LIMIT, busy, remote, until
 from yovkhan import error
 
 
@@ -84,7 +83,7 @@ def test_wait_for_engines(client):
 def test_wait_for_jobs(client):
     view = client.load_balanced_view()
     assert client.wait() is True
-    slow = view.apply_async(time.sleep, 0.3)
+    slow = view.apply_async(time.sleep, 1)
     assert client.wait(slow, timeout=0) is False and client.wait(timeout=0.01) is False
     assert client.wait([slow, slow.msg_ids[0], -1], timeout=LIMIT) is True
     future = Future()
@@ -97,7 +96,7 @@ def test_wait_for_jobs(client):
 
 def test_outstanding_and_history(client):
     view = client[0]
-    result = view.apply_async(time.sleep, 0.3)
+    result = view.apply_async(time.sleep, 1)
     assert client.outstanding == {result.msg_ids[0]} == view.outstanding
     assert client.history == result.msg_ids == view.history
     result.get(LIMIT)
@@ -117,7 +116,7 @@ def test_an_owner_takes_the_result(client):
 
 def test_results_of_another_client(cluster, client):
     with cluster.make_client() as other:
-        result = client[0].apply_async(lambda: time.sleep(0.3) or 7)
+        result = client[0].apply_async(lambda: time.sleep(1) or 7)
         foreign = other.get_result(result.msg_ids[0], owner=False)
         assert isinstance(foreign, yovkhan.AsyncHubResult) and not foreign.ready()
         assert foreign.get(LIMIT) == result.get(LIMIT) == 7
@@ -142,13 +141,13 @@ def test_an_unknown_id(client):
 
 
 def test_result_status(client):
-    slow, quick = client[0].apply_async(time.sleep, 0.5), client[1].apply_async(lambda: 3)
+    quick = client[1].apply_async(lambda: 3)
     quick.get(LIMIT)
-    status = client.result_status([*slow.msg_ids, *quick.msg_ids])
-    assert status == {"pending": slow.msg_ids, "completed": quick.msg_ids}
+    with busy(client, 0) as slow:
+        status = client.result_status([*slow.msg_ids, *quick.msg_ids])
+        assert status == {"pending": slow.msg_ids, "completed": quick.msg_ids}
     full = client.result_status(quick.msg_ids[0], status_only=False)
     assert full[quick.msg_ids[0]] == 3
-    slow.get(LIMIT)
 
 
 def test_resubmit(client):
@@ -160,11 +159,10 @@ def test_resubmit(client):
 
 
 def test_queue_status(client):
-    result = client[0].apply_async(time.sleep, 0.4)
-    until(lambda: client.queue_status(0)["queue"] == 1)
-    status = client.queue_status(verbose=True)
-    assert status[0]["queue"] == result.msg_ids and status["unassigned"] == [] and set(status) == {*client.ids, "unassigned"}
-    result.get(LIMIT)
+    with busy(client, 0) as result:
+        assert client.queue_status(0)["queue"] == 1
+        status = client.queue_status(verbose=True)
+        assert status[0]["queue"] == result.msg_ids and status["unassigned"] == [] and set(status) == {*client.ids, "unassigned"}
     assert client[0].queue_status()["queue"] == 0
     assert set(client.queue_status([0, 1])) == {0, 1, "unassigned"}
     with pytest.raises(IndexError):
@@ -181,16 +179,14 @@ def test_purges(own_cluster):
     assert client.hub_history() == ids[1:]
     with remote("KeyError"):
         client.get_result(ids[0]).get(LIMIT)
-    slow = client[0].apply_async(time.sleep, 0.5)
-    until(lambda: slow.msg_ids[0] in client.hub_history())
-    with remote("Inflight") as raised:
-        client.purge_hub_results(slow)
-    assert raised.value.ids == slow.msg_ids
-    with pytest.raises(RuntimeError):
-        client.purge_local_results(slow)
+    with busy(client, 0) as slow:
+        with remote("Inflight") as raised:
+            client.purge_hub_results(slow)
+        assert raised.value.ids == slow.msg_ids
+        with pytest.raises(RuntimeError):
+            client.purge_local_results(slow)
     with pytest.raises(ValueError):
         client.purge_results()
-    slow.get(LIMIT)
     client.purge_hub_results(targets=0)
     assert client.hub_history() == []
     client[0].apply_sync(int)
@@ -232,16 +228,15 @@ def test_clear(client, all_engines):
 
 def test_abort_of_direct_requests(client):
     view = client[-1]
-    running = view.execute("import time; time.sleep(0.5)", block=False)
-    second, third, fourth = (view.apply_async(int) for _ in range(3))
-    view.abort(second)
-    view.abort(third.msg_ids)
-    fourth.abort()
-    for it in (second, third, fourth):
-        with pytest.raises(yovkhan.TaskAborted) as raised:
-            it.get(LIMIT)
-        assert isinstance(raised.value, yovkhan.RemoteError)
-    running.get(LIMIT)
+    with busy(client, client.ids[-1]) as running:
+        second, third, fourth = (view.apply_async(int) for _ in range(3))
+        view.abort(second)
+        view.abort(third.msg_ids)
+        fourth.abort()
+        for it in (second, third, fourth):
+            with pytest.raises(yovkhan.TaskAborted) as raised:
+                it.get(LIMIT)
+            assert isinstance(raised.value, yovkhan.RemoteError)
     with pytest.raises(AssertionError):
         running.abort()
     with pytest.raises(TypeError):
@@ -249,15 +244,15 @@ def test_abort_of_direct_requests(client):
 
 
 def test_abort_of_tasks_that_wait(client):
-    busy = [client[:].apply_async(time.sleep, 0.4) for _ in range(2)]
     view = client.load_balanced_view()
-    second, third = view.apply_async(lambda: 2), view.apply_async(lambda: 3)
-    view.abort(second)
-    view.abort(third.msg_ids)
-    for it in (second, third):
+    with busy(client, client.ids):
+        tasks = [view.apply_async(int) for _ in range(6)]
+        view.abort(tasks[0], block=True)
+        view.abort(tasks[1].msg_ids, block=True)
+        view.abort(block=True)
+    for it in tasks:
         with pytest.raises(yovkhan.TaskAborted):
             it.get(LIMIT)
-    client.wait(busy, LIMIT)
 
 
 class Answer:
@@ -288,21 +283,18 @@ def test_a_controller_that_knows_more(client, monkeypatch):
     assert client.db_query({"msg_id": ids[0]}, keys="engine_uuid") == fallen_back
     assert len(client.db_query({"engine_uuid": {"$ne": None}})) == 2
     assert {it[0] for it in asked} == {"db_request"}
-    busy = client[:].apply_async(time.sleep, 0.5)
-    until(lambda: all(client.queue_status(it)["queue"] for it in range(4)))
-    late = [client.load_balanced_view().apply_async(int) for _ in range(6)]
-    until(lambda: client.queue_status()["unassigned"] == 2)
-    client.abort(late, block=True)
+    with busy(client, client.ids):
+        late = [client.load_balanced_view().apply_async(int) for _ in range(6)]
+        until(lambda: client.queue_status()["unassigned"] == 2)
+        client.abort(late, block=True)
     waited = [it[1]["msg_ids"] for it in asked if it[0] == "abort_request"]
     assert len(waited) == 1 and len(waited[0]) == 2 and set(waited[0]) <= {it.msg_ids[0] for it in late}
-    client.wait([busy, *late], LIMIT)
+    client.wait(late, LIMIT)
 
 
 def test_a_signal_interrupts_a_function(client):
-    result = client[0].apply_async(time.sleep, LIMIT)
-    until(lambda: client.queue_status(0)["queue"] == 1)
-    time.sleep(0.2)
-    client.send_signal(signal.SIGINT, targets=0, block=True)
+    with busy(client, 0) as result:
+        pass
     with remote("KeyboardInterrupt"):
         result.get(LIMIT)
     client.send_signal("SIGINT", targets=0, block=True)
@@ -379,7 +371,7 @@ def test_a_fork_is_refused(client):
 def test_a_session_gets_what_settles_later(cluster, client):
     with cluster.make_client(session="me") as first:
         result = first.load_balanced_view().apply_async(lambda: time.sleep(0.3) or 11)
-        until(lambda: client.result_status(result.msg_ids)["pending"] is not None)
+        until(lambda: result.msg_ids[0] in client.hub_history())
     with cluster.make_client(session="me") as second:
         assert second.get_result(result.msg_ids[0]).get(LIMIT) == 11
         assert second.load_balanced_view().apply_sync(int) == 0
