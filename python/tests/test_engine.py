@@ -92,6 +92,38 @@ def test_large_values(client):
     assert client.load_balanced_view().apply_sync(lambda it: len(it), sent) == len(sent)
 
 
+def test_long_texts_dont_break_the_link(client, cluster):
+    view = client[0]
+
+    def much():
+        import sys
+
+        print("\0" * 2_000_000)
+        print("\0" * 2_000_000, file=sys.stderr)
+        return bytes(31_900_000)
+
+    result = view.apply_async(much)
+    assert len(result.get(LIMIT)) == 31_900_000 and 0 < len(result.stdout) < 1_000_000
+    with cluster.make_client() as other:
+        assert len(other.get_result(result.msg_ids[0]).get(LIMIT)) == 31_900_000
+
+    def fail(text):
+        raise ValueError(text * 20_000_000)
+
+    with remote("ValueError") as raised:
+        view.apply_sync(fail, "\0")
+    assert 100_000 < len(raised.value.evalue) < 300_000
+
+    def deep(n):
+        return deep(n - 1) if n else 1 // 0
+
+    with remote("ZeroDivisionError") as raised:
+        view.apply_sync(deep, 500)
+    assert len(raised.value.traceback) < 250
+    long = view.execute("'x' * 5_000_000", silent=False).get(LIMIT)
+    assert len(long.execute_result["data"]["text/plain"]) < 300_000 and client.ids[0] == 0
+
+
 def test_a_large_push_goes_in_parts(client):
     view, sent = client[0], numpy.random.default_rng(1).integers(0, 255, 100_000_000, dtype="uint8")
     view.push({"large": sent}, block=True)

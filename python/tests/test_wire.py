@@ -14,7 +14,7 @@ import yovkhan
 from conftest import until
 from yovkhan import error, functions, query, serialize, wire
 from yovkhan.link import Link, Loop, Reader
-from yovkhan.tasks import ExecuteReply, Metadata
+from yovkhan.tasks import ExecuteReply, Metadata, Outcome, failure_of
 from yovkhan.worker import clean
 
 
@@ -134,6 +134,14 @@ def test_records():
     reply = ExecuteReply({"execute_result": {"data": {"text/plain": "5"}}, "stdout": ""}, 3)
     assert repr(reply) == "<ExecuteReply[3]: 5>" and reply["execution_count"] == 3
     assert clean("a\ud800") == "a?"
+
+
+@pytest.mark.parametrize("ename, kind", [
+    ("KnownId", error.DuplicateId), ("Purged", error.DuplicateId), ("ReservedId", error.DuplicateId), ("TableFull", error.TableFull),
+    ("BadMetadata", ValueError), ("NoSuchEngine", error.EngineError), ("Other", error.RemoteError)])
+def test_refusals(ename, kind):
+    outcome = Outcome("submit_refused", {}, {"status": "error", "ename": ename, "evalue": "6162"}, (), None)
+    assert isinstance(failure_of(outcome, outcome.content, "id"), kind)
 
 
 def test_errors_can_be_pickled():

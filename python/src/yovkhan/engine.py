@@ -23,6 +23,8 @@ SILENCE = 7.0
 """Without a word of the controller for so many seconds, an engine registers again: beats come every 3 s."""
 OUTPUT_LIMIT = 1_048_576
 """So many of the last octets are kept of what a request writes to stdout, and to stderr."""
+_MESSAGE = 32_900_000
+"""So many octets a reply has at most, so that it can be asked for again."""
 _REPLIES, _REPLY_OCTETS, _ABORTED = 512, 33_554_432, 10_000
 
 
@@ -111,7 +113,7 @@ class Engine:
         self._start_worker()
         for it in (signal.SIGTERM, signal.SIGINT):
             signal.signal(it, lambda *_: self._loop.call(self._leave))
-        signal.set_wakeup_fd(self._loop._theirs.fileno(), warn_on_full_buffer=False)  # pylint: disable=protected-access
+        signal.set_wakeup_fd(self._loop.waker, warn_on_full_buffer=False)
         self._loop.call(self._link.open)
         self._loop.call(self._look)
         self._loop.run()
@@ -173,7 +175,7 @@ class Engine:
         content = bytes(content)
         if how != b"ok":
             content = content[:-1] + b',"engine_info":' + self._info(job) + b"}"
-        metadata = self._metadata(job, bytes(info))
+        metadata = self._metadata(job, bytes(info), _MESSAGE - len(content) - sum(map(len, buffers)))
         if how == b"ok":
             self._keep(job, metadata, content, buffers)
         self._send(job, metadata, content, buffers)
@@ -183,12 +185,19 @@ class Engine:
         method = job.message.msg_type.replace("_request", "")
         return json.dumps({"engine_uuid": self.name, "engine_id": self.number, "method": method}).encode()
 
-    def _metadata(self, job: Job, info: bytes) -> bytes:
-        """What a later reader wants to know of the request, before what the worker says of it."""
+    def _metadata(self, job: Job, info: bytes, room: int) -> bytes:
+        """What a later reader wants to know of the request, before what the worker says of it. Outputs are cut to the room that the
+        rest of the message leaves."""
         header = job.message.header
         known: Dict[str, Any] = {"engine": self.name, "engine_id": self.number, "submitted": header.get("date"),
                                  "stdout": self._out.take(), "stderr": self._err.take()}
-        return json.dumps(known).encode()[:-1] + b',"request":' + bytes(job.message.frames[1]) + b"," + info[1:]
+        behind = b',"request":' + bytes(job.message.frames[1]) + b"," + info[1:]
+        before = json.dumps(known).encode()[:-1]
+        if len(before) + len(behind) > room:
+            most = max(0, room - len(behind) - 2000) // 12  # a character takes 6 octets at most
+            known.update(stdout=known["stdout"][-most:] if most else "", stderr=known["stderr"][-most:] if most else "")
+            before = json.dumps(known).encode()[:-1]
+        return before + behind
 
     # -- replies
 

@@ -209,8 +209,8 @@ class _Fetching:
         if failure is None:
             self._left = self._left[len(self._asked):]
             self._share_out(answer.result())
-        elif isinstance(failure, error.RemoteError) and failure.ename == "ReplyTooLong" and len(self._asked) > 1:
-            self._most = max(1, len(self._asked) // 4)
+        elif isinstance(failure, error.RemoteError) and failure.ename == "ReplyTooLong":
+            self._ask_for_fewer(failure)
         elif getattr(failure, "ids", None):
             gone = set(failure.ids)  # type: ignore[attr-defined]
             self._left = [it for it in self._left if it not in gone]
@@ -218,6 +218,14 @@ class _Fetching:
             log.debug("a question for results failed: %s", failure)
             return
         self.next()
+
+    def _ask_for_fewer(self, failure: error.RemoteError) -> None:
+        """Asks for fewer at once. One that is too long by itself has this error for its outcome."""
+        if len(self._asked) > 1:
+            self._most = max(1, len(self._asked) // 4)
+            return
+        content = {"status": "error", "ename": failure.ename, "evalue": "the outcome is too long to be asked for"}
+        self._each(self._left.pop(0), Outcome("", {}, content, (), None))
 
     def _share_out(self, message: Message) -> None:
         content = message.content

@@ -146,6 +146,11 @@ class Loop:
             self._woken = True
             self.wake()
 
+    @property
+    def waker(self) -> int:
+        """The descriptor that wakes the loop when something is written to it, as `signal.set_wakeup_fd` takes it."""
+        return self._theirs.fileno()
+
     def wake(self) -> None:
         try:
             self._theirs.send(b"\0")

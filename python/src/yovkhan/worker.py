@@ -22,13 +22,19 @@ from .link import Reader
 from .wire import FRAME_LIMIT, PAYLOAD_LIMIT, VERSION, Octets, content_of, cut, digest, joined, now, packed, read
 
 OK, ERROR, DECLINED = b"ok", b"error", b"declined"
+TEXT_LIMIT = 200_000
+"""So many characters at most a reply tells of a message, a line of a traceback, a result's text or the code."""
+_LINES = 200
 _KEPT_SOURCES = 200
 _PACKAGE = os.path.dirname(os.path.abspath(__file__)) + os.sep
 Reply = Tuple[bytes, Dict[str, Any], bytes, Sequence[Octets]]
 
 
 def clean(text: str) -> str:
-    """A text that JSON can carry: lone surrogates are replaced."""
+    """A text that a reply can carry: lone surrogates are replaced, and of a long one the middle is left out."""
+    if len(text) > TEXT_LIMIT:
+        half = TEXT_LIMIT // 2
+        text = f"{text[:half]} .. {text[-half:]}"
     return text.encode("utf-8", "replace").decode()
 
 
@@ -81,10 +87,9 @@ class Worker:
         kind = type(error)
         if isinstance(error, RemoteError):
             return ERROR, {}, _error(error.ename, error.evalue, error.traceback), ()
-        text = clean(text_of(error))
         lines = described(kind, error, [])
         lines[1:1] = _frames_of(error)
-        return ERROR, {}, _error(kind.__name__, text, [clean(it) for it in lines]), ()
+        return ERROR, {}, _error(kind.__name__, text_of(error), lines), ()
 
     # -- functions
 
@@ -145,7 +150,7 @@ class Worker:
             self._runs = True
             result = self._run(code, silent)
             self._runs = False
-        info: Dict[str, Any] = {"execution_count": self.count, "execute_input": code}
+        info: Dict[str, Any] = {"execution_count": self.count, "execute_input": clean(code)}
         if result is not None:
             info["execute_result"] = {"execution_count": self.count, "data": {"text/plain": clean(result)}, "metadata": {}}
         made = {"status": "ok", "execution_count": self.count, "user_expressions": {}}
@@ -217,7 +222,14 @@ def _frames_of(error: BaseException) -> List[str]:
 
 
 def _error(ename: str, evalue: str, lines: Sequence[str]) -> bytes:
-    return json.dumps({"status": "error", "ename": ename, "evalue": evalue, "traceback": list(lines)}).encode()
+    shown = list(lines)
+    if len(shown) > _LINES:
+        shown[_LINES // 2:-_LINES // 2] = ["  .."]
+    left = 5 * TEXT_LIMIT
+    for at in range(len(shown) - 1, -1, -1):  # the last lines say most
+        shown[at] = clean(shown[at])[:max(left, 0)]
+        left -= len(shown[at])
+    return json.dumps({"status": "error", "ename": clean(ename), "evalue": clean(evalue), "traceback": shown}).encode()
 
 
 class Pipe:
