@@ -228,8 +228,8 @@ def test_it_installs_in_a_venv(tmp_path):
     folder, sources = str(tmp_path / "v"), str(tmp_path / "python")
     run(["cp", "-r", os.path.join(TOP, "python"), sources])
     env = {name: it for name, it in os.environ.items() if name != "PYTHONPATH"}
-    run([sys.executable, "-m", "venv", "--system-site-packages", folder], env=env)
-    run([f"{folder}/bin/pip", "install", "--no-build-isolation", "--no-index", sources], timeout=3 * LIMIT, env=env)
+    run([sys.executable, "-m", "venv", "--system-site-packages", folder], timeout=4 * LIMIT, env=env)
+    run([f"{folder}/bin/pip", "install", "--no-build-isolation", "--no-index", sources], timeout=4 * LIMIT, env=env)
     script = "import yovkhan, os; print(os.path.exists(os.path.join(os.path.dirname(yovkhan.__file__), 'py.typed')), yovkhan.__file__)"
     said = run([f"{folder}/bin/python", "-c", script], env=env, cwd=str(tmp_path))
     assert said.startswith(f"True {folder}")

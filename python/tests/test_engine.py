@@ -301,8 +301,16 @@ def test_an_engine_with_a_wrong_key(own_cluster, tmp_path):
     path.write_text("wrong")
     words = [sys.executable, "-m", "yovkhan", "engine", cluster.host, str(cluster.port), "w", "--key-file", str(path)]
     child = subprocess.Popen(words, stderr=subprocess.PIPE, text=True)
+    until(lambda: catches(child.pid, signal.SIGTERM))
     time.sleep(1)
     assert cluster.client.ids == [] and child.poll() is None
     child.terminate()
     assert child.wait(LIMIT) == 0
     child.stderr.close()
+
+
+def catches(pid, sig):
+    """Whether a process has a handler for a signal."""
+    with open(f"/proc/{pid}/status", encoding="ascii") as status:
+        mask = next(it.split()[1] for it in status if it.startswith("SigCgt"))
+    return bool(int(mask, 16) & 1 << (sig - 1))

@@ -8,24 +8,26 @@ from .tasks import Metadata, Task
 
 
 class Results(Dict[str, Any]):
-    """The values of ended requests that no result has taken, by id; an error stands in the place of a value."""
+    """The values of ended requests that no result has taken, by id; an error stands in the place of a value. What is set stays."""
 
     def __init__(self, tasks: Dict[str, Task]) -> None:
         super().__init__()
         self._of = tasks
 
     def __getitem__(self, msg_id: str) -> Any:
-        task = self._of[msg_id]
-        if not task.is_done:
-            raise KeyError(msg_id)
+        task = self._of.get(msg_id)
+        if task is None or not task.is_done:
+            return super().__getitem__(msg_id)
         settled = task.settled()
         return settled.value if settled.error is None else settled.error
 
     def __contains__(self, msg_id: object) -> bool:
-        return msg_id in self._of and self._of[str(msg_id)].is_done
+        task = self._of.get(str(msg_id))
+        return task is not None and task.is_done or super().__contains__(msg_id)
 
     def __iter__(self) -> Iterator[str]:
-        return iter([it for it in list(self._of) if it in self])
+        ended = [name for name, it in list(self._of.items()) if it.is_done]
+        return iter(list(dict.fromkeys([*ended, *super().__iter__()])))
 
     def __len__(self) -> int:
         return sum(1 for _ in self)
@@ -66,6 +68,3 @@ class MetadataOf(Dict[str, Metadata]):
 
     def __len__(self) -> int:
         return sum(1 for _ in self)
-
-    def forget(self, msg_id: str) -> None:
-        self.pop(msg_id, None)

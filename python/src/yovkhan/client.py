@@ -412,8 +412,11 @@ class Client:
         """Takes requests out of the caches: a result that owns them has them."""
         with self._lock:
             for it in tasks:
-                self._tasks.pop(it.msg_id, None)
-                self.metadata.forget(it.msg_id)
+                self._forget(it.msg_id)
+
+    def _forget(self, msg_id: str) -> None:
+        for kept in (self._tasks, self.results, self.metadata):
+            kept.pop(msg_id, None)
 
     def poll(self, tasks: Sequence[Task]) -> None:
         self._poller.add(tasks)
@@ -641,7 +644,7 @@ class Client:
         if jobs is None and targets is None:
             raise ValueError("jobs or targets are purged")
         if jobs == "all":
-            ids = list(self._tasks)
+            ids = [*self._tasks, *self.results, *self.metadata]
         else:
             ids = [self._id(it) if isinstance(it, int) else it for it in ids_of_jobs(jobs)] if jobs is not None else []
             if targets is not None:
@@ -651,8 +654,7 @@ class Client:
             raise RuntimeError("some of the jobs haven't ended")
         with self._lock:
             for it in ids:
-                self._tasks.pop(it, None)
-                self.metadata.forget(it)
+                self._forget(it)
 
     def purge_results(self, jobs: Any = None, targets: Any = None) -> None:
         """Both here and at the controller."""
@@ -667,12 +669,13 @@ class Client:
     def db_query(self, query_: Dict[str, Any], keys: Any = None) -> List[Dict[str, Any]]:
         """What is known of requests that match, as dicts, in the order of submission. The query is as in MongoDB: equality, `$lt`,
         `$lte`, `$gt`, `$gte`, `$ne`, `$in`, `$nin`, `$and`, `$or`. `keys` says which fields are wanted; `msg_id` is always there, and
-        buffers only where they are asked for."""
+        buffers only where they are asked for. Of a request that hasn't ended, and of one whose outcome the controller made, nobody has
+        kept when it was submitted: that of the request before it stands there."""
         wanted = [keys] if isinstance(keys, str) else keys
         query.matches(query_, {"msg_id": ""})
         ids, ended = self._ids_for(query_)
         outcomes = self.outcomes(ended)
-        records = [query.record_of(it, outcomes.get(it)) for it in ids]
+        records = query.dated([query.record_of(it, outcomes.get(it)) for it in ids])
         return [query.chosen(it, wanted) for it in records if query.matches(query_, it)]
 
     def _ids_for(self, query_: Dict[str, Any]) -> Tuple[List[str], List[str]]:

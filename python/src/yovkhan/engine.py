@@ -161,7 +161,7 @@ class Engine:
         while self._running is None and self._queue and self._is_ready:
             job = self._queue.popleft()
             if job.msg_id in self._aborted:
-                self._send(job, b"{}", b'{"status":"aborted"}')
+                self._say_aborted(job)
                 continue
             self._running = job
             message = job.message
@@ -319,9 +319,14 @@ class Engine:
         waiting, self._queue = self._queue, collections.deque()
         for job in waiting:
             if job.msg_id in self._aborted:
-                self._send(job, b"{}", b'{"status":"aborted"}')
+                self._say_aborted(job)
             else:
                 self._queue.append(job)
+
+    def _say_aborted(self, job: Job) -> None:
+        info = {"engine": self.name, "engine_id": self.number, "submitted": job.message.header.get("date"), "completed": now(),
+                "status": "aborted"}
+        self._send(job, json.dumps(info).encode(), b'{"status":"aborted"}')
 
     def _signal(self, sig: Any) -> Dict[str, Any]:
         try:

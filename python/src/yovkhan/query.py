@@ -92,6 +92,14 @@ def record_of(msg_id: str, outcome: Optional[Outcome]) -> Dict[str, Any]:
     }
 
 
+def dated(records: List[Dict[str, Any]]) -> List[Dict[str, Any]]:
+    """Records in the order of submission, where one without a moment of submission has that of the one before it."""
+    before = None
+    for it in records:
+        it["submitted"] = before = it["submitted"] or before
+    return records
+
+
 def chosen(record: Dict[str, Any], keys: Optional[Sequence[str]]) -> Dict[str, Any]:
     """The fields that are wanted of a record, `msg_id` among them."""
     wanted = FIELDS if keys is None else ("msg_id", *keys)

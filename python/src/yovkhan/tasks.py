@@ -217,7 +217,8 @@ class Task:
                 known[name] = came[name]
         failure = self._settled.error if self._settled else None
         if isinstance(failure, error.RemoteError):
-            known["error"], known["status"] = failure, "error"
+            known["error"] = failure
+            known["status"] = "aborted" if isinstance(failure, error.TaskAborted) else "error"
             if known["engine_id"] is None:
                 known["engine_id"] = failure.engine_info.get("engine_id")
         return known

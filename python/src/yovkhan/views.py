@@ -509,8 +509,8 @@ class LoadBalancedView(View):
             result = waiting[0] if ordered else ended.next(self.client)
             result.wait()
             waiting.remove(result)
-            more = more and begin()
             yield result.get()
+            more = more and begin()
 
     def _spread(self, made: ParallelFunction, seqs: List[Any], is_map: bool) -> AsyncMapResult:
         spread = Map(self, made.func, seqs, chunksize=made.chunksize or 1, keeps=made.return_exceptions, parts=not is_map)
