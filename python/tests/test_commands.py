@@ -53,6 +53,20 @@ def test_the_program_is_found(monkeypatch, tmp_path):
     assert program() == [str(path)]
     with pytest.raises(RuntimeError, match="status"):
         yovkhan.Cluster(0, program="/bin/false").start()
+    monkeypatch.delenv("IPCLUSTER")
+    built = tmp_path / "checkout" / "crates" / "ipcluster" / "out" / "ipcluster"
+    built.parent.mkdir(parents=True)
+    (tmp_path / "checkout" / "ipcluster").write_text("#!/bin/sh\n")
+    monkeypatch.chdir(tmp_path / "checkout" / "crates")
+    monkeypatch.setattr("yovkhan.cluster.__file__", str(tmp_path / "installed" / "cluster.py"))
+    with pytest.raises(FileNotFoundError, match="isn't built"):
+        program()
+    built.write_text("#!/bin/sh\n")
+    built.chmod(0o755)
+    assert program() == [str(built)]
+    monkeypatch.chdir(tmp_path)
+    with pytest.raises(FileNotFoundError, match="isn't found"):
+        program()
 
 
 def test_engines_are_watched(own_cluster):

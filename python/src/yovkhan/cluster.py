@@ -19,23 +19,36 @@ from .engine import environment
 from .views import DirectView, LoadBalancedView
 
 HOST = "127.0.0.1"
+_LISTENER_FAULT = 11
+"""The status of a controller that can't listen at its ports."""
 
 
 def program(given: Optional[str] = None) -> List[str]:
-    """The words that run the controller's program: the path that is given, the variable IPCLUSTER's, the program of the checkout that
-    this package stands in, its launcher, or `ipcluster` of the search path. FileNotFoundError where there is none."""
+    """The words that run the controller's program: the path that is given, the variable IPCLUSTER's, or the program of the checkout that
+    this package or the current folder stands in. FileNotFoundError where there is none, or where it isn't built yet."""
     for path in (given, os.environ.get("IPCLUSTER")):
         if path:
             if not os.access(path, os.X_OK):
                 raise FileNotFoundError(f"there is no program at {path}")
             return [os.path.abspath(path)]
-    top = os.path.abspath(__file__)
-    for _ in range(4):
-        top = os.path.dirname(top)
-    for path in (os.path.join(top, "crates", "ipcluster", "out", "ipcluster"), os.path.join(top, "ipcluster")):
-        if os.path.isfile(path) and os.access(path, os.X_OK):
+    for top in _checkouts():
+        path = os.path.join(top, "crates", "ipcluster", "out", "ipcluster")
+        if os.access(path, os.X_OK):
             return [path]
+        raise FileNotFoundError(f"the program of {top} isn't built yet: `./ipcluster work 1 2` there builds it")
     raise FileNotFoundError("the controller's program isn't found: name it by program=, or by the variable IPCLUSTER")
+
+
+def _checkouts() -> List[str]:
+    """The checkouts that this package and the current folder stand in."""
+    found = []
+    for start in (os.path.abspath(__file__), os.path.join(os.getcwd(), "x")):
+        top = os.path.dirname(start)
+        while top != os.path.dirname(top):
+            if os.path.isfile(os.path.join(top, "ipcluster")) and os.path.isdir(os.path.join(top, "crates", "ipcluster")):
+                found.append(top)
+            top = os.path.dirname(top)
+    return found
 
 
 def free_ports() -> int:
@@ -90,9 +103,8 @@ class Cluster:
             self.folder = tempfile.mkdtemp(prefix="yovkhan-")
         os.makedirs(self.folder, exist_ok=True)
         self._make_key()
-        self.port = free_ports()
         try:
-            self.start_controller()
+            self._start_at_free_ports()
             for number in range(self.n):
                 self.start_engine(f"engine-{number}")
             self.client.wait_for_engines(self.n, timeout=self._timeout)
@@ -100,6 +112,18 @@ class Cluster:
             self.stop()
             raise
         return self
+
+    def _start_at_free_ports(self) -> None:
+        """Starts the controller; anew where somebody else took one of the ports meanwhile."""
+        for tries in range(5):
+            self.port = free_ports()
+            try:
+                self.start_controller()
+                return
+            except RuntimeError:
+                taken = self.controller is not None and self.controller.returncode == _LISTENER_FAULT
+                if not taken or tries == 4:
+                    raise
 
     def stop(self) -> None:
         """Ends all, and removes a folder of its own."""
