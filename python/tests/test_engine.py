@@ -8,7 +8,6 @@ import subprocess
 import sys
 import time
 
-import numpy
 import pytest
 
 import yovkhan
@@ -16,6 +15,8 @@ from conftest import LIMIT, remote, until
 from yovkhan import error
 from yovkhan.link import GREETING, Reader, ready
 from yovkhan.wire import DELIMITER, Headers, Signer, digest, now, packed, received
+
+numpy = pytest.importorskip("numpy")
 
 
 def test_outputs(client):

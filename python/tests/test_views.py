@@ -6,12 +6,13 @@ import subprocess
 import sys
 from collections import namedtuple
 
-import numpy
 import pytest
 
 import yovkhan
 from conftest import LIMIT, remote
 from yovkhan import AsyncMapResult, AsyncResult, Reference, interactive
+
+numpy = pytest.importorskip("numpy")
 
 point = namedtuple("point", "x y")
 
@@ -265,6 +266,27 @@ def test_which_globals_functions_have(client):
             view.apply_sync(get_it)
     finally:
         del main._given
+
+
+def test_dill(client):
+    pytest.importorskip("dill")
+    view, main = client[:], sys.modules["__main__"]
+
+    @interactive
+    def get_it():
+        return _given  # noqa: F821
+
+    view["_given"] = "engine"
+    main._given = "client"
+    try:
+        view.use_dill().get(LIMIT)
+        assert view.apply_sync(get_it) == ["client"] * 4
+        assert client.load_balanced_view().map_sync(lambda n: n + 1, range(5)) == [1, 2, 3, 4, 5]
+        view.push({"key": "pushed"}, block=True)
+        assert view["key"] == ["pushed"] * 4
+    finally:
+        del main._given
+        view.use_pickle().get(LIMIT)
 
 
 def test_the_clients_values_reach_inner_functions(client):

@@ -7,7 +7,6 @@ import os
 import random
 import threading
 
-import numpy
 import pytest
 
 import yovkhan
@@ -16,6 +15,8 @@ from yovkhan import error, functions, query, serialize, wire
 from yovkhan.link import Link, Loop, Reader
 from yovkhan.tasks import ExecuteReply, Metadata, Outcome, failure_of
 from yovkhan.worker import clean
+
+numpy = pytest.importorskip("numpy")
 
 
 def test_signatures():

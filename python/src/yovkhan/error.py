@@ -2,8 +2,6 @@
 
 from __future__ import annotations
 
-import builtins
-import sys
 from typing import Any, Dict, List, Optional, Sequence, Tuple
 
 
@@ -240,12 +238,5 @@ def text_of(value: BaseException) -> str:
         return f"<no text: {type(error).__name__}>"
 
 
-def is_named(error: RemoteError, kind: Any) -> bool:
-    """Whether a remote error names this built-in exception, or one below it."""
-    found = getattr(builtins, error.ename, None)
-    return isinstance(found, type) and issubclass(found, kind)
-
-
 __all__ = [name for name, value in list(globals().items()) if isinstance(value, type)
            and value.__module__ == __name__ and not name.startswith("_")]
-assert sys.version_info >= (3, 9)

@@ -335,9 +335,6 @@ def whole(buffers: Sequence[Octets]) -> Any:
     return pickle.loads(buffers[0], buffers=[it if isinstance(it, bytearray) else bytearray(it) for it in buffers[1:]])
 
 
-_NONE = pickle.dumps(None, protocol=5)
-
-
 def function_parts(f: Any) -> bytes:
     """The pickle of a function with the client's values that it may need: what `function_of` reads."""
     octets, functions = _pickled(f, None)

@@ -8,7 +8,7 @@ import contextlib
 import json
 import math
 import queue
-from typing import TYPE_CHECKING, Any, Callable, Deque, Dict, Iterator, List, Optional, Sequence, Set, Tuple, Union
+from typing import TYPE_CHECKING, Any, Callable, Deque, Dict, Iterator, List, Optional, Set, Tuple
 
 from . import functions, remotely, requests, serialize
 from .channels import TASK
@@ -22,7 +22,6 @@ from .tasks import Task
 if TYPE_CHECKING:
     from .client import Client
 
-Targets = Union[None, int, str, Sequence[Union[int, str]]]
 _BATCH = 128
 """So many tasks of a map are sent at once."""
 
