@@ -155,7 +155,7 @@ impl<D: Disk> Model for Run<D> {
 
 impl<D: Disk> Run<D> {
     /// Makes one move, and says whether there was one to make.
-    #[tactic(auto, using(crate::proofs::RecordInputs::first_fits, crate::proofs::Records::rest_fits))]
+    #[tactic(auto, using(crate::proofs::RecordInputs::first_fits, crate::proofs::RecordInputs::rest_fits))]
     pub fn go_on(&mut self, alloc: Global, chooser: &Chooser) -> Result<bool, WorkError>
         requires working { self.old.failed ≡ false }
         ensures moves { result ≡ Ok true → Moves self.old.work self.new.work }
