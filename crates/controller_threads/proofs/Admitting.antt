@@ -39,15 +39,13 @@ since_from lock start kept seen pass all on idle from = of_from (IsSince lock st
 
 -- so has each that is kept
 each_since : {T : Type 0} (lock : LockId) (start : Content) (kept : List (Pass T)) (seen : Content) (passes : List (Pass T)) → All (IsSince lock start) kept → IsLater start seen → All (IsIdle lock) passes → All (IsFrom kept seen) passes → All (IsSince lock start) passes
-each_since lock start kept seen [] all on idle from = tt
-each_since lock start kept seen (p ∷ ps) all on idle from = (since_from lock start kept seen p all on idle.0 from.0, each_since lock start kept seen ps all on idle.1 from.1)
+each_since lock start kept seen passes all on idle from = λ place pass within. since_from lock start kept seen _ all on (idle place pass within) (from place pass within)
 
 pub all_since : {T : Type 0} (desk lock : LockId) (start : Content) (kept : List (Pass T)) (seen : Content) (passes : List (Pass T)) → desk ≡ lock → All (IsSince lock start) kept → IsLater start seen → All (IsIdle desk) passes → All (IsFrom kept seen) passes → All (IsSince lock start) passes
 all_since desk lock start kept seen passes same all on idle from = each_since lock start kept seen passes all on (subst (λ (l : LockId). All (IsIdle l) passes) same idle) from
 
 each_idle : {T : Type 0} (lock : LockId) (start : Content) (passes : List (Pass T)) → All (IsSince lock start) passes → All (IsIdle lock) passes
-each_idle lock start [] all = tt
-each_idle lock start (p ∷ ps) all = (all.0.0, each_idle lock start ps all.1)
+each_idle lock start passes all = λ place pass within. (all place pass within).0
 
 pub all_idle : {T : Type 0} (desk lock : LockId) (start : Content) (passes : List (Pass T)) → desk ≡ lock → All (IsSince lock start) passes → All (IsIdle desk) passes
 all_idle desk lock start passes same all = subst (λ (l : LockId). All (IsIdle l) passes) (sym same) (each_idle lock start passes all)

@@ -1,31 +1,34 @@
-use Rattle.std.proofs.Common.{◌∙◌, Err, ap}
+use Rattle.std.proofs.Common.{◌≡◌, ◌∙◌, Err, ap}
 use Rattle.history_lock.specs.Names.{known, lock_id}
+use Rattle.session_threads.specs.declared.admission.AdmitEnd.TheVariants as ends
 use Rattle.controller_threads.proofs.Seeing.{extends_of, since_later}
 use Rattle.controller_threads.proofs.Admitting.{all_idle, all_since, opens_cause, opens_later, refused_later, since_from}
 use Rattle.controller_threads.proofs.opening.admit_link.Goals as goal
 
-pub admit-requires-clause-kept : goal.admit-requires-clause-kept
-admit-requires-clause-kept g c = all_idle _ g.N.Naming.lock g.N.Naming.start c.args.pool.now.kept.items c.context.ensures c.requires.kept
+pub admit-admitted-requires-clause-kept : goal.admit-admitted-requires-clause-kept
+admit-admitted-requires-clause-kept g c = all_idle _ g.N.Naming.lock g.N.Naming.start c.args.pool.now.kept.items c.context-context.ensures c.requires.kept
 
 pub returns-in-Ok-clause-since : goal.returns-in-Ok-clause-since
 returns-in-Ok-clause-since g c =
-    since_later _ g.N.Naming.lock g.N.Naming.start c.args.pool.now.pass c.admit-admitted.new.pool.pass c.context.ensures c.requires.since c.admit-admitted.ensures.idle
+    since_later _ g.N.Naming.lock g.N.Naming.start c.args.pool.now.pass c.admit-admitted.new.pool.pass c.context-context.ensures c.requires.since c.admit-admitted.ensures.idle
     (opens_later g.T.Disk.Disk.faults (known c.args.pool.now.pass) (known c.admit-admitted.new.pool.pass) _ _ _ c.in-Ok.ensures.opened)
 
 pub returns-in-Ok-clause-kept : goal.returns-in-Ok-clause-kept
 returns-in-Ok-clause-kept g c =
-    all_since _ g.N.Naming.lock g.N.Naming.start c.args.pool.now.kept.items (known c.args.pool.now.pass).seen c.admit-admitted.new.pool.kept.items c.context.ensures c.requires.kept c.requires.since.1 c.admit-admitted.ensures.kept c.admit-admitted.ensures.from
+    all_since _ g.N.Naming.lock g.N.Naming.start c.args.pool.now.kept.items (known c.args.pool.now.pass).seen c.admit-admitted.new.pool.kept.items c.context-context.ensures c.requires.kept c.requires.since.1 c.admit-admitted.ensures.kept c.admit-admitted.ensures.from
 
 pub returns-in-Err-clause-since : goal.returns-in-Err-clause-since
 returns-in-Err-clause-since g c =
-    since_later _ g.N.Naming.lock g.N.Naming.start c.args.pool.now.pass c.admit-admitted.new.pool.pass c.context.ensures c.requires.since c.admit-admitted.ensures.idle
+    since_later _ g.N.Naming.lock g.N.Naming.start c.args.pool.now.pass c.admit-admitted.new.pool.pass c.context-context.ensures c.requires.since c.admit-admitted.ensures.idle
     (refused_later g.T.Disk.Disk.faults (known c.args.pool.now.pass) (known c.admit-admitted.new.pool.pass) c.args.channel c.args.identity.now c.in-Err.end (λ is. (c.admit-admitted.ensures.unchanged (c.in-Err.is ∙ ap Err is)).0) (λ e is. c.admit-admitted.ensures.act e (c.in-Err.is ∙ ap Err is)))
 
 pub returns-in-Err-clause-kept : goal.returns-in-Err-clause-kept
 returns-in-Err-clause-kept g c =
-    all_since _ g.N.Naming.lock g.N.Naming.start c.args.pool.now.kept.items (known c.args.pool.now.pass).seen c.admit-admitted.new.pool.kept.items c.context.ensures c.requires.kept c.requires.since.1 c.admit-admitted.ensures.kept c.admit-admitted.ensures.from
+    all_since _ g.N.Naming.lock g.N.Naming.start c.args.pool.now.kept.items (known c.args.pool.now.pass).seen c.admit-admitted.new.pool.kept.items c.context-context.ensures c.requires.kept c.requires.since.1 c.admit-admitted.ensures.kept c.admit-admitted.ensures.from
 
 pub returns-in-Err-clause-cause : goal.returns-in-Err-clause-cause
 returns-in-Err-clause-cause g c =
-    λ e is. opens_cause g.T.Disk.Disk.faults g.N.Naming.start (known c.args.pool.now.pass) (known c.admit-admitted.new.pool.pass) c.args.channel c.args.identity.now e
-    (extends_of g.N.Naming.start (known c.args.pool.now.pass).seen c.requires.since.1) (c.admit-admitted.ensures.act e (c.in-Err.is ∙ is))
+    λ e is.
+    let same : c.in-Err.end ≡ ends.Act e = cc in
+    opens_cause g.T.Disk.Disk.faults g.N.Naming.start (known c.args.pool.now.pass) (known c.admit-admitted.new.pool.pass) c.args.channel c.args.identity.now e
+    (extends_of g.N.Naming.start (known c.args.pool.now.pass).seen c.requires.since.1) (c.admit-admitted.ensures.act e (c.in-Err.is ∙ ap Err same))
