@@ -90,6 +90,23 @@ where
     T::Gate: Send + Sync + 'static,
     T::Runtime: Copy + Send + Sync + 'static,
 {
+    /// Refuses a link whose connection doesn't come up: where the history is full the controller is halted.
+    fn refuse_connection(&self, error: ActError, mut writer: P::Out) -> Result<(), Stop<P>>
+        requires { RefusalCause error N.start (known self.now.pool.pass).seen }
+        ensures { (before : ℕ) (now : ℕ) → IfErr result (λ stop. StopCause P.faults N.start (known self.now.pool.pass).seen before now stop) }
+    {
+        match error {
+            ActError::TooManyConnections => {
+                tell_busy(self.shared.serving.alloc, &mut writer);
+                Ok(())
+            }
+            ActError::HistoryFull { entries, bytes } => {
+                Err(Stop::Halted(Halt::HistoryFull { entries, bytes }))
+            }
+            _ => Ok(()),
+        }
+    }
+
     /// Refuses a link: where the history is full the controller is halted.
     fn refuse(&self, end: AdmitEnd, link: Link<P::In, P::Out>) -> Result<(), Stop<P>>
         requires { (e : Refusal) → end ≡ AdmitEnd.Act e → RefusalCause e N.start (known self.now.pool.pass).seen }
@@ -97,14 +114,11 @@ where
     {
         let Link { mut writer, .. } = link;
         match end {
-            AdmitEnd::NoPass | AdmitEnd::Act(ActError::TooManyConnections) => {
+            AdmitEnd::NoPass => {
                 tell_busy(self.shared.serving.alloc, &mut writer);
                 Ok(())
             }
-            AdmitEnd::Act(ActError::HistoryFull { entries, bytes }) => {
-                Err(Stop::Halted(Halt::HistoryFull { entries, bytes }))
-            }
-            AdmitEnd::Act(_) => Ok(()),
+            AdmitEnd::Act(error) => self.refuse_connection(error, writer),
         }
     }
 

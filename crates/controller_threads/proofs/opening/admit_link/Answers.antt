@@ -1,5 +1,5 @@
-use Rattle.std.proofs.Common.{◌≡◌, ◌∙◌, Err, ap}
-use Rattle.history_lock.specs.Names.{known, lock_id}
+use Rattle.std.proofs.Common.{◌≡◌, ◌∙◌, Err, ap, subst}
+use Rattle.history_lock.specs.Names.{LockId, known, IsIdle}
 use Rattle.session_threads.specs.declared.admission.AdmitEnd.TheVariants as ends
 use Rattle.controller_threads.proofs.Seeing.{extends_of, since_later}
 use Rattle.controller_threads.proofs.Admitting.{all_idle, all_since, opens_cause, opens_later, refused_later, since_from}
@@ -32,3 +32,13 @@ returns-in-Err-clause-cause g c =
     let same : c.in-Err.end ≡ ends.Act e = cc in
     opens_cause g.T.Disk.Disk.faults g.N.Naming.start (known c.args.pool.now.pass) (known c.admit-admitted.new.pool.pass) c.args.channel c.args.identity.now e
     (extends_of g.N.Naming.start (known c.args.pool.now.pass).seen c.requires.since.1) (c.admit-admitted.ensures.act e (c.in-Err.is ∙ ap Err same))
+
+pub new-requires : goal.new-requires
+new-requires g c =
+    since_from g.N.Naming.lock g.N.Naming.start c.args.pool.now.kept.items (known c.args.pool.now.pass).seen _ c.requires.kept c.requires.since.1
+    (subst (λ (l : LockId). IsIdle l c.in-Ok.field-0.passes.reading) c.context-context.ensures c.in-Ok.ensures.ok.0) c.in-Ok.ensures.given.0
+
+pub new-requires-in-Ok : goal.new-requires-in-Ok
+new-requires-in-Ok g c =
+    since_from g.N.Naming.lock g.N.Naming.start c.args.pool.now.kept.items (known c.args.pool.now.pass).seen _ c.requires.kept c.requires.since.1
+    (subst (λ (l : LockId). IsIdle l c.in-Ok.field-0.passes.writing) c.context-context.ensures c.in-Ok.ensures.ok.1) c.in-Ok.ensures.given.1
