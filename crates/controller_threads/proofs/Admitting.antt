@@ -13,6 +13,7 @@ use Rattle.history_lock.specs.declared.lock.Pass.{Pass}
 use Rattle.history_lock.specs.History.{Extends}
 use Rattle.history_lock.proofs.Growing.{extends_self}
 use Rattle.history_lock.specs.Names.{LockId, known, IsIdle}
+use Rattle.controller_threads.specs.Ends.{AdmitCause}
 use Rattle.controller_threads.specs.Halts.{RefusalCause}
 use Rattle.controller_threads.specs.Passes.{IsLater, IsSince}
 use Rattle.controller_threads.proofs.Halting.{refusal_cause}
@@ -54,3 +55,8 @@ all_idle desk lock start passes same all = subst (λ (l : LockId). All (IsIdle l
 pub refused_later : {D : Type 0} (faults : D → ℕ) (u w : View) (channel : Channel) (identity : List ℕ) (end : AdmitEnd) → (end ≡ NoPass → w ≡ u) → ((e : ActError) → end ≡ Act e → OpensInTurn faults u channel identity (Err e) w) → Extends u.seen w.seen
 refused_later faults u w channel identity NoPass same opens = subst (λ (v : View). Extends u.seen v.seen) (sym (same refl)) (extends_self u.seen)
 refused_later faults u w channel identity (Act e) same opens = opens_later faults u w channel identity (Err e) (opens e refl)
+
+-- at a refusal its cause is there
+pub admit_cause : {D : Type 0} (faults : D → ℕ) (start : Content) (u w : View) (channel : Channel) (identity : List ℕ) (end : AdmitEnd) → Extends start u.seen → ((e : ActError) → end ≡ Act e → OpensInTurn faults u channel identity (Err e) w) → AdmitCause end start w.seen
+admit_cause faults start u w channel identity NoPass on opens = tt
+admit_cause faults start u w channel identity (Act e) on opens = opens_cause faults start u w channel identity e on (opens e refl)

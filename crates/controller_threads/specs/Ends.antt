@@ -4,15 +4,22 @@ use Rattle.cluster_types.specs.Causes.{Rose}
 use Rattle.history_lock.specs.declared.known.Content.{Content}
 use Rattle.history_lock.specs.Names.{LockId, known}
 use Rattle.controller_threads.specs.declared.halt.Halt.TheVariants as halts
-use Rattle.controller_threads.specs.Halts.{HaltCause}
+use Rattle.controller_threads.specs.Halts.{HaltCause, RefusalCause}
 use Rattle.controller_threads.specs.Passes.{IsRested}
 use Rattle.controller_threads.specs.Ports.{HaveNoLinks}
 use Rattle.link_greeting.specs.declared.end.SessionEnd.{SessionEnd}
 use Rattle.link_greeting.specs.declared.end.SessionEnd.TheVariants as sessions
+use Rattle.session_threads.specs.declared.admission.AdmitEnd.{AdmitEnd}
+use Rattle.session_threads.specs.declared.admission.AdmitEnd.TheVariants.{NoPass, Act}
 use Rattle.controller_threads.specs.declared.end.ServeEnd.{ServeEnd}
 use Rattle.controller_threads.specs.declared.end.ServeEnd.TheVariants.{Ended, Stopped, ListenerFault, SpawnFault, DiskFault, HistoryFull, OutOfMemory}
 
--- an end of a session that halts the controller has its cause
+-- a link that isn't admitted for a refusal of the desk that halts the controller has its cause
+abbrev pub AdmitCause : AdmitEnd → Content → Content → Type 0
+AdmitCause NoPass start seen = ⊤
+AdmitCause (Act error) start seen = RefusalCause error start seen
+
+-- and such an end of a session
 abbrev pub SessionCause : SessionEnd → Content → Content → Type 0
 SessionCause (sessions.HistoryFull entries bytes) start seen = HaltCause (halts.HistoryFull entries bytes) start seen
 SessionCause _ start seen = ⊤

@@ -1,11 +1,11 @@
 //! Links whose handshake is done.
 
-ghost use Rattle.std.specs.Prelude.{◌≡◌, ◌≤◌, ℕ, All, Err, IfErr, OnOk};
+ghost use Rattle.std.specs.Prelude.{◌≡◌, ◌≤◌, ℕ, All, IfErr, OnOk};
 ghost use Rattle.std.specs.Vec.{vec_capacity};
 ghost use Rattle.history_lock.specs.Names.{known};
 ghost use Rattle.zmtp_peer.specs.Limits.{IsShortIdentity};
-ghost use Rattle.controller_desk.specs.declared.fault.ActError.{ActError as Refusal};
-ghost use Rattle.controller_threads.specs.Halts.{StopCause, RefusalCause};
+ghost use Rattle.controller_threads.specs.Ends.{AdmitCause};
+ghost use Rattle.controller_threads.specs.Halts.{StopCause};
 ghost use Rattle.controller_threads.specs.Passes.{IsSince};
 
 use crate::caller::Caller;
@@ -51,7 +51,7 @@ fn admit_link<P: Port + Drop, T: SessionTypes, N: Naming>(
     ensures since { IsSince N.lock N.start pool.new.pass }
     ensures kept { All (IsSince N.lock N.start) pool.new.kept.items }
     ensures spare { 2 ≤ vec_capacity pool.new.kept }
-    ensures cause { (e : Refusal) → result ≡ Err (AdmitEnd.Act e) → RefusalCause e N.start (known pool.new.pass).seen }
+    ensures cause { IfErr result (λ end. AdmitCause end N.start (known pool.new.pass).seen) }
 {
     let context = shared.context();
     let admitted = admit(&context, chooser, pool, channel, identity);
@@ -90,35 +90,21 @@ where
     T::Gate: Send + Sync + 'static,
     T::Runtime: Copy + Send + Sync + 'static,
 {
-    /// Refuses a link whose connection doesn't come up: where the history is full the controller is halted.
-    fn refuse_connection(&self, error: ActError, mut writer: P::Out) -> Result<(), Stop<P>>
-        requires { RefusalCause error N.start (known self.now.pool.pass).seen }
-        ensures { (before : ℕ) (now : ℕ) → IfErr result (λ stop. StopCause P.faults N.start (known self.now.pool.pass).seen before now stop) }
-    {
-        match error {
-            ActError::TooManyConnections => {
-                tell_busy(self.shared.serving.alloc, &mut writer);
-                Ok(())
-            }
-            ActError::HistoryFull { entries, bytes } => {
-                Err(Stop::Halted(Halt::HistoryFull { entries, bytes }))
-            }
-            _ => Ok(()),
-        }
-    }
-
     /// Refuses a link: where the history is full the controller is halted.
     fn refuse(&self, end: AdmitEnd, link: Link<P::In, P::Out>) -> Result<(), Stop<P>>
-        requires { (e : Refusal) → end ≡ AdmitEnd.Act e → RefusalCause e N.start (known self.now.pool.pass).seen }
+        requires { AdmitCause end N.start (known self.now.pool.pass).seen }
         ensures { (before : ℕ) (now : ℕ) → IfErr result (λ stop. StopCause P.faults N.start (known self.now.pool.pass).seen before now stop) }
     {
         let Link { mut writer, .. } = link;
         match end {
-            AdmitEnd::NoPass => {
+            AdmitEnd::NoPass | AdmitEnd::Act(ActError::TooManyConnections) => {
                 tell_busy(self.shared.serving.alloc, &mut writer);
                 Ok(())
             }
-            AdmitEnd::Act(error) => self.refuse_connection(error, writer),
+            AdmitEnd::Act(ActError::HistoryFull { entries, bytes }) => {
+                Err(Stop::Halted(Halt::HistoryFull { entries, bytes }))
+            }
+            AdmitEnd::Act(_) => Ok(()),
         }
     }
 

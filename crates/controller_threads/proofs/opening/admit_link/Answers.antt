@@ -1,8 +1,7 @@
-use Rattle.std.proofs.Common.{◌≡◌, ◌∙◌, Err, ap, subst}
+use Rattle.std.proofs.Common.{◌∙◌, Err, ap, subst}
 use Rattle.history_lock.specs.Names.{LockId, known, IsIdle}
-use Rattle.session_threads.specs.declared.admission.AdmitEnd.TheVariants as ends
 use Rattle.controller_threads.proofs.Seeing.{extends_of, since_later}
-use Rattle.controller_threads.proofs.Admitting.{all_idle, all_since, opens_cause, opens_later, refused_later, since_from}
+use Rattle.controller_threads.proofs.Admitting.{admit_cause, all_idle, all_since, opens_later, refused_later, since_from}
 use Rattle.controller_threads.proofs.opening.admit_link.Goals as goal
 
 pub admit-admitted-requires-clause-kept : goal.admit-admitted-requires-clause-kept
@@ -28,10 +27,8 @@ returns-in-Err-clause-kept g c =
 
 pub returns-in-Err-clause-cause : goal.returns-in-Err-clause-cause
 returns-in-Err-clause-cause g c =
-    λ e is.
-    let same : c.in-Err.end ≡ ends.Act e = cc in
-    opens_cause g.T.Disk.Disk.faults g.N.Naming.start (known c.args.pool.now.pass) (known c.admit-admitted.new.pool.pass) c.args.channel c.args.identity.now e
-    (extends_of g.N.Naming.start (known c.args.pool.now.pass).seen c.requires.since.1) (c.admit-admitted.ensures.act e (c.in-Err.is ∙ ap Err same))
+    admit_cause g.T.Disk.Disk.faults g.N.Naming.start (known c.args.pool.now.pass) (known c.admit-admitted.new.pool.pass) c.args.channel c.args.identity.now c.in-Err.end
+    (extends_of g.N.Naming.start (known c.args.pool.now.pass).seen c.requires.since.1) (λ e is. c.admit-admitted.ensures.act e (c.in-Err.is ∙ ap Err is))
 
 pub new-requires : goal.new-requires
 new-requires g c =
