@@ -7,8 +7,8 @@ use Rattle.controller_threads.specs.declared.halt.Halt.TheVariants as halts
 use Rattle.controller_threads.specs.Halts.{HaltCause, RefusalCause}
 use Rattle.controller_threads.specs.Passes.{IsRested}
 use Rattle.controller_threads.specs.Ports.{HaveNoLinks}
-use Rattle.link_greeting.specs.declared.end.SessionEnd.{SessionEnd}
-use Rattle.link_greeting.specs.declared.end.SessionEnd.TheVariants as sessions
+use Rattle.link_messages.specs.declared.end.SessionEnd.{SessionEnd}
+use Rattle.link_messages.specs.declared.end.SessionEnd.TheVariants as sessions
 use Rattle.session_threads.specs.declared.admission.AdmitEnd.{AdmitEnd}
 use Rattle.session_threads.specs.declared.admission.AdmitEnd.TheVariants.{NoPass, Act}
 use Rattle.controller_threads.specs.declared.end.ServeEnd.{ServeEnd}

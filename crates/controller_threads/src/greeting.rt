@@ -4,7 +4,7 @@ use crate::handed::{Handed, Link, ShortGreeted};
 use crate::naming::Naming;
 use crate::port::Port;
 use crate::shared::Shared;
-use link_greeting::greeting::greet;
+use link_messages::greeting::greet;
 use session_threads::context::{LockedOf, SessionTypes};
 use std::alloc::Global;
 use std::sync::{Arc, Wait};

@@ -9,7 +9,7 @@ use crate::passes::{Halted, NamedPass};
 use crate::port::Port;
 use crate::ports::EndedPort;
 use cluster_types::config::Channel;
-use link_greeting::greeting::Greeted;
+use link_messages::greeting::Greeted;
 
 /// A link to another machine, and the channel of the port where it was accepted.
 #[derive(Drop)]

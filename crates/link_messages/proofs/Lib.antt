@@ -1,3 +1,5 @@
 pub mod Short
 pub mod Named
 pub mod Fronts
+pub mod Results
+pub mod Shaking

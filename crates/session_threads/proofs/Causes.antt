@@ -13,8 +13,8 @@ use Rattle.controller_desk.specs.Calls.{IsRefusedAs}
 use Rattle.controller_desk.specs.Contents.{flag, fulls_seen, failed_seen, limits_seen}
 use Rattle.controller_desk.specs.Turns.{InTurn}
 use Rattle.controller_desk.proofs.Seen.{rose_wider, past_lower, full_cause}
-use Rattle.link_greeting.specs.declared.end.SessionEnd.{SessionEnd}
-use Rattle.link_greeting.specs.declared.end.SessionEnd.TheVariants as ends
+use Rattle.link_messages.specs.declared.end.SessionEnd.{SessionEnd}
+use Rattle.link_messages.specs.declared.end.SessionEnd.TheVariants as ends
 use Rattle.session_threads.specs.Ends.{IsEndOf, HasDeskCause}
 
 pub cause_within : (end : SessionEnd) (u v w x : View) → Extends u.seen v.seen → HasDeskCause end v w → Extends w.seen x.seen → HasDeskCause end u x

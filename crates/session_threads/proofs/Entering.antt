@@ -25,8 +25,8 @@ use Rattle.controller_desk.specs.Contents.{content_of}
 use Rattle.controller_desk.specs.Readings.{heard}
 use Rattle.controller_desk.specs.Turns.{InTurn}
 use Rattle.jupyter_parts.specs.Signed.{read_parts}
-use Rattle.link_greeting.specs.declared.end.SessionEnd.{SessionEnd}
-use Rattle.link_greeting.specs.declared.end.SessionEnd.TheVariants as ends
+use Rattle.link_messages.specs.declared.end.SessionEnd.{SessionEnd}
+use Rattle.link_messages.specs.declared.end.SessionEnd.TheVariants as ends
 use Rattle.session_threads.specs.Ends.{IsEndOf, EndsHearing}
 use Rattle.session_threads.specs.Passes.{AddsBehind, inputs_among}
 use Rattle.session_threads.specs.Reading.{IsEnteredAs, IsEntered, HearsAs, HearAll, Entered, EnteredFront}

@@ -8,8 +8,8 @@ use Rattle.controller_desk.specs.declared.fault.ActError.{ActError}
 use Rattle.controller_desk.specs.declared.fault.ActError.TheVariants as refusals
 use Rattle.controller_desk.specs.Calls.{IsRefusedAs}
 use Rattle.controller_desk.specs.Turns.{InTurn}
-use Rattle.link_greeting.specs.declared.end.SessionEnd.{SessionEnd}
-use Rattle.link_greeting.specs.declared.end.SessionEnd.TheVariants as ends
+use Rattle.link_messages.specs.declared.end.SessionEnd.{SessionEnd}
+use Rattle.link_messages.specs.declared.end.SessionEnd.TheVariants as ends
 use Rattle.session_threads.specs.Ends.{IsEndOf, EndsStream, KeepsEnd, IsRefusedEnd, HasDeskCause}
 use Rattle.controller_desk.specs.Contents.{Rests}
 use Rattle.session_threads.specs.Reading.{TakesDown}

@@ -6,8 +6,8 @@ use Rattle.controller_desk.specs.declared.fault.ActError.{ActError}
 use Rattle.controller_desk.specs.declared.fault.ActError.TheVariants.{TooManyConnections}
 use Rattle.controller_desk.specs.declared.fault.ActError.TheVariants as refusals
 use Rattle.history_lock.specs.declared.known.View.{View}
-use Rattle.link_greeting.specs.declared.end.SessionEnd.{SessionEnd}
-use Rattle.link_greeting.specs.declared.end.SessionEnd.TheVariants.{Ended, Closed, LinkFault, ZmtpFault, HistoryFull, Reopen, OutOfMemory}
+use Rattle.link_messages.specs.declared.end.SessionEnd.{SessionEnd}
+use Rattle.link_messages.specs.declared.end.SessionEnd.TheVariants.{Ended, Closed, LinkFault, ZmtpFault, HistoryFull, Reopen, OutOfMemory}
 use Rattle.controller_desk.specs.Contents.{fulls_seen, failed_seen, limits_seen}
 
 -- the ends of a writing session

@@ -18,7 +18,7 @@ use controller_desk::fault::ActError;
 use controller_desk::reading::Reading;
 use edges::frames::Frames;
 use jupyter_parts::read::read_parts;
-use link_greeting::end::SessionEnd;
+use link_messages::end::SessionEnd;
 use link_messages::message::signed;
 use load_schemes::chooser::Chooser;
 use thread_edges::gate::{Gate, Point};

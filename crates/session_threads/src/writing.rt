@@ -10,8 +10,8 @@ ghost use Rattle.session_threads.specs.Writing.{HasNoMore, WritesFront, WritesWh
 use crate::context::{PassOf, SessionContext, SessionTypes};
 use crate::outgoing::{BatchEnd, take_batch};
 use edges::sink::Sink;
-use link_greeting::end::SessionEnd;
-use link_greeting::link::write;
+use link_messages::end::SessionEnd;
+use link_messages::link::write;
 use std::alloc::AllocError;
 use std::sync::Wait;
 use thread_edges::gate::{Gate, Point};

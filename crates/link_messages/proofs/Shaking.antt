@@ -7,7 +7,7 @@ use Rattle.zmtp_frames.specs.Greeting.{own_greeting}
 use Rattle.zmtp_peer.specs.declared.fault.PeerFault.{PeerFault}
 use Rattle.zmtp_peer.specs.PeerStream.{Talk, begins, talked, sent, identity, or_later, messages, fault_of}
 use Rattle.zmtp_peer.proofs.Pieces.{talked_append, sent_append, identity_append, messages_append}
-use Rattle.link_greeting.specs.Greeting.{IsGreeted, IsRefused, IsGreetedInPart, IsHandshake}
+use Rattle.link_messages.specs.Greeting.{IsGreeted, IsRefused, IsGreetedInPart, IsHandshake}
 use Rattle.link_messages.specs.Written.{AddedFront}
 use Rattle.edges.proofs.Additions.{added_both, added_none}
 use Rattle.zmtp_peer.proofs.Order.{without_identity}

@@ -6,8 +6,8 @@ ghost use Rattle.edges.specs.Streams.{Added, IsAtEnd};
 ghost use Rattle.zmtp_peer.specs.declared.fault.PeerFault.{PeerFault as Fault};
 ghost use Rattle.zmtp_peer.specs.Limits.{IsShortMessage, IsShortIdentity};
 ghost use Rattle.zmtp_peer.specs.PeerStream.{talked, sent, identity, fault_of};
-ghost use Rattle.link_greeting.specs.Ends.{EndsGreeting, EndsPiece};
-ghost use Rattle.link_greeting.specs.Greeting.{IsGreeted, IsRefused, IsGreetedInPart, IsHandshake};
+ghost use Rattle.link_messages.specs.Ends.{EndsGreeting, EndsPiece};
+ghost use Rattle.link_messages.specs.Greeting.{IsGreeted, IsRefused, IsGreetedInPart, IsHandshake};
 ghost use Rattle.link_messages.specs.Written.{AddedFront};
 
 use crate::end::SessionEnd;

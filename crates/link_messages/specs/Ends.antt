@@ -1,7 +1,7 @@
 -- How greetings end.
 use Rattle.std.specs.Prelude.{⊤}
-use Rattle.link_greeting.specs.declared.end.SessionEnd.{SessionEnd}
-use Rattle.link_greeting.specs.declared.end.SessionEnd.TheVariants.{Ended, LinkFault, ZmtpFault, OutOfMemory}
+use Rattle.link_messages.specs.declared.end.SessionEnd.{SessionEnd}
+use Rattle.link_messages.specs.declared.end.SessionEnd.TheVariants.{Ended, LinkFault, ZmtpFault, OutOfMemory}
 
 -- the ends of a greeting
 abbrev pub EndsGreeting : SessionEnd → Type 0

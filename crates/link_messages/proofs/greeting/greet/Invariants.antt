@@ -1,7 +1,7 @@
 use Rattle.std.proofs.Common.{◌≡◌, ◌≤◌, None}
 use Rattle.zmtp_peer.specs.PeerStream.{fault_of}
-use Rattle.link_greeting.proofs.Shaking.{Shaking}
-use Rattle.link_greeting.proofs.greeting.greet.Given as goal
+use Rattle.link_messages.proofs.Shaking.{Shaking}
+use Rattle.link_messages.proofs.greeting.greet.Given as goal
 
 -- all that came was answered; it gave no identity, and has no fault
 abbrev pub invariant-loop : goal.invariant-loop

@@ -25,7 +25,7 @@ pub enum SessionEnd {
 
 impl From<AllocError> for SessionEnd {
     ghost use Rattle.std.specs.Prelude.{◌≡◌};
-    ghost use Rattle.link_greeting.specs.declared.end.SessionEnd.{SessionEnd};
+    ghost use Rattle.link_messages.specs.declared.end.SessionEnd.{SessionEnd};
 
     ghost from_gives = { λ _ e. e ≡ SessionEnd.OutOfMemory };
 
