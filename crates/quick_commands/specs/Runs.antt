@@ -5,7 +5,7 @@ use Rattle.cluster_store.specs.Openings.{HasOpen}
 use Rattle.cluster_store.specs.Stores.{written}
 use Rattle.command_words.specs.declared.command.ReplayOptions.{ReplayOptions}
 use Rattle.database_text.specs.Texts.{WroteFront}
-use Rattle.drive_laws.specs.Runs.{TapeRun, begun}
+use Rattle.tape_drive.specs.Runs.{TapeRun, begun}
 use Rattle.edges.specs.Streams.{Added}
 use Rattle.task_journal.specs.Journal.{StandsFor}
 use Rattle.tape.specs.Spelling.{all_spelled}

@@ -12,3 +12,14 @@ pub mod Sorting
 pub mod Told
 pub mod Turns
 pub mod Unsent
+pub mod Again
+pub mod Going
+pub mod Inputs
+pub mod Names
+pub mod Opening
+pub mod Outs
+pub mod Runs
+pub mod Sending
+pub mod Stepping
+pub mod Talks
+pub mod Tapes

@@ -10,3 +10,7 @@ pub mod Steps
 pub mod Order
 pub mod Places
 pub mod Sizes
+pub mod Agreement
+pub mod Names
+pub mod Runs
+pub mod Sent

@@ -6,6 +6,7 @@ pub mod drive;
 pub mod fault;
 mod inputs;
 pub mod laws;
+pub mod life_laws;
 mod links;
 pub mod order;
 mod records;

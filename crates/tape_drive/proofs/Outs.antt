@@ -13,7 +13,7 @@ use Rattle.tape_drive.specs.Inputs.{inputs_of}
 use Rattle.tape_drive.specs.Sends.{by_connection, stream_sends, out_sent, steps_send, sent_at}
 use Rattle.tape_drive.specs.Served.{inputs_where}
 use Rattle.tape_drive.specs.Steps.{stepped, step_outs, fitting}
-use Rattle.drive_laws.specs.Sent.{steps_outs, where_served, record_streams, record_outs}
+use Rattle.tape_drive.specs.Sent.{steps_outs, where_served, record_streams, record_outs}
 
 steps_are : (key : List ℕ) (links : List Link) (history : History) (inputs : List InputType) → steps_send key links history inputs ≡ map (out_sent key links) (steps_outs history inputs)
 steps_are key links history [] = refl

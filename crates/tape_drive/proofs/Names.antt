@@ -33,7 +33,7 @@ use Rattle.cluster_defs.proofs.Options.{id_self}
 use Rattle.cluster_defs.proofs.Says.{due_says}
 use Rattle.cluster_laws.proofs.Closed.{found_listed, listed_stays}
 use Rattle.cluster_laws.proofs.Copies.{AllCopied, all_copied}
-use Rattle.drive_laws.specs.Names.{IsKnown, IsAbout, IsAboutKnown}
+use Rattle.tape_drive.specs.Names.{IsKnown, IsAbout, IsAboutKnown}
 
 -- LISTS
 

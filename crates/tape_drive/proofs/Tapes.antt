@@ -10,10 +10,10 @@ use Rattle.tape_drive.specs.Inputs.{inputs_of}
 use Rattle.tape_drive.specs.Rules.{stop_of}
 use Rattle.tape_drive.specs.Served.{inputs_where, inputs_taken}
 use Rattle.tape_drive.specs.Steps.{fitting, stepped_all}
-use Rattle.drive_laws.specs.Sent.{IsAtRest, GoesOn, record_outs, tape_outs}
-use Rattle.drive_laws.proofs.Going.{goes_on, goes_nowhere}
-use Rattle.drive_laws.proofs.Inputs.{taken_none, fitting_none}
-use Rattle.drive_laws.proofs.Stepping.{inputs_go}
+use Rattle.tape_drive.specs.Sent.{IsAtRest, GoesOn, record_outs, tape_outs}
+use Rattle.tape_drive.proofs.Going.{goes_on, goes_nowhere}
+use Rattle.tape_drive.proofs.Inputs.{taken_none, fitting_none}
+use Rattle.tape_drive.proofs.Stepping.{inputs_go}
 
 -- the history behind a record is that behind its inputs whose steps fit
 pub served_is : (key : List ℕ) (s : Stand) (r : TapeRecord) → (served key s r).history ≡ stepped_all s.history (fitting s.limits s.history (inputs_taken key s r))

@@ -20,12 +20,12 @@ use Rattle.tape_drive.specs.Drive.{Stand, served}
 use Rattle.tape_drive.specs.Served.{IsOnWay, Comes, inputs_taken}
 use Rattle.tape_drive.specs.Steps.{may_come, stepped, stepped_all, fitting}
 use Rattle.tape_drive.proofs.Quiet.{opened_quiet}
-use Rattle.drive_laws.specs.Runs.{HasEnded}
-use Rattle.drive_laws.specs.Sent.{IsAtRest, GoesOn}
-use Rattle.drive_laws.proofs.Going.{world_on, may_on, sent_none}
-use Rattle.drive_laws.proofs.Inputs.{taken_none, fitting_none}
-use Rattle.drive_laws.proofs.Stepping.{NoOpens}
-use Rattle.drive_laws.proofs.Tapes.{served_is}
+use Rattle.tape_drive.specs.Runs.{HasEnded}
+use Rattle.tape_drive.specs.Sent.{IsAtRest, GoesOn}
+use Rattle.tape_drive.proofs.Going.{world_on, may_on, sent_none}
+use Rattle.tape_drive.proofs.Inputs.{taken_none, fitting_none}
+use Rattle.tape_drive.proofs.Stepping.{NoOpens}
+use Rattle.tape_drive.proofs.Tapes.{served_is}
 
 -- GROWTH ALONE
 

@@ -20,9 +20,9 @@ use Rattle.cluster_store.proofs.Waits.{Sent, sent_before, marked, stepped as ste
 use Rattle.tape_drive.specs.Sends.{by_connection}
 use Rattle.tape_drive.specs.Steps.{may_come, stepped, step_outs, stepped_all}
 use Rattle.tape_drive.proofs.Ordered.{kept_on}
-use Rattle.drive_laws.specs.Sent.{IsAtRest, HasSent, GoesOn, steps_outs}
-use Rattle.drive_laws.proofs.Going.{world_on, may_on, sent_on, sent_none, goes_on, goes_nowhere}
-use Rattle.drive_laws.proofs.Sending.{Waits, IsSent, send_all}
+use Rattle.tape_drive.specs.Sent.{IsAtRest, HasSent, GoesOn, steps_outs}
+use Rattle.tape_drive.proofs.Going.{world_on, may_on, sent_on, sent_none, goes_on, goes_nowhere}
+use Rattle.tape_drive.proofs.Sending.{Waits, IsSent, send_all}
 use Rattle.tape_drive.proofs.Unsent.{none_sent}
 
 -- WHAT A STEP ADDS

@@ -22,7 +22,7 @@ use Rattle.tape_drive.specs.Links.{Link, given_on, link_on}
 use Rattle.tape_drive.specs.Rules.{stop_of}
 use Rattle.tape_drive.specs.Served.{inputs_where, inputs_taken}
 use Rattle.tape_drive.specs.Steps.{stepped, overfull, unless_full, fitting}
-use Rattle.drive_laws.proofs.Stepping.{NoOpens}
+use Rattle.tape_drive.proofs.Stepping.{NoOpens}
 
 joined : (xs ys : List InputType) → NoOpens xs → NoOpens ys → NoOpens (xs ++ ys)
 joined [] ys h k = k

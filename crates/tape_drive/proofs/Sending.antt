@@ -10,8 +10,8 @@ use Rattle.cluster_defs.specs.Lives.{World, Move, Send, Sending, May, kept_end, 
 use Rattle.cluster_defs.specs.Outs.{conn_of, outs_on}
 use Rattle.cluster_store.specs.Worlds.{MayGo, world_after}
 use Rattle.cluster_store.proofs.Taking.{ends_within}
-use Rattle.drive_laws.specs.Sent.{HasSent}
-use Rattle.drive_laws.proofs.Going.{world_on, may_on, sent_on, sent_none}
+use Rattle.tape_drive.specs.Sent.{HasSent}
+use Rattle.tape_drive.proofs.Going.{world_on, may_on, sent_on, sent_none}
 use Rattle.tape_drive.proofs.Sorting.{first_on}
 use Rattle.cluster_types.proofs.Numbers.{swapped}
 

@@ -14,11 +14,11 @@ use Rattle.task_journal.specs.Journal.{StandsFor, holding}
 use Rattle.task_journal.specs.declared.fault.OpenFault.{OpenFault}
 use Rattle.task_journal.specs.declared.found.Found.{Found}
 use Rattle.tape_drive.specs.Drive.{stand_at}
-use Rattle.drive_laws.specs.Sent.{HasSent, GoesOn, tape_outs, outs_of}
-use Rattle.drive_laws.specs.Runs.{TapeRun, begun, MayLeave, Ran, IsLifeOf, IsOneHistory}
-use Rattle.drive_laws.proofs.Going.{world_on, may_on, goes_on, world_of, life_on, outs_on, joined}
-use Rattle.drive_laws.proofs.Opening.{GrownTo, opens, grown_nothing, grow_comes}
-use Rattle.drive_laws.proofs.Tapes.{tape_goes}
+use Rattle.tape_drive.specs.Sent.{HasSent, GoesOn, tape_outs, outs_of}
+use Rattle.tape_drive.specs.Runs.{TapeRun, begun, MayLeave, Ran, IsLifeOf, IsOneHistory}
+use Rattle.tape_drive.proofs.Going.{world_on, may_on, goes_on, world_of, life_on, outs_on, joined}
+use Rattle.tape_drive.proofs.Opening.{GrownTo, opens, grown_nothing, grow_comes}
+use Rattle.tape_drive.proofs.Tapes.{tape_goes}
 
 -- a run, up to its crash
 record Crashes (w : World) (history : History) (sent : List Out) : Type 0 where

@@ -1,9 +1,9 @@
 //! Laws that tie what a drive writes to what the life of a cluster sends.
 
-ghost use Rattle.drive_laws.specs.Sent.{OutputIsFrames, ServeIsMoves, TapeIsMoves};
-ghost use Rattle.drive_laws.specs.Runs.{RunsAreLife, RunsBelong, LeftIsNext};
-ghost use Rattle.drive_laws.specs.Names.{PassesAreKnown, HistoryIsKnown, ResultsAreKnown, CopiesAreKnown};
-ghost use Rattle.drive_laws.specs.Agreement.{OutsAreSendings, KeptIsWritten, RecordIsRead, TalkIsStream};
+ghost use Rattle.tape_drive.specs.Sent.{OutputIsFrames, ServeIsMoves, TapeIsMoves};
+ghost use Rattle.tape_drive.specs.Runs.{RunsAreLife, RunsBelong, LeftIsNext};
+ghost use Rattle.tape_drive.specs.Names.{PassesAreKnown, HistoryIsKnown, ResultsAreKnown, CopiesAreKnown};
+ghost use Rattle.tape_drive.specs.Agreement.{OutsAreSendings, KeptIsWritten, RecordIsRead, TalkIsStream};
 
 /// What a record of a tape is answered with is octets of its stream, and then the frames of outs; and serving an input, or
 /// a tape, is moves of the life of a cluster, which sends these outs, one after another, and no others.

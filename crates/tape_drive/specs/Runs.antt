@@ -11,7 +11,7 @@ use Rattle.task_journal.specs.Journal.{StandsFor}
 use Rattle.tape.specs.declared.record.TapeRecord.{TapeRecord}
 use Rattle.tape_drive.specs.Drive.{Stand, start, stand_at}
 use Rattle.tape_drive.specs.Served.{Comes}
-use Rattle.drive_laws.specs.Sent.{tape_outs, outs_of}
+use Rattle.tape_drive.specs.Sent.{tape_outs, outs_of}
 
 -- a run over a file: how the file was opened, the records of its tape whose outs were sent, and those behind them
 pub record TapeRun : Type 0 where

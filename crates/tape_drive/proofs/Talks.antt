@@ -5,7 +5,7 @@ use Rattle.cluster_types.specs.declared.config.Channel.{Channel}
 use Rattle.tape_drive.specs.Links.{new_link}
 use Rattle.zmtp_peer.specs.PeerStream.{Talk, begins, talked}
 use Rattle.zmtp_peer.proofs.Pieces.{talked_append}
-use Rattle.drive_laws.specs.Agreement.{heard_all}
+use Rattle.tape_drive.specs.Agreement.{heard_all}
 
 heard_on : (conn : ℕ) (channel : Channel) (t : Talk) (pieces : List (List ℕ)) →
     (heard_all pieces (record { conn = conn; channel = channel; talk = Some t })).talk ≡ Some (talked t (flat_map (λ piece. piece) pieces))

@@ -5,7 +5,7 @@ use Rattle.cluster_types.specs.declared.out.Out.{Out}
 use Rattle.cluster_defs.specs.Histories.{History}
 use Rattle.cluster_defs.specs.Lives.{World, Move, Sending, May, Life, moved_by, world}
 use Rattle.cluster_store.specs.Worlds.{MayGo, world_after}
-use Rattle.drive_laws.specs.Sent.{IsAtRest, HasSent, GoesOn, outs_of}
+use Rattle.tape_drive.specs.Sent.{IsAtRest, HasSent, GoesOn, outs_of}
 
 pub world_on : (w : World) (later moves : List Move) → world_after w (later ++ moves) ≡ world_after (world_after w moves) later
 world_on w [] moves = refl

@@ -1,5 +1,0 @@
-use Rattle.drive_laws.proofs.Runs.{runs_are_life, runs_belong, left_is_next}
-use Rattle.drive_laws.proofs.laws.runs_are_one_life.Goals as goal
-
-pub returns : goal.returns
-returns c = record { life = runs_are_life; belong = runs_belong; next = left_is_next }

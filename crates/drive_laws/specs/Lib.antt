@@ -1,4 +1,0 @@
-pub mod Agreement
-pub mod Names
-pub mod Runs
-pub mod Sent
