@@ -21,8 +21,8 @@ use Rattle.record_codec.specs.Records.{spellings}
 use Rattle.record_codec.specs.Spelling.{IsWithinLimits}
 use Rattle.cluster_store.specs.declared.fault.StepError.{StepError}
 use Rattle.cluster_store.specs.declared.fault.StepError.TheVariants.{Reopen, HistoryFull, BatchFull, OutOfMemory}
-use Rattle.out_queues.specs.declared.waiting.Waiting.{Waiting}
-use Rattle.out_queues.specs.Queues.{waits, after}
+use Rattle.cluster_store.specs.declared.waiting.Waiting.{Waiting}
+use Rattle.cluster_store.specs.Queues.{waits, after}
 use Rattle.cluster_store.specs.Stores.{up_to, written, of_batch, IsRefused, IsRefusedFor}
 use Rattle.cluster_store.specs.Held.{judged, judged_by, IsHeld, told_of, need_after}
 use Rattle.disk_model.specs.Crashes.{LeavesOnly}

@@ -11,7 +11,7 @@ use Rattle.cluster_defs.specs.Histories.{History, facts, decide_all}
 use Rattle.cluster_defs.specs.Lives.{World, Move, Grow, Flush, Send, Crash, May, Sending, kept_end, sendings_to, is_open, told_after, moved_by, OpensIf}
 use Rattle.cluster_defs.specs.Runs.{Decided}
 use Rattle.cluster_core.proofs.Growing.{due_allowed}
-use Rattle.out_queues.specs.declared.taken.Taken.TheVariants.{Out as Hands}
+use Rattle.cluster_store.specs.declared.taken.Taken.TheVariants.{Out as Hands}
 use Rattle.cluster_store.specs.Stores.{up_to, told_by}
 use Rattle.cluster_store.specs.Worlds.{world_after, MayGo}
 use Rattle.cluster_store.proofs.Fits.{decides_to}

@@ -14,8 +14,8 @@ use Rattle.cluster_core.specs.Size.{size_since, is_past}
 use Rattle.record_codec.specs.Records.{spellings}
 use Rattle.cluster_store.specs.declared.fault.StepError.{StepError}
 use Rattle.cluster_store.specs.declared.fault.StepError.TheVariants.{Reopen, HistoryFull, BatchFull, OutOfMemory}
-use Rattle.out_queues.specs.declared.waiting.Waiting.{Waiting}
-use Rattle.out_queues.specs.Queues.{waits}
+use Rattle.cluster_store.specs.declared.waiting.Waiting.{Waiting}
+use Rattle.cluster_store.specs.Queues.{waits}
 use Rattle.cluster_store.specs.Stores.{up_to, written, IsRefused, IsRefusedFor, IsTooLong}
 use Rattle.disk_model.specs.Crashes.{LeavesOnly}
 use Rattle.task_journal.specs.Journal.{StandsFor}

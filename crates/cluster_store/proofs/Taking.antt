@@ -13,9 +13,9 @@ use Rattle.cluster_defs.specs.Scheduling.{is_kept}
 use Rattle.cluster_defs.specs.Histories.{History, facts}
 use Rattle.cluster_defs.specs.Outs.{outs, outs_on}
 use Rattle.cluster_defs.specs.Lives.{Sending, kept_end, sendings, sendings_to}
-use Rattle.out_queues.specs.declared.waiting.Waiting.{Waiting}
-use Rattle.out_queues.specs.declared.taken.Taken.TheVariants.{Out as Hands, NothingYet, Closed}
-use Rattle.out_queues.specs.Queues.{released, after, handed, is_none_left}
+use Rattle.cluster_store.specs.declared.waiting.Waiting.{Waiting}
+use Rattle.cluster_store.specs.declared.taken.Taken.TheVariants.{Out as Hands, NothingYet, Closed}
+use Rattle.cluster_store.specs.Queues.{released, after, handed, is_none_left}
 use Rattle.cluster_store.specs.Stores.{answer, told_by}
 use Rattle.cluster_store.specs.Held.{judged, judged_by, told_of, IsWaiting}
 use Rattle.cluster_store.proofs.Waits.{marked, with_mark, WaitsAt, at_of}

@@ -19,8 +19,8 @@ use Rattle.cluster_defs.specs.Runs.{Decided}
 use Rattle.cluster_defs.proofs.Says.{due_says}
 use Rattle.cluster_core.specs.Steps.{kept_from, kept_one}
 use Rattle.cluster_core.proofs.Growing.{due_kept, kept_more, kept_first, outs_more, outs_first}
-use Rattle.out_queues.specs.declared.waiting.Waiting.{Waiting}
-use Rattle.out_queues.specs.Queues.{waiting_of, waits}
+use Rattle.cluster_store.specs.declared.waiting.Waiting.{Waiting}
+use Rattle.cluster_store.specs.Queues.{waiting_of, waits}
 use Rattle.cluster_store.specs.Held.{judged, judged_by, told_of, IsWaiting, need_after}
 use Rattle.cluster_store.proofs.Fits.{length_more}
 use Rattle.cluster_store.proofs.Stepping.{Step}

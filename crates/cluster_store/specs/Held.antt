@@ -7,7 +7,7 @@ use Rattle.cluster_defs.specs.Scheduling.{due}
 use Rattle.cluster_defs.specs.Histories.{History, facts, Legal}
 use Rattle.cluster_defs.specs.Lives.{Sending, kept_end, sendings_to}
 use Rattle.cluster_core.specs.Steps.{kept_from}
-use Rattle.out_queues.specs.declared.waiting.Waiting.{Waiting}
+use Rattle.cluster_store.specs.declared.waiting.Waiting.{Waiting}
 use Rattle.cluster_store.specs.Stores.{up_to}
 
 -- an out with whether it may be handed out: as it waits, and by the history

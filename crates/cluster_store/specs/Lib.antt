@@ -4,3 +4,4 @@ pub mod Records
 pub mod Remaking
 pub mod Stores
 pub mod Worlds
+pub mod Queues

@@ -5,7 +5,7 @@ use Rattle.cluster_defs.specs.Connections.{channel_on}
 use Rattle.cluster_defs.specs.Histories.{History, facts, kept}
 use Rattle.cluster_defs.specs.Lives.{Sending, World, kept_end, sendings_to}
 use Rattle.cluster_core.specs.Steps.{kept_from}
-use Rattle.out_queues.specs.Queues.{Lines, left_at}
+use Rattle.cluster_store.specs.Queues.{Lines, left_at}
 use Rattle.cluster_store.specs.declared.fault.StepError.{StepError}
 use Rattle.cluster_store.specs.declared.fault.ServeError.{ServeError}
 use Rattle.cluster_store.specs.declared.fault.ServeError.TheVariants.{Step, DiskFault}
@@ -17,8 +17,8 @@ use Rattle.cluster_core.specs.Size.{size_since, is_past}
 use Rattle.task_journal.specs.declared.fault.ExtendFault.{ExtendFault}
 use Rattle.task_journal.specs.declared.fault.ExtendFault.TheVariants as extends
 use Rattle.record_codec.specs.Records.{spellings}
-use Rattle.out_queues.specs.declared.taken.Taken.{Taken}
-use Rattle.out_queues.specs.declared.taken.Taken.TheVariants.{Out as Hands, NothingYet, Closed}
+use Rattle.cluster_store.specs.declared.taken.Taken.{Taken}
+use Rattle.cluster_store.specs.declared.taken.Taken.TheVariants.{Out as Hands, NothingYet, Closed}
 
 -- the disk; the history, the newest entry first; how much may come after its last Open; how many of its entries are safe
 -- on the disk; the outs that wait, by connection; whether a call of the disk failed; and how many steps the limits refused

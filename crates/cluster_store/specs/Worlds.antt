@@ -5,7 +5,7 @@ use Rattle.cluster_types.specs.declared.entry.Entry.TheVariants.{Input}
 use Rattle.cluster_defs.specs.Scheduling.{due, Allowed}
 use Rattle.cluster_defs.specs.Histories.{facts, decide_all}
 use Rattle.cluster_defs.specs.Lives.{World, Move, Flush, Send, Crash, May, Sending, kept_end, sendings_to, is_open, moved_by}
-use Rattle.out_queues.specs.declared.taken.Taken.TheVariants.{Out as Hands}
+use Rattle.cluster_store.specs.declared.taken.Taken.TheVariants.{Out as Hands}
 use Rattle.cluster_store.specs.Stores.{up_to, told_by}
 
 -- a world after further moves, the newest first

@@ -4,5 +4,8 @@
 pub mod fault;
 pub mod laws;
 pub mod opening;
+pub mod queues;
 mod remaking;
 pub mod store;
+pub mod taken;
+pub mod waiting;

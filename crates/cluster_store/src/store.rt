@@ -16,7 +16,7 @@ ghost use Rattle.record_codec.specs.Records.{spellings};
 ghost use Rattle.task_journal.specs.Journal.{StandsFor, IsOfDisk};
 ghost use Rattle.task_journal.specs.Settled.{Outcome};
 ghost use Rattle.cluster_store.specs.Openings.{opened};
-ghost use Rattle.out_queues.specs.Queues.{left_at, room_at, is_news, waits};
+ghost use Rattle.cluster_store.specs.Queues.{left_at, room_at, is_news, waits};
 ghost use Rattle.cluster_store.specs.Held.{need_after};
 ghost use Rattle.cluster_core.specs.Steps.{kept_from};
 ghost use Rattle.cluster_core.specs.Size.{size_since, is_past};
@@ -33,8 +33,8 @@ use cluster_types::event::Event;
 use cluster_types::out::Outs;
 use disk_model::disk::Disk;
 use load_schemes::chooser::Chooser;
-use out_queues::queues::Queues;
-use out_queues::taken::Taken;
+use crate::queues::Queues;
+use crate::taken::Taken;
 use std::alloc::AllocError;
 use std::marker::Model;
 use task_journal::batch::Batch;
@@ -62,7 +62,7 @@ impl<D: Disk> Model for Store<D> {
     ghost use Rattle.task_journal.specs.Journal.{StandsFor};
     ghost use Rattle.cluster_store.specs.Stores.{StoreView, up_to, written};
     ghost use Rattle.cluster_store.specs.Held.{IsHeld};
-    ghost use Rattle.out_queues.specs.Queues.{left_at};
+    ghost use Rattle.cluster_store.specs.Queues.{left_at};
 
     ghost Value = { StoreView D };
 

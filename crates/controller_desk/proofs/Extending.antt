@@ -11,8 +11,8 @@ use Rattle.cluster_types.specs.declared.entry.Entry.TheVariants.{Input, Hand, Se
 use Rattle.cluster_defs.specs.Histories.{History}
 use Rattle.cluster_defs.specs.Lives.{is_open}
 use Rattle.cluster_core.specs.declared.size.HistorySize.{HistorySize}
-use Rattle.out_queues.specs.declared.taken.Taken.{Taken}
-use Rattle.out_queues.specs.declared.taken.Taken.TheVariants.{Out as Hands, NothingYet, Closed}
+use Rattle.cluster_store.specs.declared.taken.Taken.{Taken}
+use Rattle.cluster_store.specs.declared.taken.Taken.TheVariants.{Out as Hands, NothingYet, Closed}
 use Rattle.cluster_store.specs.Stores.{StoreView, Becomes, told, told_by, one_more}
 use Rattle.task_journal.specs.declared.fault.AppendFault.{AppendFault}
 use Rattle.task_journal.specs.declared.fault.AppendFault.TheVariants as appends

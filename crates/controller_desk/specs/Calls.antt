@@ -11,9 +11,9 @@ use Rattle.cluster_types.specs.declared.entry.Entry.TheVariants.{Input}
 use Rattle.cluster_defs.specs.Histories.{History, facts, decide_all}
 use Rattle.cluster_core.specs.declared.size.HistorySize.{HistorySize}
 use Rattle.cluster_core.specs.Size.{size_since, is_past}
-use Rattle.out_queues.specs.declared.taken.Taken.{Taken}
+use Rattle.cluster_store.specs.declared.taken.Taken.{Taken}
 use Rattle.cluster_store.specs.Stores.{StoreView, Becomes, told, answer, is_live, next_to, told_by}
-use Rattle.out_queues.specs.Queues.{is_news}
+use Rattle.cluster_store.specs.Queues.{is_news}
 use Rattle.task_journal.specs.declared.fault.AppendFault.{AppendFault}
 use Rattle.task_journal.specs.declared.fault.AppendFault.TheVariants as appends
 use Rattle.controller_desk.specs.declared.acted.Acted.{Acted}

@@ -24,7 +24,7 @@ use cluster_types::entry::Input;
 use disk_model::disk::Disk;
 use history_lock::lock::{HistoryLock, NoPass, Pass};
 use load_schemes::chooser::Chooser;
-use out_queues::taken::Taken;
+use cluster_store::taken::Taken;
 use std::alloc::{AllocError, Global};
 use std::sync::Wait;
 use task_journal::fault::AppendFault;

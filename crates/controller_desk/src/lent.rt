@@ -28,7 +28,7 @@ use cluster_types::shared_message::SharedMessage;
 use disk_model::disk::Disk;
 use link_messages::identity::identity_or_number;
 use load_schemes::chooser::Chooser;
-use out_queues::taken::Taken;
+use cluster_store::taken::Taken;
 use std::alloc::{AllocError, Global};
 use task_journal::fault::AppendFault;
 

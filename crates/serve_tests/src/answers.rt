@@ -21,7 +21,7 @@ use controller_threads::ports::Ports;
 use controller_threads::serving::serve;
 use controller_threads::shared::Serving;
 use history_lock::lock::Pass;
-use out_queues::taken::Taken;
+use cluster_store::taken::Taken;
 use std::alloc::Global;
 use std::process::Abort;
 use std::sync::{Arc, Wait};

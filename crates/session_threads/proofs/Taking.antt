@@ -11,8 +11,8 @@ use Rattle.cluster_types.specs.declared.out.Out.{Out}
 use Rattle.cluster_defs.specs.Histories.{History}
 use Rattle.cluster_defs.specs.Lives.{Sending, sendings, sendings_to, kept_end}
 use Rattle.cluster_defs.specs.Outs.{outs, outs_on, outs_to}
-use Rattle.out_queues.specs.declared.taken.Taken.{Taken}
-use Rattle.out_queues.specs.declared.taken.Taken.TheVariants.{Out as Hands, NothingYet, Closed}
+use Rattle.cluster_store.specs.declared.taken.Taken.{Taken}
+use Rattle.cluster_store.specs.declared.taken.Taken.TheVariants.{Out as Hands, NothingYet, Closed}
 use Rattle.cluster_store.specs.Stores.{StoreView, told, told_by, one_more, answer, is_live, next_to}
 use Rattle.history_lock.specs.declared.known.Content.{Content}
 use Rattle.history_lock.specs.declared.known.View.{View}

@@ -10,7 +10,7 @@ use crate::context::{PassOf, SessionContext, SessionTypes};
 use cluster_types::out::Out;
 use hmac_sign::Key;
 use link_messages::outs::out_octets;
-use out_queues::taken::Taken;
+use cluster_store::taken::Taken;
 use std::alloc::{AllocError, Global};
 
 /// A batch takes no further out once it has so many octets.

@@ -6,7 +6,7 @@ use crate::stores::{Answer, is_answer};
 use cluster_types::out::{Out, Outs};
 use cluster_types::sequence::Sequence;
 use cluster_types::shared_message::SharedMessage;
-use out_queues::queues::Queues;
+use cluster_store::queues::Queues;
 use std::alloc::Global;
 use std::process::Abort;
 

@@ -18,7 +18,7 @@ use cluster_types::shared_message::SharedMessage;
 use disk_model::fuse::FuseDisk;
 use disk_model::memory::MemDisk;
 use load_schemes::chooser::Chooser;
-use out_queues::taken::Taken;
+use cluster_store::taken::Taken;
 use std::alloc::Global;
 use std::process::Abort;
 use task_journal::fault::AppendFault;

@@ -1,7 +1,7 @@
 use Rattle.std.proofs.Common.{◌∙◌, List, [], ℕ, refl, sym, subst, arith}
 use Rattle.history_lock.specs.Names.{known}
 use Rattle.history_lock.proofs.Growing.{extends_self}
-use Rattle.out_queues.specs.declared.taken.Taken.{Taken}
+use Rattle.cluster_store.specs.declared.taken.Taken.{Taken}
 use Rattle.controller_desk.specs.Calls.{HasTaken}
 use Rattle.session_threads.specs.Writing.{Took, TookSome}
 use Rattle.session_threads.proofs.Taking.{took_turn, took_nothing, no_more}

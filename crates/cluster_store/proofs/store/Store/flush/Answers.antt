@@ -4,7 +4,7 @@ use Rattle.cluster_types.specs.declared.entry.Entry.{Entry}
 use Rattle.disk_model.specs.Crashes.{LeavesOnly}
 use Rattle.task_journal.specs.Journal.{StandsFor}
 use Rattle.cluster_store.specs.Held.{IsHeld}
-use Rattle.out_queues.specs.Queues.{left_at}
+use Rattle.cluster_store.specs.Queues.{left_at}
 use Rattle.cluster_store.specs.Stores.{StoreView, up_to, written}
 use Rattle.cluster_store.proofs.Holding.{held_flushed, batch_completes, flush_moment}
 use Rattle.cluster_store.proofs.Stepping.{whole_front}

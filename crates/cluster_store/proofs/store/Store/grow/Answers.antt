@@ -8,8 +8,8 @@ use Rattle.cluster_defs.specs.Outs.{outs_on}
 use Rattle.record_codec.specs.Records.{spellings}
 use Rattle.record_codec.specs.Spelling.{IsWithinLimits}
 use Rattle.task_journal.specs.Journal.{StandsFor}
-use Rattle.out_queues.specs.declared.waiting.Waiting.{Waiting}
-use Rattle.out_queues.specs.Queues.{left_at, waits}
+use Rattle.cluster_store.specs.declared.waiting.Waiting.{Waiting}
+use Rattle.cluster_store.specs.Queues.{left_at, waits}
 use Rattle.cluster_store.specs.Stores.{StoreView, Becomes, told, up_to, IsRefused, IsTaken, written}
 use Rattle.cluster_store.specs.Held.{IsHeld}
 use Rattle.cluster_store.proofs.Fits.{step_fits}

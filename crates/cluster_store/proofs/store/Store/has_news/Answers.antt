@@ -1,6 +1,6 @@
 use Rattle.std.proofs.Common.{◌≡◌, ◌∙◌, sym, ap, subst, drop}
 use Rattle.cluster_defs.specs.Lives.{sendings_to}
-use Rattle.out_queues.specs.Queues.{left_at, handed, is_news, released, after, is_none_left}
+use Rattle.cluster_store.specs.Queues.{left_at, handed, is_news, released, after, is_none_left}
 use Rattle.cluster_store.specs.Stores.{StoreView, answer, is_live, next_to}
 use Rattle.cluster_store.specs.Held.{told_of}
 use Rattle.cluster_store.proofs.Taking.{answers, get_first}

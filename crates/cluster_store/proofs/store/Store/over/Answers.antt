@@ -3,7 +3,7 @@ use Rattle.std.proofs.lemmas.List.{length-reverse}
 use Rattle.cluster_types.specs.declared.entry.Entry.{Entry}
 use Rattle.task_journal.specs.Journal.{StandsFor}
 use Rattle.cluster_store.specs.Held.{IsHeld}
-use Rattle.out_queues.specs.Queues.{left_at}
+use Rattle.cluster_store.specs.Queues.{left_at}
 use Rattle.cluster_store.specs.Stores.{up_to, written}
 use Rattle.cluster_store.proofs.Holding.{held_first}
 use Rattle.cluster_store.proofs.Stepping.{whole_front}

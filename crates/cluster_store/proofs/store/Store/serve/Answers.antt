@@ -8,7 +8,7 @@ use Rattle.cluster_core.specs.Steps.{kept_from}
 use Rattle.disk_model.specs.Crashes.{LeavesOnly}
 use Rattle.task_journal.specs.Journal.{StandsFor}
 use Rattle.cluster_store.specs.Held.{IsHeld}
-use Rattle.out_queues.specs.Queues.{left_at}
+use Rattle.cluster_store.specs.Queues.{left_at}
 use Rattle.cluster_store.specs.Stores.{StoreView, told, up_to, written, IsTaken, IsRefused}
 use Rattle.cluster_store.proofs.Serving.{Taken, served_held, refused_for, all_kept, never_long, holds_all, held_written, serve_moment}
 use Rattle.cluster_store.proofs.store.Store.serve.Goals as goal

@@ -1,7 +1,7 @@
 use Rattle.std.proofs.Common.{◌≡◌, ◌∙◌, sym, ap, refl, subst, drop}
 use Rattle.cluster_defs.specs.Lives.{sendings_to}
-use Rattle.out_queues.specs.declared.taken.Taken.{Taken}
-use Rattle.out_queues.specs.Queues.{left_at, handed, released, after, is_none_left}
+use Rattle.cluster_store.specs.declared.taken.Taken.{Taken}
+use Rattle.cluster_store.specs.Queues.{left_at, handed, released, after, is_none_left}
 use Rattle.cluster_store.specs.Stores.{StoreView, Becomes, told, told_by, answer, is_live, next_to}
 use Rattle.cluster_store.specs.Held.{told_of}
 use Rattle.cluster_store.proofs.Holding.{held_taken}

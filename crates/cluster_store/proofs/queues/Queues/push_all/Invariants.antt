@@ -1,7 +1,7 @@
 use Rattle.std.proofs.Common.{◌≡◌, ◌≤◌, ◌++◌, ℕ, length}
 use Rattle.cluster_defs.specs.Outs.{outs_on}
-use Rattle.out_queues.specs.Queues.{left_at, room_at, waits}
-use Rattle.out_queues.proofs.queues.Queues.push_all.Given as goal
+use Rattle.cluster_store.specs.Queues.{left_at, room_at, waits}
+use Rattle.cluster_store.proofs.queues.Queues.push_all.Given as goal
 
 -- those that came wait, and there is room for those to come
 abbrev pub invariant-loop-out : goal.invariant-loop-out

@@ -1,7 +1,7 @@
 use Rattle.std.proofs.Common.{◌≡◌, ◌≤◌, ℕ, length, take}
 use Rattle.cluster_defs.specs.Outs.{outs_on}
-use Rattle.out_queues.specs.Queues.{left_at, room_at}
-use Rattle.out_queues.proofs.queues.Queues.make_rooms.Given as goal
+use Rattle.cluster_store.specs.Queues.{left_at, room_at}
+use Rattle.cluster_store.proofs.queues.Queues.make_rooms.Given as goal
 
 -- nothing moves, and there is room for each out so far
 abbrev pub invariant-loop-out : goal.invariant-loop-out

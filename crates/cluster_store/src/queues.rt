@@ -2,7 +2,7 @@
 
 ghost use Rattle.std.specs.Prelude.{◌≡◌, ◌≤◌, ◌<◌, ◌+◌, ◌==◌, ℕ, [], ◌∷◌, ◌++◌, length, not, if◌then◌else◌, OnOk};
 ghost use Rattle.cluster_defs.specs.Outs.{conn_of, outs_on};
-ghost use Rattle.out_queues.specs.Queues.{left_at, room_at, released, after, handed, is_news, waits, is_none_left};
+ghost use Rattle.cluster_store.specs.Queues.{left_at, room_at, released, after, handed, is_news, waits, is_none_left};
 
 use crate::taken::Taken;
 use crate::waiting::{Line, Waiting};
@@ -19,7 +19,7 @@ pub struct Queues {
 }
 
 impl Model for Queues {
-    ghost use Rattle.out_queues.specs.Queues.{Lines};
+    ghost use Rattle.cluster_store.specs.Queues.{Lines};
 
     ghost Value = { Lines };
 

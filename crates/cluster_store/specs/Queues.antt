@@ -2,9 +2,9 @@
 use Rattle.std.specs.Prelude.{ℕ, nat_le, nat_eq, List, [], ◌∷◌, map, Option, Some, None, Bool, true, false, ◌||◌, not, if◌then◌else◌}
 use Rattle.std.specs.Map.{lookup}
 use Rattle.cluster_types.specs.declared.out.Out.{Out}
-use Rattle.out_queues.specs.declared.waiting.Waiting.{Waiting}
-use Rattle.out_queues.specs.declared.taken.Taken.{Taken}
-use Rattle.out_queues.specs.declared.taken.Taken.TheVariants.{Out as Hands, NothingYet, Closed}
+use Rattle.cluster_store.specs.declared.waiting.Waiting.{Waiting}
+use Rattle.cluster_store.specs.declared.taken.Taken.{Taken}
+use Rattle.cluster_store.specs.declared.taken.Taken.TheVariants.{Out as Hands, NothingYet, Closed}
 
 -- the outs that wait for one connection, and for how many more there is room
 pub record LineView : Type 0 where

@@ -2,7 +2,7 @@
 
 ghost use Rattle.std.specs.Prelude.{◌≡◌, ◌≤◌, ◌<◌, ◌+◌, [], ◌∷◌, ◌++◌, OnOk};
 ghost use Rattle.std.specs.Option.{is_some};
-ghost use Rattle.out_queues.specs.Queues.{LineView, released, after, handed, is_news, is_none_left};
+ghost use Rattle.cluster_store.specs.Queues.{LineView, released, after, handed, is_news, is_none_left};
 
 use cluster_types::out::Out;
 use std::alloc::{AllocError, Global};
@@ -26,7 +26,7 @@ pub struct Line {
 impl Model for Line {
     ghost use Rattle.std.specs.Prelude.{◌≤◌, ◌+◌};
     ghost use Rattle.std.specs.VecDeque.{deque_len, deque_capacity};
-    ghost use Rattle.out_queues.specs.Queues.{LineView};
+    ghost use Rattle.cluster_store.specs.Queues.{LineView};
 
     ghost Value = { LineView };
 
