@@ -30,7 +30,7 @@ use cluster_types::shared_message::SharedMessage;
 use entry_outs::rulings::ruling;
 use json::Scratch;
 use std::alloc::{AllocError, Global};
-use task_attempts::attempts::one_more;
+use task_table::attempts::one_more;
 
 /// What a message means on a channel.
 fn understood(

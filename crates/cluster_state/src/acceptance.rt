@@ -29,7 +29,7 @@ use cluster_types::shared_message::SharedMessage;
 use cluster_types::text::Text;
 use std::alloc::{AllocError, Global};
 use std::collections::BTreeMap;
-use task_attempts::attempts::one_more;
+use task_table::attempts::one_more;
 use task_table::task::Task;
 use task_table::tasks::Tasks;
 

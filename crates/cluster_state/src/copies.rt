@@ -20,7 +20,7 @@ use edges::date::{Moment, date_text};
 use jupyter_header::write::resubmit_header;
 use resubmission::plan::{Renamed, Renaming, ResubmitRefusal};
 use std::alloc::{AllocError, Global};
-use task_attempts::attempts::one_more;
+use task_table::attempts::one_more;
 use task_table::task::Task;
 use task_table::tasks::Tasks;
 

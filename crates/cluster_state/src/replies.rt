@@ -14,7 +14,7 @@ use cluster_types::shared_message::SharedMessage;
 use cluster_types::text::Text;
 use engine_registry::registry::Registry;
 use std::alloc::AllocError;
-use task_attempts::attempts::Attempts;
+use task_table::attempts::Attempts;
 
 /// The connection of the engine of a current attempt.
 fn home(live: &Registry, attempt: Attempt) -> Option<u32>

@@ -14,7 +14,7 @@ use cluster_types::shared_message::SharedMessage;
 use cluster_types::text::Text;
 use cluster_types::verdict::{Cause, Verdict};
 use std::alloc::AllocError;
-use task_attempts::attempts::engine_of;
+use task_table::attempts::engine_of;
 
 /// How a task is settled, with the outcome that it gets.
 #[derive(Drop)]

@@ -20,7 +20,7 @@ use cluster_types::text::Text;
 use cluster_types::verdict::{Cause, Verdict};
 use engine_registry::registry::Registry;
 use std::alloc::{AllocError, Global};
-use task_attempts::attempts::{engine_of, one_more};
+use task_table::attempts::{engine_of, one_more};
 use task_table::tasks::Tasks;
 
 /// What is known of a cluster after a history. A call that answers want of memory may have made a part of its change, so who

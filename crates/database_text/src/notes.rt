@@ -13,7 +13,7 @@ use cluster_types::text::Text;
 use resubmission::distinct::once;
 use std::alloc::{AllocError, Global};
 use std::marker::Model;
-use task_attempts::attempts::one_more;
+use task_table::attempts::one_more;
 
 /// A new id, with the old one whose request it got.
 #[derive(Drop)]

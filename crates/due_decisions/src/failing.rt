@@ -7,7 +7,7 @@ ghost use Rattle.due_decisions.specs.Table.{among, failing_in};
 use cluster_defs::request::WholeRequest;
 use cluster_types::verdict::Cause;
 use engine_registry::registry::Registry;
-use task_attempts::attempts::Attempts;
+use task_table::attempts::Attempts;
 use task_table::live::Live;
 use task_table::standing::rests;
 use task_table::table::Table;

@@ -27,7 +27,7 @@ use cluster_types::out::Outs;
 use cluster_types::shared_message::SharedMessage;
 use cluster_types::text::Text;
 use std::alloc::{AllocError, Global};
-use task_attempts::attempts::one_more;
+use task_table::attempts::one_more;
 
 /// What a message sends, where its answer goes as the slip says.
 fn message_outs(

@@ -29,7 +29,7 @@ use resubmission::plan::{Renamed, Renaming};
 use resubmission::purge::PurgePlan;
 use std::alloc::Global;
 use std::process::Abort;
-use task_attempts::attempts::{Attempts, engine_of, is_never, one_more, runs, runs_at};
+use task_table::attempts::{Attempts, engine_of, is_never, one_more, runs, runs_at};
 
 fn ids<R: Abort>(rt: &R, alloc: Global, names: &[&str]) -> Ids {
     let mut list = Ids::new(alloc);

@@ -1,6 +1,7 @@
 //! Tasks by place and id, with what is kept beside them, so that what is due of some is found without a look at the others.
 #![tactic(auto)]
 
+pub mod attempts;
 mod finished;
 pub mod fitting;
 pub mod laning;

@@ -8,7 +8,7 @@ ghost use Rattle.task_table.specs.Standing.{alone, final_at, direct_at, runs_ope
 use crate::task::Task;
 use cluster_defs::attempt::Attempt;
 use cluster_types::verdict::{Cause, Verdict};
-use task_attempts::attempts::{is_never, runs};
+use crate::attempts::{is_never, runs};
 
 /// The verdict and cause that the last attempt leads to, where no retry is left or one is.
 fn verdict_at(over: bool, attempt: Attempt) -> Option<(Verdict, Cause)>

@@ -15,7 +15,7 @@ use cluster_types::text::Text;
 use cluster_types::verdict::{Cause, Verdict};
 use std::alloc::{AllocError, Global};
 use std::marker::Model;
-use task_attempts::attempts::{Attempts, engine_of, runs, runs_at};
+use crate::attempts::{Attempts, engine_of, runs, runs_at};
 
 /// A task, which contracts see as all that a history says of its id.
 #[derive(Debug)]

@@ -19,7 +19,7 @@ use cluster_types::text::Text;
 use dependency_sets::dependencies::{is_asked, is_empty, is_unreachable};
 use dependency_sets::finished::Finished;
 use dependency_sets::following::is_scattered;
-use task_attempts::attempts::Attempts;
+use crate::attempts::Attempts;
 
 /// Whether an engine declined the task of these attempts.
 pub fn is_excluded(attempts: &Attempts, engine: u32) -> bool

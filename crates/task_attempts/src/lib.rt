@@ -1,4 +1,0 @@
-//! The attempts of a task.
-#![tactic(auto)]
-
-pub mod attempts;
