@@ -8,8 +8,8 @@ use Rattle.std.proofs.lemmas.List.{take_at, drop_at, drop-drop, append-nil}
 use Rattle.std.proofs.lemmas.List.Elements.{All-append, All-cons, All-head, All-tail, All-nil}
 use Rattle.std.proofs.lemmas.Nat.{from_be_bytes-to_be_bytes_4}
 use Rattle.cluster_types.specs.declared.entry.Entry.{Entry}
-use Rattle.octet_fields.specs.Spelling.{be32}
-use Rattle.octet_fields.specs.Difference.{difference}
+use Rattle.edges.specs.Spelling.{be32}
+use Rattle.edges.specs.Difference.{difference}
 use Rattle.record_codec.specs.Spelling.{spelling, HasRecord}
 use Rattle.record_codec.specs.Records.{spellings}
 use Rattle.record_codec.proofs.Lengths.{length-be32}

@@ -2,7 +2,7 @@
 use Rattle.std.specs.Prelude.{ℕ, ◌^◌, ◌<◌, Bool, nat_le, if◌then◌else◌, List, [], ◌∷◌, ◌++◌, length, All}
 use Rattle.std.specs.List.{flat_map}
 use Rattle.cluster_types.specs.declared.entry.Entry.{Entry}
-use Rattle.octet_fields.specs.Spelling.{be32}
+use Rattle.edges.specs.Spelling.{be32}
 use Rattle.record_codec.specs.Records.{spellings}
 use Rattle.task_journal.specs.Journal.{head}
 

@@ -7,7 +7,7 @@ ghost use Rattle.database_text.specs.Compact.{batches, batch_front, FitsBatch};
 
 use crate::fault::WriteError;
 use cluster_types::entry::Entry;
-use octet_fields::writing::put_number32;
+use edges::writing::put_number32;
 use record_codec::size::record_size;
 
 /// The most octets that the records of a batch have together, where there are several.

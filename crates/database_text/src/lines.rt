@@ -2,7 +2,7 @@
 
 ghost use Rattle.std.specs.Prelude.{◌≡◌, ◌++◌, OnOk, OnErr, decimal, map};
 ghost use Rattle.std.specs.List.{flat_map};
-ghost use Rattle.octet_fields.specs.Keeping.{Keeps};
+ghost use Rattle.edges.specs.Keeping.{Keeps};
 ghost use Rattle.database_text.specs.Lines.{channel_name, scheme_name, hexadecimal, field, message_fields, kind_word, fields, line};
 
 use cluster_types::config::{Channel, Scheme};
@@ -10,7 +10,7 @@ use cluster_types::entry::{Entry, Input};
 use cluster_types::octets::Octets;
 use cluster_types::shared_message::SharedMessage;
 use itoa::Buffer;
-use octet_fields::writing::put_both;
+use edges::writing::put_both;
 use std::alloc::AllocError;
 
 /// The name of a channel.

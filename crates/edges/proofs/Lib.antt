@@ -3,3 +3,9 @@ pub mod Pieces
 pub mod DateLemmas
 pub mod DateRows
 pub mod Additions
+pub mod Again
+pub mod Extends
+pub mod Joins
+pub mod Keeping
+pub mod Takes
+pub mod Widths

@@ -4,3 +4,7 @@ pub mod Devices
 pub mod Frames
 pub mod Memory
 pub mod Streams
+pub mod Difference
+pub mod Keeping
+pub mod Reading
+pub mod Spelling

@@ -3,8 +3,12 @@
 #![tactic(auto)]
 
 pub mod date;
+pub mod difference;
 pub mod frames;
 pub mod memory;
+pub mod reading;
 pub mod sink;
 pub mod source;
 pub mod standard;
+pub mod stop;
+pub mod writing;

@@ -9,7 +9,7 @@ use Rattle.command_words.specs.declared.standing.Action.{Action}
 use Rattle.command_words.specs.declared.standing.Action.TheVariants.{Run, Result, Purge, Resubmit, Queue, History, Shutdown}
 use Rattle.message_defs.specs.declared.content.SubmitMeta.{SubmitMeta}
 use Rattle.message_defs.specs.Texts.{texts_list, empty_object}
-use Rattle.octet_fields.specs.Spelling.{be64}
+use Rattle.edges.specs.Spelling.{be64}
 use Rattle.thread_edges.specs.Series.{Draws}
 
 -- the session of the program's client

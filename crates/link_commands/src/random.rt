@@ -2,12 +2,12 @@
 
 ghost use Rattle.std.specs.Prelude.{◌≡◌, ◌++◌};
 ghost use Rattle.link_commands.specs.Actions.{AreDrawn};
-ghost use Rattle.octet_fields.specs.Spelling.{be64};
+ghost use Rattle.edges.specs.Spelling.{be64};
 
 use thread_edges::words::Words;
 
 /// The octets of two words, one behind the other.
-#[tactic(auto, unfolding(octet_fields::specs::Spelling::be64))]
+#[tactic(auto, unfolding(edges::specs::Spelling::be64))]
 fn octets_of(first: u64, second: u64) -> [u8; 16]
     ensures { result ≡ be64 first ++ be64 second }
 {

@@ -15,9 +15,9 @@ use Rattle.cluster_types.specs.declared.message.Message.{Message}
 use Rattle.cluster_types.specs.declared.entry.Input.TheVariants.{Open, Up, Down, In, Beat, Time}
 use Rattle.cluster_types.specs.declared.entry.Entry.{Entry}
 use Rattle.cluster_types.specs.declared.entry.Entry.TheVariants.{Input, Hand, Settle, Lose}
-use Rattle.octet_fields.specs.Spelling.{be32, be64, str8, blob, channel_code}
-use Rattle.octet_fields.specs.Reading.{Read}
-use Rattle.octet_fields.proofs.Again.{number32, number64, str8_again, blob_again, channel_again}
+use Rattle.edges.specs.Spelling.{be32, be64, str8, blob, channel_code}
+use Rattle.edges.specs.Reading.{Read}
+use Rattle.edges.proofs.Again.{number32, number64, str8_again, blob_again, channel_again}
 use Rattle.record_codec.specs.Spelling.{scheme_code, verdict_code, cause_code, blobs, message_spelling, spelling, IsMoment, IsName, IsShort, HasRecord}
 use Rattle.record_codec.specs.Reading.{moment_at, name_at, id_at, scheme_at, verdict_at, cause_at, blobs_at, buffers_at, message_at, open_at, up_at, down_at, in_at, beat_at, time_at, hand_at, settle_at, lose_at, entry_at}
 use Rattle.cluster_types.proofs.Numbers.{not_zero}

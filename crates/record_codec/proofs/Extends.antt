@@ -9,8 +9,8 @@ use Rattle.cluster_types.specs.declared.verdict.Cause.TheVariants as causes
 use Rattle.cluster_types.specs.declared.message.Message.{Message}
 use Rattle.cluster_types.specs.declared.entry.Input.TheVariants.{Open, Up, Down, In, Beat, Time}
 use Rattle.cluster_types.specs.declared.entry.Entry.TheVariants.{Input, Hand, Settle, Lose}
-use Rattle.octet_fields.specs.Reading.{octet_at, number_at, str8_at, blob_at, channel_at}
-use Rattle.octet_fields.proofs.Extends.{Extends, in_turn, gives, refuses, eithers, octets, numbers, str8s, blobs, channels}
+use Rattle.edges.specs.Reading.{octet_at, number_at, str8_at, blob_at, channel_at}
+use Rattle.edges.proofs.Extends.{Extends, in_turn, gives, refuses, eithers, octets, numbers, str8s, blobs, channels}
 use Rattle.record_codec.specs.Reading.{moment_at, name_at, id_at, scheme_at, verdict_at, cause_at, blobs_at, buffers_at, message_at, open_at, up_at, down_at, in_at, beat_at, time_at, hand_at, settle_at, lose_at, kind_at, entry_at}
 
 moments : Extends moment_at

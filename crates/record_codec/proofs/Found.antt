@@ -2,8 +2,8 @@
 use Rattle.std.proofs.Common.{◌≡◌, ℕ, ◌+◌, ◌-◌, ◌≤◌, List, ◌++◌, length, take, drop, Ok, Err, sym, ap, ◌∙◌, append_assoc, arith, length-append, length-drop}
 use Rattle.std.proofs.lemmas.List.{take-append-drop, length-take, drop_at, get_or-drop}
 use Rattle.cluster_types.specs.declared.entry.Entry.{Entry}
-use Rattle.octet_fields.specs.declared.stop.Stop.{Stop}
-use Rattle.octet_fields.proofs.Takes.{IsBytes, IsBytes-drop}
+use Rattle.edges.specs.declared.stop.Stop.{Stop}
+use Rattle.edges.proofs.Takes.{IsBytes, IsBytes-drop}
 use Rattle.record_codec.specs.Spelling.{spelling, RecordStands}
 use Rattle.record_codec.specs.Reading.{entry_at}
 use Rattle.record_codec.proofs.Again.{entry_again}

@@ -5,9 +5,9 @@ use Rattle.cluster_types.specs.declared.message.Message.{Message}
 use Rattle.cluster_types.specs.declared.entry.Input.TheVariants.{Open, Up, Down, In, Beat, Time}
 use Rattle.cluster_types.specs.declared.entry.Entry.{Entry}
 use Rattle.cluster_types.specs.declared.entry.Entry.TheVariants.{Input, Hand, Settle, Lose}
-use Rattle.octet_fields.specs.Spelling.{be32, be64, str8, blob}
+use Rattle.edges.specs.Spelling.{be32, be64, str8, blob}
 use Rattle.record_codec.specs.Spelling.{spelling, blobs, message_spelling, IsShort, IsWithinLimits}
-use Rattle.octet_fields.proofs.Widths.{be64_width}
+use Rattle.edges.proofs.Widths.{be64_width}
 
 pub length-be32 : (n : ℕ) → length (be32 n) ≡ 4
 unfolding be32

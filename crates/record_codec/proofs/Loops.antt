@@ -1,9 +1,9 @@
 -- Steps of the loops over the buffers of a message.
 use Rattle.std.proofs.Common.{◌≡◌, ℕ, suc, ◌+◌, ◌-◌, ◌<◌, ◌≤◌, List, [], ◌∷◌, ◌++◌, Ok, Err, refl, sym, ap, ◌∙◌, append_assoc, arith}
 use Rattle.std.proofs.lemmas.List.{append-nil}
-use Rattle.octet_fields.specs.declared.stop.ReadError.{ReadError}
-use Rattle.octet_fields.specs.declared.stop.ReadError.TheVariants as errors
-use Rattle.octet_fields.specs.Reading.{Read, ◌>>=◌, Fails, blob_at}
+use Rattle.edges.specs.declared.stop.ReadError.{ReadError}
+use Rattle.edges.specs.declared.stop.ReadError.TheVariants as errors
+use Rattle.edges.specs.Reading.{Read, ◌>>=◌, Fails, blob_at}
 use Rattle.record_codec.specs.Reading.{blobs_at}
 
 -- what is read behind these buffers

@@ -14,10 +14,10 @@ use Rattle.cluster_types.specs.declared.message.Message.{Message}
 use Rattle.cluster_types.specs.declared.entry.Input.TheVariants.{Open, Up, Down, In, Beat, Time}
 use Rattle.cluster_types.specs.declared.entry.Entry.{Entry}
 use Rattle.cluster_types.specs.declared.entry.Entry.TheVariants.{Input, Hand, Settle, Lose}
-use Rattle.octet_fields.specs.Spelling.{be32, be64, str8, blob, channel_code}
-use Rattle.octet_fields.specs.Reading.{Read, octet_at, number_at, str8_at, blob_at, channel_at}
-use Rattle.octet_fields.proofs.Extends.{then_read, either, give, refuse}
-use Rattle.octet_fields.proofs.Takes.{Takes, Joined, Made, Num32, Num64, Octet, Str8, Blob, takes_in_turn, takes_give, takes_refuse, takes_either, takes_weaker, octet_takes, number32_takes, number64_takes, str8_takes, blob_takes, joined_text, last_text}
+use Rattle.edges.specs.Spelling.{be32, be64, str8, blob, channel_code}
+use Rattle.edges.specs.Reading.{Read, octet_at, number_at, str8_at, blob_at, channel_at}
+use Rattle.edges.proofs.Extends.{then_read, either, give, refuse}
+use Rattle.edges.proofs.Takes.{Takes, Joined, Made, Num32, Num64, Octet, Str8, Blob, takes_in_turn, takes_give, takes_refuse, takes_either, takes_weaker, octet_takes, number32_takes, number64_takes, str8_takes, blob_takes, joined_text, last_text}
 use Rattle.record_codec.specs.Spelling.{scheme_code, verdict_code, cause_code, blobs, message_spelling, spelling, IsMoment, IsName, IsShort, HasRecord}
 use Rattle.record_codec.specs.Reading.{moment_at, name_at, id_at, scheme_at, verdict_at, cause_at, blobs_at, buffers_at, message_at, open_at, up_at, down_at, in_at, beat_at, time_at, hand_at, settle_at, lose_at, kind_at, entry_at}
 use Rattle.cluster_types.proofs.Numbers.{above_zero}

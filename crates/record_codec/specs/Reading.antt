@@ -13,8 +13,8 @@ use Rattle.cluster_types.specs.declared.entry.Input.TheVariants.{Open, Up, Down,
 use Rattle.cluster_types.specs.declared.entry.Entry.{Entry}
 use Rattle.cluster_types.specs.declared.entry.Entry.TheVariants.{Input, Hand, Settle, Lose}
 use Rattle.cluster_types.specs.Limits.{last_moment}
-use Rattle.octet_fields.specs.declared.stop.Stop.TheVariants.{Bad}
-use Rattle.octet_fields.specs.Reading.{Read, ◌>>=◌, octet_at, number_at, str8_at, blob_at, channel_at}
+use Rattle.edges.specs.declared.stop.Stop.TheVariants.{Bad}
+use Rattle.edges.specs.Reading.{Read, ◌>>=◌, octet_at, number_at, str8_at, blob_at, channel_at}
 
 -- a moment up to the last one
 unfoldable pub moment_at : List ℕ → Read ℕ

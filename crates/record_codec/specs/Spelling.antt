@@ -13,7 +13,7 @@ use Rattle.cluster_types.specs.declared.entry.Input.TheVariants.{Open, Up, Down,
 use Rattle.cluster_types.specs.declared.entry.Entry.{Entry}
 use Rattle.cluster_types.specs.declared.entry.Entry.TheVariants.{Input, Hand, Settle, Lose}
 use Rattle.cluster_types.specs.Limits.{last_moment, most_buffers}
-use Rattle.octet_fields.specs.Spelling.{be32, be64, str8, blob, channel_code}
+use Rattle.edges.specs.Spelling.{be32, be64, str8, blob, channel_code}
 
 abbrev pub scheme_code : Scheme → ℕ
 scheme_code schemes.Lru = 0

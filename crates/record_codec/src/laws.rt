@@ -1,7 +1,7 @@
 //! Laws of records.
 
 ghost use Rattle.std.specs.Prelude.{◌≡◌, ◌<◌, ◌-◌, List, ℕ, ◌++◌, length, Ok, Err, slice_index};
-ghost use Rattle.octet_fields.specs.declared.stop.Stop.{Stop};
+ghost use Rattle.edges.specs.declared.stop.Stop.{Stop};
 ghost use Rattle.cluster_types.specs.declared.entry.Entry.{Entry};
 ghost use Rattle.record_codec.specs.Spelling.{spelling, HasRecord};
 ghost use Rattle.record_codec.specs.Reading.{entry_at};

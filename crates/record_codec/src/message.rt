@@ -1,17 +1,17 @@
 //! Reading and writing a message inside a record.
 
 ghost use Rattle.std.specs.Prelude.{◌≡◌, ◌<◌, ◌^◌, ◌++◌, All, length, OnOk, OnErr};
-ghost use Rattle.octet_fields.specs.Keeping.{Keeps};
-ghost use Rattle.octet_fields.specs.Reading.{Gives, blob_at};
+ghost use Rattle.edges.specs.Keeping.{Keeps};
+ghost use Rattle.edges.specs.Reading.{Gives, blob_at};
 ghost use Rattle.record_codec.specs.Reading.{blobs_at, buffers_at, message_at};
 ghost use Rattle.record_codec.specs.Spelling.{blobs, message_spelling, IsShort};
 
 use cluster_types::message::Buffers;
 use cluster_types::octets::Octets;
 use cluster_types::shared_message::SharedMessage;
-use octet_fields::reading::{blob, octet, str8};
-use octet_fields::stop::{ReadError, Stop};
-use octet_fields::writing::{put_blob, put_str8};
+use edges::reading::{blob, octet, str8};
+use edges::stop::{ReadError, Stop};
+use edges::writing::{put_blob, put_str8};
 use std::alloc::{AllocError, Global};
 
 /// A copy of the octets behind their length.
@@ -76,7 +76,7 @@ fn put_buffers(into: &mut Vec<u8>, buffers: &[Octets]) -> Result<(), AllocError>
 }
 
 /// Appends a message.
-#[tactic(auto, using(octet_fields::proofs::Joins::joins), unfolding(crate::specs::Spelling::message_spelling))]
+#[tactic(auto, using(edges::proofs::Joins::joins), unfolding(crate::specs::Spelling::message_spelling))]
 pub fn put_message(into: &mut Vec<u8>, message: &SharedMessage) -> Result<(), AllocError>
     requires { IsShort message.now }
     ensures ok { OnOk result (into.new.items ≡ into.old.items ++ message_spelling message.now) }

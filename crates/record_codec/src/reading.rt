@@ -1,7 +1,7 @@
 //! Reading entries.
 
 ghost use Rattle.std.specs.Prelude.{◌≡◌, ◌⊎◌, List, ℕ, length, drop, IfOk, IfErr, Ok, Err};
-ghost use Rattle.octet_fields.specs.Reading.{Gives};
+ghost use Rattle.edges.specs.Reading.{Gives};
 ghost use Rattle.cluster_types.specs.declared.entry.Entry.{Entry as EntryType};
 ghost use Rattle.record_codec.specs.Reading.{open_at, up_at, down_at, in_at, beat_at, time_at, hand_at, settle_at, lose_at, kind_at, entry_at};
 ghost use Rattle.record_codec.specs.Spelling.{RecordStands};
@@ -11,8 +11,8 @@ use crate::message::message;
 use crate::values::{cause, id, moment, name, scheme, verdict};
 use cluster_types::entry::{Entry, Input};
 use cluster_types::octets::Octets;
-use octet_fields::reading::{channel, number32, number64, octet};
-use octet_fields::stop::{ReadError, Stop};
+use edges::reading::{channel, number32, number64, octet};
+use edges::stop::{ReadError, Stop};
 use std::alloc::Global;
 
 /// The opening of a controller.

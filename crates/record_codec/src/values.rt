@@ -1,14 +1,14 @@
 //! Reading the values of a record's fields, each within its list or limit.
 
-ghost use Rattle.octet_fields.specs.Reading.{IsRead, Gives};
+ghost use Rattle.edges.specs.Reading.{IsRead, Gives};
 ghost use Rattle.record_codec.specs.Reading.{moment_at, name_at, id_at, scheme_at, verdict_at, cause_at};
 
 use cluster_types::config::Scheme;
 use cluster_types::limits::LAST_MOMENT;
 use cluster_types::text::Text;
 use cluster_types::verdict::{Cause, Verdict};
-use octet_fields::reading::{number64, octet, str8};
-use octet_fields::stop::{ReadError, Stop};
+use edges::reading::{number64, octet, str8};
+use edges::stop::{ReadError, Stop};
 use std::alloc::Global;
 
 /// A moment.

@@ -2,7 +2,7 @@
 
 ghost use Rattle.std.specs.Prelude.{◌≡◌, ◌++◌, length, true, OnOk, OnErr};
 ghost use Rattle.std.specs.Str.{is_utf8};
-ghost use Rattle.octet_fields.specs.Keeping.{Keeps};
+ghost use Rattle.edges.specs.Keeping.{Keeps};
 ghost use Rattle.record_codec.specs.Spelling.{spelling, scheme_code, verdict_code, cause_code, IsMoment, IsName, IsShort, IsWithinLimits, HasRecord};
 
 use crate::message::put_message;
@@ -12,7 +12,7 @@ use cluster_types::octets::Octets;
 use cluster_types::shared_message::SharedMessage;
 use cluster_types::text::Text;
 use cluster_types::verdict::{Cause, Verdict};
-use octet_fields::writing::{put_channel, put_number32, put_number64, put_str8};
+use edges::writing::{put_channel, put_number32, put_number64, put_str8};
 use std::alloc::AllocError;
 
 /// The code of a scheme.
@@ -59,7 +59,7 @@ fn text_of(id: &Text) -> &[u8]
 }
 
 /// Appends the record of the opening of a controller.
-#[tactic(auto, using(octet_fields::proofs::Joins::joins))]
+#[tactic(auto, using(edges::proofs::Joins::joins))]
 fn write_open(
     into: &mut Vec<u8>,
     moment: u64,
@@ -80,7 +80,7 @@ fn write_open(
 }
 
 /// Appends the record of a connection that came up.
-#[tactic(auto, using(octet_fields::proofs::Joins::joins))]
+#[tactic(auto, using(edges::proofs::Joins::joins))]
 fn write_up(
     into: &mut Vec<u8>,
     conn: u32,
@@ -104,7 +104,7 @@ fn write_up(
 }
 
 /// Appends the record of a connection that went down.
-#[tactic(auto, using(octet_fields::proofs::Joins::joins))]
+#[tactic(auto, using(edges::proofs::Joins::joins))]
 fn write_down(into: &mut Vec<u8>, conn: u32, moment: u64, word: u64) -> Result<(), AllocError>
     requires { IsMoment moment }
     ensures record { OnOk result (into.new.items ≡ into.old.items ++ spelling (Entry.Input (Input.Down conn moment word))) }
@@ -118,7 +118,7 @@ fn write_down(into: &mut Vec<u8>, conn: u32, moment: u64, word: u64) -> Result<(
 }
 
 /// Appends the record of a message that came in.
-#[tactic(auto, using(octet_fields::proofs::Joins::joins))]
+#[tactic(auto, using(edges::proofs::Joins::joins))]
 fn write_in(
     into: &mut Vec<u8>,
     conn: u32,
@@ -140,7 +140,7 @@ fn write_in(
 }
 
 /// Appends the record of a beat.
-#[tactic(auto, using(octet_fields::proofs::Joins::joins))]
+#[tactic(auto, using(edges::proofs::Joins::joins))]
 fn write_beat(into: &mut Vec<u8>, moment: u64, word: u64) -> Result<(), AllocError>
     requires { IsMoment moment }
     ensures record { OnOk result (into.new.items ≡ into.old.items ++ spelling (Entry.Input (Input.Beat moment word))) }
@@ -153,7 +153,7 @@ fn write_beat(into: &mut Vec<u8>, moment: u64, word: u64) -> Result<(), AllocErr
 }
 
 /// Appends the record of a moment that came.
-#[tactic(auto, using(octet_fields::proofs::Joins::joins))]
+#[tactic(auto, using(edges::proofs::Joins::joins))]
 fn write_time(into: &mut Vec<u8>, moment: u64, word: u64) -> Result<(), AllocError>
     requires { IsMoment moment }
     ensures record { OnOk result (into.new.items ≡ into.old.items ++ spelling (Entry.Input (Input.Time moment word))) }
@@ -166,7 +166,7 @@ fn write_time(into: &mut Vec<u8>, moment: u64, word: u64) -> Result<(), AllocErr
 }
 
 /// Appends the record of a task that was handed to an engine.
-#[tactic(auto, using(octet_fields::proofs::Joins::joins))]
+#[tactic(auto, using(edges::proofs::Joins::joins))]
 fn write_hand(into: &mut Vec<u8>, id: &Text, engine: u32) -> Result<(), AllocError>
     requires { IsName id.now }
     ensures record { OnOk result (into.new.items ≡ into.old.items ++ spelling (Entry.Hand id.now engine)) }
@@ -180,7 +180,7 @@ fn write_hand(into: &mut Vec<u8>, id: &Text, engine: u32) -> Result<(), AllocErr
 }
 
 /// Appends the record of a task that was settled.
-#[tactic(auto, using(octet_fields::proofs::Joins::joins))]
+#[tactic(auto, using(edges::proofs::Joins::joins))]
 fn write_settle(
     into: &mut Vec<u8>,
     id: &Text,
@@ -201,7 +201,7 @@ fn write_settle(
 }
 
 /// Appends the record of an engine that was lost.
-#[tactic(auto, using(octet_fields::proofs::Joins::joins))]
+#[tactic(auto, using(edges::proofs::Joins::joins))]
 fn write_lose(into: &mut Vec<u8>, engine: u32) -> Result<(), AllocError>
     ensures record { OnOk result (into.new.items ≡ into.old.items ++ spelling (Entry.Lose engine)) }
     ensures kept { OnErr result (Keeps into.old.items into.new.items) }

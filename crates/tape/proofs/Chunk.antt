@@ -2,8 +2,8 @@
 use Rattle.std.proofs.Common.{◌≡◌, ℕ, ◌+◌, ◌-◌, ◌<◌, ◌≤◌, min, Bool, true, false, List, [], ◌∷◌, ◌++◌, length, take, drop, Ok, Err, refl, sym, ap, subst, ◌∙◌, append_assoc, arith}
 use Rattle.std.proofs.lemmas.List.{append-nil, take-append-drop, drop-drop, length-take}
 use Rattle.tape.specs.declared.record.TapeRecord.{TapeRecord}
-use Rattle.octet_fields.specs.declared.stop.Stop.TheVariants.{Short, Bad}
-use Rattle.octet_fields.specs.Reading.{Read}
+use Rattle.edges.specs.declared.stop.Stop.TheVariants.{Short, Bad}
+use Rattle.edges.specs.Reading.{Read}
 use Rattle.tape.specs.Reading.{record_at}
 use Rattle.tape.proofs.Extends.{record_extends}
 use Rattle.tape.specs.Tape.{Tape, capped_place, taken, step, tape_after, records}

@@ -3,8 +3,8 @@ use Rattle.std.proofs.Common.{ℕ, zero, suc, List, [], ◌∷◌}
 use Rattle.std.specs.Prelude.{nat_lt, ◌==◌, ◌||◌}
 use Rattle.std.specs.Int.{w32, w64}
 use Rattle.cluster_types.specs.declared.config.Channel.{Channel}
-use Rattle.octet_fields.specs.Reading.{Read, octet_at, number_at, str8_at, blob_at, channel_at}
-use Rattle.octet_fields.proofs.Extends.{Extends, then_read, in_turn, give, gives, refuse, refuses, either, eithers, octets, numbers, str8s, blobs, channels}
+use Rattle.edges.specs.Reading.{Read, octet_at, number_at, str8_at, blob_at, channel_at}
+use Rattle.edges.proofs.Extends.{Extends, then_read, in_turn, give, gives, refuse, refuses, either, eithers, octets, numbers, str8s, blobs, channels}
 use Rattle.tape.specs.declared.record.TapeRecord.{TapeRecord}
 use Rattle.tape.specs.declared.record.TapeKind.{TapeKind}
 use Rattle.tape.specs.declared.record.TapeKind.TheVariants.{Up, Piece, Down, Beat, Time, Message}

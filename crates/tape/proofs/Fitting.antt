@@ -7,10 +7,10 @@ use Rattle.std.proofs.lemmas.Bool.Decides.{nat_tests}
 use Rattle.std.proofs.lemmas.List.Elements.{All-nil, All-cons, All-append}
 use Rattle.cluster_types.specs.Limits.{last_moment, most_frames}
 use Rattle.cluster_types.specs.declared.config.Channel.TheVariants.{Hub, Task, Mux, Engine}
-use Rattle.octet_fields.specs.declared.stop.Stop.TheVariants.{Short, Bad}
-use Rattle.octet_fields.specs.Reading.{Read, octet_at, number_at, str8_at, blob_at, channel_at}
-use Rattle.octet_fields.proofs.Extends.{then_read, either, give, refuse}
-use Rattle.octet_fields.proofs.Takes.{IsBytes, Takes, bind_ok, got_is, octet_takes, number32_takes, number64_takes, str8_takes, blob_takes}
+use Rattle.edges.specs.declared.stop.Stop.TheVariants.{Short, Bad}
+use Rattle.edges.specs.Reading.{Read, octet_at, number_at, str8_at, blob_at, channel_at}
+use Rattle.edges.proofs.Extends.{then_read, either, give, refuse}
+use Rattle.edges.proofs.Takes.{IsBytes, Takes, bind_ok, got_is, octet_takes, number32_takes, number64_takes, str8_takes, blob_takes}
 use Rattle.tape.specs.declared.record.TapeRecord.{TapeRecord}
 use Rattle.tape.specs.declared.record.TapeKind.TheVariants.{Up, Piece, Down, Beat, Time, Message}
 use Rattle.tape.specs.Reading.{up_at, piece_at, down_at, frames_at, message_at, kind_at, record_at}

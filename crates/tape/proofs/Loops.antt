@@ -1,8 +1,8 @@
 -- Frames one after another.
 use Rattle.std.proofs.Common.{◌≡◌, ℕ, suc, ◌+◌, ◌-◌, ◌<◌, List, [], ◌∷◌, ◌++◌, Ok, Err, refl, sym, ap, ◌∙◌, append_assoc, arith}
 use Rattle.std.proofs.lemmas.List.{append-nil}
-use Rattle.octet_fields.specs.declared.stop.Stop.{Stop}
-use Rattle.octet_fields.specs.Reading.{Read, ◌>>=◌, blob_at}
+use Rattle.edges.specs.declared.stop.Stop.{Stop}
+use Rattle.edges.specs.Reading.{Read, ◌>>=◌, blob_at}
 use Rattle.tape.specs.Reading.{frames_at}
 
 -- what a reading gives, behind frames that were read before

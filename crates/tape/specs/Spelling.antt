@@ -1,7 +1,7 @@
 -- The one spelling of a record of a tape.
 use Rattle.std.specs.Prelude.{ℕ, ◌^◌, ◌<◌, ◌≤◌, List, [], ◌∷◌, ◌++◌, length, Bool, true, false, All}
 use Rattle.std.specs.List.{flat_map}
-use Rattle.octet_fields.specs.Spelling.{be32, be64, str8, blob, channel_code}
+use Rattle.edges.specs.Spelling.{be32, be64, str8, blob, channel_code}
 use Rattle.tape.specs.declared.record.TapeRecord.{TapeRecord}
 use Rattle.tape.specs.declared.record.TapeKind.{TapeKind}
 use Rattle.tape.specs.declared.record.TapeKind.TheVariants.{Up, Piece, Down, Beat, Time, Message}

@@ -1,8 +1,8 @@
 -- A tape, octet by octet: an octet ends a record, shows that none stands there, or is kept.
 use Rattle.std.specs.Prelude.{◌≡◌, ℕ, ◌+◌, ◌-◌, min, List, [], ◌∷◌, ◌++◌, length, drop, Option, Some, None, Ok, Err, IsErr, Bool, true, false, ◌==◌, if◌then◌else◌}
 use Rattle.cluster_types.specs.Limits.{tape_limit}
-use Rattle.octet_fields.specs.declared.stop.Stop.TheVariants.{Short, Bad}
-use Rattle.octet_fields.specs.Reading.{Read}
+use Rattle.edges.specs.declared.stop.Stop.TheVariants.{Short, Bad}
+use Rattle.edges.specs.Reading.{Read}
 use Rattle.tape.specs.declared.record.TapeRecord.{TapeRecord}
 use Rattle.tape.specs.Reading.{record_at}
 

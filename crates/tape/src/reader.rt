@@ -2,7 +2,7 @@
 
 ghost use Rattle.std.specs.Prelude.{◌≡◌, ◌<◌, ◌≤◌, ◌++◌, ℕ, List, take, length, All, IfSome, IfOk, IfErr, OnOk, false, Ok};
 ghost use Rattle.cluster_types.specs.Limits.{tape_limit};
-ghost use Rattle.octet_fields.specs.Reading.{Fails};
+ghost use Rattle.edges.specs.Reading.{Fails};
 ghost use Rattle.tape.specs.Reading.{record_at};
 ghost use Rattle.tape.specs.Spelling.{Fits};
 ghost use Rattle.tape.specs.Tape.{Tape, blank, tape_after, records, fault, capped_place, listed};
@@ -10,7 +10,7 @@ ghost use Rattle.tape.specs.Tape.{Tape, blank, tape_after, records, fault, cappe
 use crate::reading::read_record;
 use crate::record::{TapeRecord, TapeRecords};
 use cluster_types::limits::TAPE_OCTETS;
-use octet_fields::stop::{ReadError, Stop};
+use edges::stop::{ReadError, Stop};
 use std::alloc::{AllocError, Global};
 use std::marker::Model;
 
@@ -26,7 +26,7 @@ pub struct TapeReader {
 impl Model for TapeReader {
     ghost use Rattle.std.specs.Prelude.{◌≡◌, ◌≤◌, false, Err};
     ghost use Rattle.cluster_types.specs.Limits.{tape_limit};
-    ghost use Rattle.octet_fields.specs.declared.stop.Stop.TheVariants.{Short};
+    ghost use Rattle.edges.specs.declared.stop.Stop.TheVariants.{Short};
     ghost use Rattle.tape.specs.Reading.{record_at};
     ghost use Rattle.tape.specs.Tape.{Tape};
 

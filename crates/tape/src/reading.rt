@@ -1,7 +1,7 @@
 //! Reading a record at the front of octets.
 
 ghost use Rattle.std.specs.Prelude.{◌≡◌, IfOk, Err};
-ghost use Rattle.octet_fields.specs.Reading.{Gives, IsRead, Passes};
+ghost use Rattle.edges.specs.Reading.{Gives, IsRead, Passes};
 ghost use Rattle.tape.specs.Reading.{up_at, piece_at, down_at, frames_at, message_at, kind_at, record_at};
 ghost use Rattle.tape.specs.Tape.{IsRecord, NoRecord};
 
@@ -9,8 +9,8 @@ use crate::record::{TapeKind, TapeRecord};
 use cluster_types::limits::{LAST_MOMENT, MOST_FRAMES};
 use cluster_types::octets::Octets;
 use edges::frames::Frames;
-use octet_fields::reading::{blob, channel, number32, number64, octet, str8};
-use octet_fields::stop::{ReadError, Stop};
+use edges::reading::{blob, channel, number32, number64, octet, str8};
+use edges::stop::{ReadError, Stop};
 use std::alloc::Global;
 
 /// Why no record is read.

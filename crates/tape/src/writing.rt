@@ -3,14 +3,14 @@
 ghost use Rattle.std.specs.Prelude.{◌≡◌, ◌<◌, ◌≤◌, ◌^◌, ◌++◌, length, All, OnOk, OnErr};
 ghost use Rattle.std.specs.List.{flat_map};
 ghost use Rattle.cluster_types.specs.Limits.{most_frames};
-ghost use Rattle.octet_fields.specs.Keeping.{Keeps};
-ghost use Rattle.octet_fields.specs.Spelling.{blob};
+ghost use Rattle.edges.specs.Keeping.{Keeps};
+ghost use Rattle.edges.specs.Spelling.{blob};
 ghost use Rattle.tape.specs.Spelling.{spelled, kind_text, kind_code, form_code, Fits, KindFits, FitsBlob};
 
 use crate::record::{TapeKind, TapeRecord};
 use cluster_types::config::Channel;
 use edges::frames::Frames;
-use octet_fields::writing::{put_blob, put_channel, put_number32, put_number64, put_str8};
+use edges::writing::{put_blob, put_channel, put_number32, put_number64, put_str8};
 use std::alloc::AllocError;
 
 fn code_of_form(bare: bool) -> u8
@@ -32,7 +32,7 @@ fn code_of_kind(kind: &TapeKind) -> u8
     }
 }
 
-#[tactic(auto, using(octet_fields::proofs::Joins::joins))]
+#[tactic(auto, using(edges::proofs::Joins::joins))]
 fn put_up(
     into: &mut Vec<u8>,
     conn: u32,
@@ -51,7 +51,7 @@ fn put_up(
     Ok(())
 }
 
-#[tactic(auto, using(octet_fields::proofs::Joins::joins))]
+#[tactic(auto, using(edges::proofs::Joins::joins))]
 fn put_piece(into: &mut Vec<u8>, conn: u32, octets: &[u8]) -> Result<(), AllocError>
     requires { length octets.now < 2 ^ 32 }
     ensures ok { OnOk result (into.new.items ≡ into.old.items ++ kind_text (TapeKind.Piece conn octets.now)) }
@@ -74,7 +74,7 @@ fn put_frames(into: &mut Vec<u8>, frames: &Frames) -> Result<(), AllocError>
     Ok(())
 }
 
-#[tactic(auto, using(octet_fields::proofs::Joins::joins))]
+#[tactic(auto, using(edges::proofs::Joins::joins))]
 fn put_message(into: &mut Vec<u8>, conn: u32, frames: &Frames) -> Result<(), AllocError>
     requires few { length frames.now ≤ most_frames }
     requires fit { All FitsBlob frames.now }
@@ -110,7 +110,7 @@ fn put_kind(into: &mut Vec<u8>, kind: &TapeKind) -> Result<(), AllocError>
 }
 
 /// Appends the one spelling of a record, or a part of it where memory is wanting.
-#[tactic(auto, using(octet_fields::proofs::Joins::joins))]
+#[tactic(auto, using(edges::proofs::Joins::joins))]
 fn put_record(into: &mut Vec<u8>, item: &TapeRecord) -> Result<(), AllocError>
     requires { Fits item.now }
     ensures ok { OnOk result (into.new.items ≡ into.old.items ++ spelled item.now) }

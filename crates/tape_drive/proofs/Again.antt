@@ -6,8 +6,8 @@ use Rattle.std.proofs.lemmas.Bool.{le-ltb}
 use Rattle.std.proofs.lemmas.Bool.Decides.{nat_tests}
 use Rattle.cluster_types.specs.declared.config.Channel.{Channel}
 use Rattle.cluster_types.specs.Limits.{last_moment, most_frames}
-use Rattle.octet_fields.specs.Spelling.{be32, be64, str8, blob, channel_code}
-use Rattle.octet_fields.proofs.Again.{number32, number64, str8_again, blob_again, channel_again}
+use Rattle.edges.specs.Spelling.{be32, be64, str8, blob, channel_code}
+use Rattle.edges.proofs.Again.{number32, number64, str8_again, blob_again, channel_again}
 use Rattle.tape.specs.declared.record.TapeRecord.{TapeRecord}
 use Rattle.tape.specs.declared.record.TapeKind.{TapeKind}
 use Rattle.tape.specs.declared.record.TapeKind.TheVariants.{Up, Piece, Down, Beat, Time, Message}

@@ -3,14 +3,14 @@ use Rattle.std.proofs.Common.{◌≡◌, ℕ, ◌+◌, List, [], ◌∷◌, ◌+
 use Rattle.std.specs.List.{flat_map}
 use Rattle.std.proofs.lemmas.List.{length-append}
 use Rattle.std.proofs.lemmas.List.Sums.{sum_by-cons}
-use Rattle.octet_fields.specs.Spelling.{be32, be64, blob, channel_code, str8}
+use Rattle.edges.specs.Spelling.{be32, be64, blob, channel_code, str8}
 use Rattle.tape.specs.declared.record.TapeRecord.{TapeRecord}
 use Rattle.tape.specs.declared.record.TapeKind.{TapeKind}
 use Rattle.tape.specs.declared.record.TapeKind.TheVariants.{Up, Piece, Down, Beat, Time, Message}
 use Rattle.tape.specs.Spelling.{spelled, kind_text, kind_code, form_code}
 use Rattle.tape_drive.specs.Sizes.{frame_size, frames_size, kind_size}
 use Rattle.record_codec.proofs.Lengths.{length-be32, length-blob}
-use Rattle.octet_fields.proofs.Widths.{be64_width}
+use Rattle.edges.proofs.Widths.{be64_width}
 
 behind : (n m : ℕ) (rest : List ℕ) → length rest ≡ m → length (be32 n ++ rest) ≡ 4 + m
 behind n m rest is = length-append (be32 n) rest ∙ (ap (λ k. k + length rest) (length-be32 n) ∙ ap (λ k. 4 + k) is)

@@ -9,7 +9,7 @@ ghost use Rattle.cluster_store.specs.Openings.{IsOpened, HasOpen, Exits, WhyNot}
 ghost use Rattle.cluster_store.specs.Stores.{written};
 ghost use Rattle.disk_model.specs.Crashes.{LeavesOnly};
 ghost use Rattle.record_codec.specs.Spelling.{IsWithinLimits};
-ghost use Rattle.octet_fields.specs.Keeping.{Keeps};
+ghost use Rattle.edges.specs.Keeping.{Keeps};
 ghost use Rattle.tape.specs.Spelling.{Fits, spelled, all_spelled};
 ghost use Rattle.task_journal.specs.Journal.{StandsFor};
 ghost use Rattle.task_journal.specs.Settled.{Unharmed, Spared, OnRefusal};

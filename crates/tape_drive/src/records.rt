@@ -2,7 +2,7 @@
 
 ghost use Rattle.std.specs.Prelude.{◌≡◌, ◌≤◌, ◌<◌, ◌^◌, ◌++◌, ◌∷◌, [], map, IfOk, OnOk, OnErr};
 ghost use Rattle.cluster_types.specs.Limits.{last_moment};
-ghost use Rattle.octet_fields.specs.Keeping.{Keeps};
+ghost use Rattle.edges.specs.Keeping.{Keeps};
 ghost use Rattle.tape.specs.Spelling.{Fits, all_spelled};
 ghost use Rattle.tape_drive.specs.Links.{links_at, links_left, link_on, given_on};
 ghost use Rattle.tape_drive.specs.Steps.{AreTaken};

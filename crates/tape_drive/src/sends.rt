@@ -5,7 +5,7 @@ ghost use Rattle.std.specs.List.{list_all};
 ghost use Rattle.cluster_types.specs.Limits.{field_limit};
 ghost use Rattle.cluster_defs.specs.Words.{begins_with};
 ghost use Rattle.zmtp_frames.specs.Written.{own_ready};
-ghost use Rattle.octet_fields.specs.Keeping.{Keeps};
+ghost use Rattle.edges.specs.Keeping.{Keeps};
 ghost use Rattle.tape.specs.Spelling.{Fits, KindFits, FitsBlob, spelled, all_spelled};
 ghost use Rattle.tape_drive.specs.Links.{link_on, is_zmtp};
 ghost use Rattle.tape_drive.specs.Sends.{where_any, sendings, frames_sent, out_sent, by_connection, sent_at};

@@ -7,7 +7,7 @@ use Rattle.std.proofs.lemmas.List.Elements.{All-append, All-nil}
 use Rattle.cluster_types.specs.declared.entry.Input.TheVariants as inputs
 use Rattle.cluster_types.specs.declared.entry.Entry.{Entry}
 use Rattle.cluster_types.specs.declared.entry.Entry.TheVariants.{Input, Hand, Settle, Lose}
-use Rattle.octet_fields.specs.Spelling.{be32}
+use Rattle.edges.specs.Spelling.{be32}
 use Rattle.record_codec.specs.Spelling.{spelling, HasRecord}
 use Rattle.record_codec.specs.Records.{spellings}
 use Rattle.record_codec.specs.Reading.{entry_at}

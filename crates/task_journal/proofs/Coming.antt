@@ -6,7 +6,7 @@ use Rattle.cluster_types.specs.declared.entry.Entry.{Entry}
 use Rattle.task_journal.specs.declared.fault.OpenFault.{OpenFault}
 use Rattle.task_journal.specs.declared.fault.OpenFault.TheVariants.{NotAJournal, Damaged, DiskFault, OutOfMemory}
 use Rattle.task_journal.specs.declared.found.Found.{Found}
-use Rattle.octet_fields.specs.Difference.{difference}
+use Rattle.edges.specs.Difference.{difference}
 use Rattle.task_journal.specs.Journal.{◌>>=◌, with_front, one, record_at, records_at, found_from, head, journal, Fails}
 use Rattle.task_journal.specs.Window.{Ready, span}
 use Rattle.task_journal.specs.Cursor.{Standing, IsOn, shut, batch_then, behind_gate, to_come}

@@ -6,7 +6,7 @@ use Rattle.std.proofs.lemmas.Bool.{le-ltb, eqb-true, cases_lt}
 use Rattle.std.proofs.lemmas.List.{take_at, drop_at, drop_more, drop-drop, take-append-le, append-nil}
 use Rattle.std.proofs.lemmas.Nat.{from_be_bytes-to_be_bytes_4}
 use Rattle.cluster_types.specs.declared.entry.Entry.{Entry}
-use Rattle.octet_fields.specs.Spelling.{be32}
+use Rattle.edges.specs.Spelling.{be32}
 use Rattle.record_codec.specs.Records.{spellings}
 use Rattle.record_codec.proofs.Lengths.{length-be32}
 use Rattle.disk_model.specs.Crashes.{Torn, Written, Follows, Only}
@@ -14,7 +14,7 @@ use Rattle.task_journal.specs.declared.fault.OpenFault.{OpenFault}
 use Rattle.task_journal.specs.declared.found.Found.{Found}
 use Rattle.task_journal.specs.declared.gate.Gate.TheVariants.{Open}
 use Rattle.task_journal.specs.Batch.{batch_octets, IsBatch}
-use Rattle.octet_fields.specs.Difference.{difference}
+use Rattle.edges.specs.Difference.{difference}
 use Rattle.task_journal.specs.Journal.{holding, records_at, gate_in, found_from, head, headed, journal, StandsFor, last_of, place_in}
 use Rattle.task_journal.specs.Settled.{IsSettled, Outcome}
 use Rattle.task_journal.proofs.Loops.{difference_take, last_push}

@@ -4,7 +4,7 @@ use Rattle.std.specs.Prelude.{◌==◌, if◌then◌else◌}
 use Rattle.task_journal.specs.declared.fault.OpenFault.{OpenFault}
 use Rattle.task_journal.specs.declared.fault.OpenFault.TheVariants.{NotAJournal, Damaged, DiskFault, OutOfMemory}
 use Rattle.task_journal.specs.declared.found.Found.{Found}
-use Rattle.octet_fields.specs.Difference.{difference}
+use Rattle.edges.specs.Difference.{difference}
 use Rattle.task_journal.specs.Journal.{nothing, behind, with_front, Fails, last_of}
 
 pub behind_behind : (a b c : Found) → behind a (behind b c) ≡ behind (behind a b) c

@@ -11,7 +11,7 @@ use Rattle.task_journal.specs.declared.fault.OpenFault.TheVariants.{NotAJournal,
 use Rattle.task_journal.specs.declared.found.Found.{Found}
 use Rattle.task_journal.specs.declared.gate.Gate.{Gate}
 use Rattle.task_journal.specs.declared.gate.Gate.TheVariants.{Missing, Closed, Short, Open}
-use Rattle.octet_fields.specs.Difference.{difference}
+use Rattle.edges.specs.Difference.{difference}
 use Rattle.task_journal.specs.Journal.{◌>>=◌, nothing, holding, behind, with_front, one, record_of, record_at, records_at, gate_in, from_gate, found_from, head, journal, last_of, Fails}
 use Rattle.task_journal.specs.Window.{HasHead}
 use Rattle.task_journal.proofs.Gates.{gate_front}

@@ -3,7 +3,7 @@ use Rattle.std.proofs.Common.{◌≡◌, ℕ, ◌+◌, ◌-◌, ◌<◌, ◌≤�
 use Rattle.std.proofs.lemmas.List.{length-take, drop-drop, drop_all, drop-append-le}
 use Rattle.std.proofs.Math.Seq.{take-add}
 use Rattle.cluster_types.specs.declared.entry.Entry.{Entry}
-use Rattle.octet_fields.specs.declared.stop.Stop.TheVariants.{Short, Bad}
+use Rattle.edges.specs.declared.stop.Stop.TheVariants.{Short, Bad}
 use Rattle.record_codec.specs.Reading.{entry_at}
 use Rattle.record_codec.proofs.Extends.{entries as entry_extends}
 use Rattle.task_journal.specs.declared.fault.OpenFault.{OpenFault}

@@ -1,8 +1,8 @@
 -- A batch as it is written behind a closed gate.
 use Rattle.std.specs.Prelude.{◌≡◌, ℕ, zero, suc, ◌^◌, ◌<◌, List, [], ◌∷◌, ◌++◌, length, All, Ok, Err}
 use Rattle.cluster_types.specs.declared.entry.Entry.{Entry}
-use Rattle.octet_fields.specs.Reading.{Read}
-use Rattle.octet_fields.specs.Spelling.{be32}
+use Rattle.edges.specs.Reading.{Read}
+use Rattle.edges.specs.Spelling.{be32}
 use Rattle.record_codec.specs.Spelling.{HasRecord}
 use Rattle.record_codec.specs.Records.{spellings}
 use Rattle.record_codec.specs.Reading.{entry_at}

@@ -1,14 +1,14 @@
 //! Batches of entries.
 
 ghost use Rattle.std.specs.Prelude.{◌≡◌, ◌+◌, ◌-◌, ◌^◌, ◌<◌, ◌≤◌, ◌++◌, ◌∷◌, ◌↔◌, [], min, take, drop, All, length, vec_len, vec_capacity, true, IfOk, OnOk, OnErr, Err};
-ghost use Rattle.octet_fields.specs.Spelling.{be32};
+ghost use Rattle.edges.specs.Spelling.{be32};
 ghost use Rattle.record_codec.specs.Spelling.{IsWithinLimits, HasRecord};
 ghost use Rattle.record_codec.specs.Records.{spellings};
 ghost use Rattle.task_journal.specs.Batch.{IsBatch, entries_in};
 
 use crate::fault::ExtendFault;
 use cluster_types::entry::{Entries, Entry};
-use octet_fields::writing::put_number32;
+use edges::writing::put_number32;
 use record_codec::size::entry_size;
 use record_codec::writing::write_entry;
 use std::alloc::{AllocError, Global};
@@ -97,7 +97,7 @@ fn put_records(octets: &mut Vec<u8>, mut records: Vec<u8>)
 }
 
 /// Writes the length of the records and their number into the front.
-#[tactic(auto, unfolding(octet_fields::specs::Spelling::be32))]
+#[tactic(auto, unfolding(edges::specs::Spelling::be32))]
 fn put_front(octets: &mut Vec<u8>, size: u32, count: u32)
     requires { 9 ≤ length octets.old.items }
     ensures { octets.new.items ≡ take 1 octets.old.items ++ be32 size ++ be32 count ++ drop 9 octets.old.items }

@@ -8,7 +8,7 @@ ghost use Rattle.task_journal.specs.Window.{HasHead};
 use crate::disk_calls::read_into;
 use crate::fault::OpenFault;
 use disk_model::disk::Disk;
-use octet_fields::difference::difference_of;
+use edges::difference::difference_of;
 
 /// Whether a disk begins with the head of a journal.
 pub fn check_head<D: Disk>(disk: &mut D) -> Result<(), OpenFault>

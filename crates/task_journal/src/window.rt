@@ -1,7 +1,7 @@
 //! Reading records from a disk in pieces.
 
 ghost use Rattle.std.specs.Prelude.{◌≡◌, ◌≤◌, ◌<◌, ◌+◌, ◌^◌, ◌++◌, [], length, take, drop, IfOk, IfErr, OnOk, IsErrOf};
-ghost use Rattle.octet_fields.specs.Reading.{Gives as FieldGives};
+ghost use Rattle.edges.specs.Reading.{Gives as FieldGives};
 ghost use Rattle.record_codec.specs.Reading.{entry_at};
 ghost use Rattle.record_codec.specs.Spelling.{HasRecord};
 ghost use Rattle.cluster_types.specs.Causes.{Rose};
@@ -13,7 +13,7 @@ use crate::disk_calls::read_into;
 use crate::fault::OpenFault;
 use cluster_types::entry::Entry;
 use disk_model::disk::Disk;
-use octet_fields::stop::{ReadError, Stop};
+use edges::stop::{ReadError, Stop};
 use record_codec::reading::read_front;
 use std::alloc::Global;
 use std::marker::Model;

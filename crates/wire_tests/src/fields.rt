@@ -1,10 +1,10 @@
 //! Fields of each kind.
 
 use cluster_types::config::Channel;
-use octet_fields::difference::difference_of;
-use octet_fields::reading::{blob, channel, front, number32, number64, octet, str8};
-use octet_fields::stop::Stop;
-use octet_fields::writing::{put_blob, put_channel, put_number32, put_number64, put_str8};
+use edges::difference::difference_of;
+use edges::reading::{blob, channel, front, number32, number64, octet, str8};
+use edges::stop::Stop;
+use edges::writing::{put_blob, put_channel, put_number32, put_number64, put_str8};
 use std::alloc::Global;
 use std::process::Abort;
 

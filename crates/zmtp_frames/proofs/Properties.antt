@@ -6,11 +6,11 @@ use Rattle.std.specs.Option.{option_and_then, option_map}
 use Rattle.std.proofs.lemmas.Bool.Decides.{nat_tests}
 use Rattle.std.proofs.lemmas.List.{append-nil, length-append}
 use Rattle.std.proofs.lemmas.Option.{none-some}
-use Rattle.octet_fields.specs.Reading.{Read, str8_at, blob_at}
-use Rattle.octet_fields.specs.Spelling.{str8, blob}
-use Rattle.octet_fields.proofs.Again.{str8_again, blob_again}
-use Rattle.octet_fields.proofs.Extends.{then_read, give}
-use Rattle.octet_fields.proofs.Takes.{IsBytes, Takes, Joined, Str8, Blob, str8_takes, blob_takes, takes_in_turn, takes_give}
+use Rattle.edges.specs.Reading.{Read, str8_at, blob_at}
+use Rattle.edges.specs.Spelling.{str8, blob}
+use Rattle.edges.proofs.Again.{str8_again, blob_again}
+use Rattle.edges.proofs.Extends.{then_read, give}
+use Rattle.edges.proofs.Takes.{IsBytes, Takes, Joined, Str8, Blob, str8_takes, blob_takes, takes_in_turn, takes_give}
 use Rattle.zmtp_frames.specs.declared.metadata.Property.{Property}
 use Rattle.zmtp_frames.specs.Written.{written_property, written_properties}
 use Rattle.zmtp_frames.specs.Command.{property_at, read_off, same_name, with_property, metadata_step, metadata_from, metadata, MayStand}

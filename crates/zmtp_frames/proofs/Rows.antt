@@ -1,8 +1,8 @@
 -- Worked rows of greetings, frames and commands, computed over the definitions.
 use Rattle.std.proofs.Common.{◌≡◌, ℕ, List, [], ◌∷◌, ◌++◌, Some, None, refl, true, false, drop}
 use Rattle.std.specs.Prelude.{codes}
-use Rattle.octet_fields.specs.Spelling.{be32, be64, str8}
-use Rattle.octet_fields.specs.Reading.{str8_at, blob_at}
+use Rattle.edges.specs.Spelling.{be32, be64, str8}
+use Rattle.edges.specs.Reading.{str8_at, blob_at}
 use Rattle.zmtp_frames.specs.declared.frame.Frame.{Frame}
 use Rattle.zmtp_frames.specs.declared.fault.FrameFault.TheVariants.{BadSignature, BadVersion, BadMechanism, BadFlags, FrameTooLong}
 use Rattle.zmtp_frames.specs.declared.command.Command.TheVariants.{Ready, Error, Other}

@@ -3,12 +3,12 @@ use Rattle.std.proofs.Common.{◌≡◌, ℕ, ◌+◌, ◌<◌, ◌≤◌, ◌^�
 use Rattle.std.specs.Prelude.{nat_le, if◌then◌else◌}
 use Rattle.std.specs.Int.{w64, from_be_bytes}
 use Rattle.std.proofs.lemmas.Nat.{from_be_bytes-to_be_bytes_8}
-use Rattle.octet_fields.specs.Spelling.{be64}
+use Rattle.edges.specs.Spelling.{be64}
 use Rattle.zmtp_frames.specs.declared.frame.Frame.{Frame}
 use Rattle.cluster_types.specs.Limits.{body_limit}
 use Rattle.zmtp_frames.specs.Grammar.{IsFrame, number_from}
 use Rattle.zmtp_frames.specs.Written.{written, more_flag}
-use Rattle.octet_fields.proofs.Widths.{be64_width}
+use Rattle.edges.proofs.Widths.{be64_width}
 
 eight : (a b c d e f g h : ℕ) → number_from 0 (a ∷ b ∷ c ∷ d ∷ e ∷ f ∷ g ∷ h ∷ []) ≡ from_be_bytes w64 (a ∷ b ∷ c ∷ d ∷ e ∷ f ∷ g ∷ h ∷ [])
 eight a b c d e f g h = omega arith

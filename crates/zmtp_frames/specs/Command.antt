@@ -5,7 +5,7 @@ use Rattle.std.specs.Prelude.{◌≡◌, ℕ, zero, suc, ◌<◌, ◌^◌, nat_l
 use Rattle.std.specs.Option.{option_and_then}
 use Rattle.std.specs.List.{list_any, find}
 use Rattle.std.specs.Str.{str_to_ascii_lowercase}
-use Rattle.octet_fields.specs.Reading.{Read, str8_at, blob_at, ◌>>=◌}
+use Rattle.edges.specs.Reading.{Read, str8_at, blob_at, ◌>>=◌}
 use Rattle.zmtp_frames.specs.declared.command.Command.{Command}
 use Rattle.zmtp_frames.specs.declared.command.Command.TheVariants.{Ready, Error, Other}
 use Rattle.zmtp_frames.specs.declared.command.Props.{Props}

@@ -3,7 +3,7 @@
 use Rattle.std.specs.Prelude.{ℕ, zero, suc, nat_lt, ◌==◌, List, [], ◌∷◌, ◌++◌, take, drop, codes, slice_index, Option, Some, if◌then◌else◌, option_map}
 use Rattle.zmtp_frames.specs.declared.fault.FrameFault.{FrameFault}
 use Rattle.zmtp_frames.specs.declared.fault.FrameFault.TheVariants.{BadSignature, BadVersion, BadMechanism}
-use Rattle.octet_fields.specs.Difference.{difference}
+use Rattle.edges.specs.Difference.{difference}
 
 abbrev pub zeros : ℕ → List ℕ
 zeros zero = []

@@ -1,7 +1,7 @@
 -- What is written: of the two forms of a size, the short one where it holds the size.
 use Rattle.std.specs.Prelude.{ℕ, ◌+◌, nat_le, List, [], ◌∷◌, ◌++◌, length, codes, Bool, if◌then◌else◌}
 use Rattle.zmtp_frames.specs.declared.metadata.Property.{Property}
-use Rattle.octet_fields.specs.Spelling.{be64, str8, blob}
+use Rattle.edges.specs.Spelling.{be64, str8, blob}
 
 -- flags and a size, with the flag that says which form the size has
 abbrev pub sized_head : ℕ → ℕ → List ℕ

@@ -6,8 +6,8 @@ ghost use Rattle.zmtp_frames.specs.Command.{Gives, command_of, command_named, re
 
 use crate::metadata::{Property, property_named, read_metadata};
 use cluster_types::octets::Octets;
-use octet_fields::reading::str8;
-use octet_fields::stop::Stop;
+use edges::reading::str8;
+use edges::stop::Stop;
 use std::alloc::{AllocError, Global};
 
 /// What READY says.

@@ -4,7 +4,7 @@ ghost use Rattle.std.specs.Prelude.{◌≡◌, ◌≤◌, length, OnOk, IfErr, S
 ghost use Rattle.zmtp_frames.specs.Greeting.{greeting_fault, null_mechanism, own_greeting};
 
 use crate::fault::FrameFault;
-use octet_fields::difference::difference_of;
+use edges::difference::difference_of;
 
 /// The first fault.
 fn fault_of(octets: &[u8]) -> Option<FrameFault>

@@ -2,15 +2,15 @@
 
 ghost use Rattle.std.specs.Prelude.{◌≡◌, ◌++◌, ◌∷◌, [], OnOk};
 ghost use Rattle.std.specs.Option.{option_copied};
-ghost use Rattle.octet_fields.specs.Reading.{IsRead};
+ghost use Rattle.edges.specs.Reading.{IsRead};
 ghost use Rattle.zmtp_frames.specs.Command.{Gives, AreNamesOf, property_at, metadata_step, metadata, property_named};
 
 use crate::command::CommandError;
 use crate::names::Names;
 use cluster_types::octets::Octets;
 use cluster_types::sequence::Sequence;
-use octet_fields::reading::{blob, str8};
-use octet_fields::stop::Stop;
+use edges::reading::{blob, str8};
+use edges::stop::Stop;
 use std::alloc::{AllocError, Global};
 
 /// A property of READY.

@@ -3,7 +3,7 @@
 ghost use Rattle.std.specs.Prelude.{◌≡◌, ◌≤◌, ◌++◌, OnOk, OnErr, IfOk};
 ghost use Rattle.zmtp_frames.specs.Written.{sized_head, sized_body, written, written_command, more_flag, own_ready};
 
-use octet_fields::writing::{put_both, put_number64};
+use edges::writing::{put_both, put_number64};
 use std::alloc::{AllocError, Global};
 
 /// The longest body whose size is written in one octet.
@@ -55,7 +55,7 @@ pub fn write_command(into: &mut Vec<u8>, body: &[u8]) -> Result<(), AllocError>
 }
 
 /// Appends the READY of a ROUTER.
-#[tactic(auto, unfolding(octet_fields::specs::Spelling::be32))]
+#[tactic(auto, unfolding(edges::specs::Spelling::be32))]
 pub fn write_ready(into: &mut Vec<u8>) -> Result<(), AllocError>
     ensures ok { OnOk result (into.new.items ≡ into.old.items ++ own_ready) }
     ensures err { OnErr result (into.new.items ≡ into.old.items) }

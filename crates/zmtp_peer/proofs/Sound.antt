@@ -7,7 +7,7 @@ use Rattle.std.proofs.lemmas.Bool.Decides.{nat_tests}
 use Rattle.std.proofs.lemmas.List.{length-append}
 use Rattle.std.proofs.lemmas.Option.{option_and_then_some}
 use Rattle.std.proofs.lemmas.List.Elements.{All-nil, All-cons, All-append}
-use Rattle.octet_fields.specs.Reading.{str8_at}
+use Rattle.edges.specs.Reading.{str8_at}
 use Rattle.cluster_types.specs.Limits.{body_limit, most_frames, message_limit}
 use Rattle.zmtp_frames.specs.declared.fault.FrameFault.{FrameFault}
 use Rattle.zmtp_frames.specs.declared.fault.FrameFault.TheVariants.{BadFlags, FrameTooLong}

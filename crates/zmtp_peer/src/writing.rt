@@ -5,7 +5,7 @@ ghost use Rattle.zmtp_frames.specs.Written.{written_error};
 ghost use Rattle.zmtp_peer.specs.Message.{message_written};
 
 use edges::frames::Frames;
-use octet_fields::writing::put_str8;
+use edges::writing::put_str8;
 use std::alloc::{AllocError, Global};
 use zmtp_frames::writing::{write_command, write_frame};
 

@@ -1,7 +1,7 @@
 use Rattle.std.proofs.Common.{◌≡◌, ◌+◌, ◌-◌, ◌^◌, ◌<◌, ◌++◌, ◌∷◌, [], ℕ, List, length, min, take, sym, ap, ◌∙◌, arith, length-append, get_or}
 use Rattle.std.proofs.lemmas.Grind.{flat_map-append}
 use Rattle.std.proofs.lemmas.List.{take_more}
-use Rattle.octet_fields.specs.Spelling.{be32, blob}
+use Rattle.edges.specs.Spelling.{be32, blob}
 use Rattle.record_codec.specs.Spelling.{blobs}
 use Rattle.record_codec.proofs.Lengths.{length-be32}
 use Rattle.record_codec.proofs.size.size_of_buffers.Goals as goal

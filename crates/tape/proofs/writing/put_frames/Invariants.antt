@@ -1,6 +1,6 @@
 use Rattle.std.proofs.Common.{◌≡◌, ◌++◌, take}
 use Rattle.std.specs.List.{flat_map}
-use Rattle.octet_fields.specs.Spelling.{blob}
+use Rattle.edges.specs.Spelling.{blob}
 use Rattle.tape.proofs.writing.put_frames.Given as goal
 
 abbrev pub invariant-loop-place : goal.invariant-loop-place

@@ -1,6 +1,6 @@
 use Rattle.std.proofs.Common.{arith}
-use Rattle.octet_fields.proofs.Joins.{joins}
-use Rattle.octet_fields.proofs.Keeping.{keeps_front, keeps_on_err}
+use Rattle.edges.proofs.Joins.{joins}
+use Rattle.edges.proofs.Keeping.{keeps_front, keeps_on_err}
 use Rattle.tape.proofs.writing.put_record.Goals as goal
 
 pub returns-clause-kept : goal.returns-clause-kept

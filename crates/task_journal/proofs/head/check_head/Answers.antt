@@ -1,5 +1,5 @@
 use Rattle.std.proofs.Common.{◌≡◌, ◌≤◌, ℕ, List, length, refl, sym, ap, ◌∙◌, arith}
-use Rattle.octet_fields.specs.Difference.{difference}
+use Rattle.edges.specs.Difference.{difference}
 use Rattle.task_journal.specs.Journal.{head}
 use Rattle.task_journal.proofs.Loops.{difference_take}
 use Rattle.task_journal.proofs.head.check_head.Goals as goal

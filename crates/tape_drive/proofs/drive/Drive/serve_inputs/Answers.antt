@@ -2,8 +2,8 @@ use Rattle.std.proofs.Common.{◌≡◌, ◌∙◌, ◌∷◌, ◌++◌, [], Lis
 use Rattle.cluster_types.specs.declared.entry.Input.{Input as InputType}
 use Rattle.cluster_defs.specs.Histories.{History}
 use Rattle.tape_drive.specs.Drive.{Stand}
-use Rattle.octet_fields.specs.Keeping.{Keeps}
-use Rattle.octet_fields.proofs.Keeping.{keeps_front, keeps_on_err}
+use Rattle.edges.specs.Keeping.{Keeps}
+use Rattle.edges.proofs.Keeping.{keeps_front, keeps_on_err}
 use Rattle.tape.specs.Spelling.{all_spelled}
 use Rattle.tape_drive.specs.Sends.{step_sends, sent_at}
 use Rattle.tape_drive.specs.Steps.{overfull, unless_full}

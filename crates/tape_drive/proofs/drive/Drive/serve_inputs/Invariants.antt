@@ -1,7 +1,7 @@
 use Rattle.std.proofs.Common.{◌≡◌, ◌≤◌, ◌++◌, false, reverse, length}
 use Rattle.std.specs.Prelude.{map}
 use Rattle.cluster_defs.specs.Histories.{History}
-use Rattle.octet_fields.specs.Keeping.{Keeps}
+use Rattle.edges.specs.Keeping.{Keeps}
 use Rattle.tape.specs.Spelling.{all_spelled}
 use Rattle.tape_drive.specs.Served.{IsOnWay, HoldsSome, IsTouched}
 use Rattle.tape_drive.specs.Steps.{stepped_all, fitting, full_at, AreTaken}

@@ -5,9 +5,9 @@ use Rattle.std.specs.Int.{Width, w32, byte_len, from_be_bytes}
 use Rattle.std.proofs.lemmas.Bool.{ltb-false, le-ltb, ltb-true, lt-ltb}
 use Rattle.std.proofs.lemmas.List.{take-append-le, drop-append-le}
 use Rattle.cluster_types.specs.declared.config.Channel.TheVariants.{Hub, Task, Mux, Engine}
-use Rattle.octet_fields.specs.declared.stop.Stop.{Stop}
-use Rattle.octet_fields.specs.declared.stop.Stop.TheVariants.{Short, Bad}
-use Rattle.octet_fields.specs.Reading.{Read, ◌>>=◌, octet_at, number_at, front_at, str8_at, blob_at, channel_at}
+use Rattle.edges.specs.declared.stop.Stop.{Stop}
+use Rattle.edges.specs.declared.stop.Stop.TheVariants.{Short, Bad}
+use Rattle.edges.specs.Reading.{Read, ◌>>=◌, octet_at, number_at, front_at, str8_at, blob_at, channel_at}
 use Rattle.cluster_types.proofs.Numbers.{chosen}
 
 pub record Extends {A : Type 0} (f : List ℕ → Read A) : Type 0 where

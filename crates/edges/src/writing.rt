@@ -1,7 +1,7 @@
 //! Writing fields.
 
 ghost use Rattle.std.specs.Prelude.{◌≡◌, ◌<◌, ◌^◌, ◌∷◌, [], ◌++◌, length, OnOk, OnErr};
-ghost use Rattle.octet_fields.specs.Spelling.{be64, be32, str8, blob, channel_code};
+ghost use Rattle.edges.specs.Spelling.{be64, be32, str8, blob, channel_code};
 
 use cluster_types::config::Channel;
 use std::alloc::AllocError;

@@ -7,9 +7,9 @@ use Rattle.std.proofs.lemmas.List.{take_at, drop_at, length-append}
 use Rattle.std.proofs.lemmas.Nat.{from_be_bytes-to_be_bytes_4, from_be_bytes-to_be_bytes_8}
 use Rattle.cluster_types.specs.declared.config.Channel.{Channel}
 use Rattle.cluster_types.specs.declared.config.Channel.TheVariants.{Hub, Task, Mux, Engine}
-use Rattle.octet_fields.specs.Spelling.{be32, be64, str8, blob, channel_code}
-use Rattle.octet_fields.specs.Reading.{number_at, str8_at, blob_at, channel_at}
-use Rattle.octet_fields.proofs.Extends.{gather}
+use Rattle.edges.specs.Spelling.{be32, be64, str8, blob, channel_code}
+use Rattle.edges.specs.Reading.{number_at, str8_at, blob_at, channel_at}
+use Rattle.edges.proofs.Extends.{gather}
 
 pub gather_again : {A : Type 0} (n : ℕ) (v : List ℕ → A) (text rest : List ℕ) → length text ≡ n → gather n v (text ++ rest) ≡ Ok (v text, rest)
 gather_again n v text rest len =

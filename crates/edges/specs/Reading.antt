@@ -3,10 +3,10 @@ use Rattle.std.specs.Prelude.{◌≡◌, ℕ, ◌-◌, List, [], ◌∷◌, leng
 use Rattle.std.specs.Int.{Width, w32, byte_len, from_be_bytes}
 use Rattle.cluster_types.specs.declared.config.Channel.{Channel}
 use Rattle.cluster_types.specs.declared.config.Channel.TheVariants.{Hub, Task, Mux, Engine}
-use Rattle.octet_fields.specs.declared.stop.Stop.{Stop}
-use Rattle.octet_fields.specs.declared.stop.Stop.TheVariants.{Short, Bad}
-use Rattle.octet_fields.specs.declared.stop.ReadError.{ReadError}
-use Rattle.octet_fields.specs.declared.stop.ReadError.TheVariants as errors
+use Rattle.edges.specs.declared.stop.Stop.{Stop}
+use Rattle.edges.specs.declared.stop.Stop.TheVariants.{Short, Bad}
+use Rattle.edges.specs.declared.stop.ReadError.{ReadError}
+use Rattle.edges.specs.declared.stop.ReadError.TheVariants as errors
 
 -- a value, and the octets after it; or why none stands there
 abbrev pub Read : Type 0 → Type 0

@@ -25,7 +25,7 @@ pub enum ReadError {
 
 impl From<AllocError> for ReadError {
     ghost use Rattle.std.specs.Prelude.{◌≡◌};
-    ghost use Rattle.octet_fields.specs.declared.stop.ReadError.{ReadError};
+    ghost use Rattle.edges.specs.declared.stop.ReadError.{ReadError};
 
     ghost from_gives = { λ _ e. e ≡ ReadError.OutOfMemory };
 
@@ -36,7 +36,7 @@ impl From<AllocError> for ReadError {
 
 impl From<Stop> for ReadError {
     ghost use Rattle.std.specs.Prelude.{◌≡◌};
-    ghost use Rattle.octet_fields.specs.declared.stop.ReadError.{ReadError};
+    ghost use Rattle.edges.specs.declared.stop.ReadError.{ReadError};
 
     ghost from_gives = { λ stop e. e ≡ ReadError.Stop stop };
 

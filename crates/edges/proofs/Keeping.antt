@@ -1,7 +1,7 @@
 -- What stands in front stays where octets are appended behind it.
 use Rattle.std.proofs.Common.{ℕ, ◌≤◌, List, ◌++◌, length, take, Result, Ok, Err, OnErr, refl, ap, sym, ◌∙◌, arith}
 use Rattle.std.proofs.lemmas.List.{take_at, take-take, length-take}
-use Rattle.octet_fields.specs.Keeping.{Keeps}
+use Rattle.edges.specs.Keeping.{Keeps}
 
 pub keeps_front : (old more : List ℕ) → Keeps old (old ++ more)
 keeps_front old more = take_at old more (length old) refl

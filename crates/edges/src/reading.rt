@@ -1,7 +1,7 @@
 //! Reading fields at the front of octets.
 
 ghost use Rattle.std.specs.Int.{w32, w64};
-ghost use Rattle.octet_fields.specs.Reading.{IsRead, number_at, octet_at, front_at, str8_at, blob_at, channel_at};
+ghost use Rattle.edges.specs.Reading.{IsRead, number_at, octet_at, front_at, str8_at, blob_at, channel_at};
 
 use crate::stop::Stop;
 use cluster_types::config::Channel;

@@ -1,7 +1,7 @@
 //! Where octets differ from those that are wanted.
 
 ghost use Rattle.std.specs.Prelude.{◌≡◌, ◌≤◌, ◌+◌, length};
-ghost use Rattle.octet_fields.specs.Difference.{difference};
+ghost use Rattle.edges.specs.Difference.{difference};
 
 /// The place of the first octet that differs, where the first one that is wanted has the place `start`.
 pub fn difference_of(start: u64, wanted: &[u8], octets: &[u8]) -> Option<u64>

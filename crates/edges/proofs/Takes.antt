@@ -5,11 +5,11 @@ use Rattle.std.specs.Int.{w32, w64, from_be_bytes, to_be_bytes}
 use Rattle.std.proofs.lemmas.Bool.{cases_lt, ltb-false}
 use Rattle.std.proofs.lemmas.List.{append-nil, take-append-drop, length-take, get_or-drop, get_or-take, get_or_past}
 use Rattle.std.proofs.lemmas.Nat.{be_bytes_4, be_bytes_8}
-use Rattle.octet_fields.specs.declared.stop.Stop.{Stop}
-use Rattle.octet_fields.specs.declared.stop.Stop.TheVariants.{Short}
-use Rattle.octet_fields.specs.Spelling.{be32, be64, str8, blob}
-use Rattle.octet_fields.specs.Reading.{Read, ◌>>=◌, octet_at, number_at, front_at, str8_at, blob_at}
-use Rattle.octet_fields.proofs.Extends.{gather, then_read, either, give, refuse}
+use Rattle.edges.specs.declared.stop.Stop.{Stop}
+use Rattle.edges.specs.declared.stop.Stop.TheVariants.{Short}
+use Rattle.edges.specs.Spelling.{be32, be64, str8, blob}
+use Rattle.edges.specs.Reading.{Read, ◌>>=◌, octet_at, number_at, front_at, str8_at, blob_at}
+use Rattle.edges.proofs.Extends.{gather, then_read, either, give, refuse}
 
 abbrev pub IsBytes : List ℕ → Type 0
 IsBytes bytes = (i : ℕ) → get_or bytes i 0 < 256

@@ -1,4 +1,0 @@
-pub mod Difference
-pub mod Keeping
-pub mod Reading
-pub mod Spelling
