@@ -5,17 +5,31 @@
 #[cfg(test)]
 mod answers;
 #[cfg(test)]
+mod beside;
+#[cfg(test)]
 mod choosing;
+#[cfg(test)]
+mod common;
 #[cfg(test)]
 mod compacted;
 #[cfg(test)]
 mod cursors;
 #[cfg(test)]
+mod decisions;
+#[cfg(test)]
 mod disks;
 #[cfg(test)]
 mod journals;
 #[cfg(test)]
+mod lanes;
+#[cfg(test)]
 mod queues;
+#[cfg(test)]
+mod registry;
+#[cfg(test)]
+mod schemes;
+#[cfg(test)]
+mod state;
 #[cfg(test)]
 mod steps;
 #[cfg(test)]
