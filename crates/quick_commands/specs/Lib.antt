@@ -4,3 +4,11 @@ pub mod Runs
 pub mod Serving
 pub mod Written
 pub mod Works
+pub mod Ends
+pub mod Results
+pub mod Summaries
+pub mod Work
+pub mod Draws
+pub mod Generated
+pub mod Summary
+pub mod Tasks

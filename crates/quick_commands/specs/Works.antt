@@ -4,11 +4,11 @@ use Rattle.command_words.specs.declared.ending.Ending.{Ending}
 use Rattle.command_words.specs.declared.ending.Ending.TheVariants as endings
 use Rattle.database_text.specs.Texts.{WroteFront}
 use Rattle.edges.specs.Streams.{Added}
-use Rattle.work_drive.specs.declared.summary.Summary.{Summary}
-use Rattle.work_drive.specs.Summary.{summary_lines}
-use Rattle.work_drive.specs.declared.fault.WorkError.{WorkError}
-use Rattle.work_drive.specs.declared.fault.WorkError.TheVariants.{NotEmpty, DiskFault, HistoryFull, OutOfMemory}
-use Rattle.work_drive.specs.Ends.{IsWorked, IsStopped}
+use Rattle.quick_commands.specs.declared.summary.Summary.{Summary}
+use Rattle.quick_commands.specs.Summary.{summary_lines}
+use Rattle.quick_commands.specs.declared.fault.WorkError.{WorkError}
+use Rattle.quick_commands.specs.declared.fault.WorkError.TheVariants.{NotEmpty, DiskFault, HistoryFull, OutOfMemory}
+use Rattle.quick_commands.specs.Ends.{IsWorked, IsStopped}
 
 -- how writing a text ends: it was written, or a front of it, or there was no memory for it
 abbrev pub PrintEnds : List ℕ → (before now : Option (List ℕ)) → Ending → Type 0

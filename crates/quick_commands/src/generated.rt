@@ -2,8 +2,8 @@
 
 ghost use Rattle.std.specs.Prelude.{◌≡◌, ◌≤◌, ◌<◌, ◌^◌};
 ghost use Rattle.cluster_types.specs.Causes.{Rose};
-ghost use Rattle.work_drive.specs.Generated.{most_tasks};
-ghost use Rattle.work_drive.specs.Summary.{summary_lines};
+ghost use Rattle.quick_commands.specs.Generated.{most_tasks};
+ghost use Rattle.quick_commands.specs.Summary.{summary_lines};
 ghost use Rattle.quick_commands.specs.Works.{PrintEnds, WorkEnds, ending_of};
 
 use cluster_core::size::HistorySize;
@@ -12,9 +12,9 @@ use disk_model::disk::Disk;
 use edges::sink::{Sink, write_all};
 use load_schemes::chooser::Chooser;
 use std::alloc::Global;
-use work_drive::fault::WorkError;
-use work_drive::summary::Summary;
-use work_drive::work::work;
+use crate::fault::WorkError;
+use crate::summary::Summary;
+use crate::work::work;
 
 /// Writes the lines of a summary, and says how that ended.
 fn print<K: Sink>(alloc: Global, summary: &Summary, output: &mut K) -> Ending

@@ -1,8 +1,0 @@
-use Rattle.work_drive.proofs.Rows.{first_draw, second_draw}
-use Rattle.work_drive.proofs.laws.first_draws.Goals as goal
-
-pub returns-clause-first : goal.returns-clause-first
-returns-clause-first c = first_draw
-
-pub returns-clause-second : goal.returns-clause-second
-returns-clause-second c = second_draw

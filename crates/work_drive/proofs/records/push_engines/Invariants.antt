@@ -1,7 +1,0 @@
-use Rattle.std.proofs.Common.{◌≡◌, ◌++◌, take}
-use Rattle.std.specs.List.{flat_map}
-use Rattle.work_drive.specs.Generated.{engine_records}
-use Rattle.work_drive.proofs.records.push_engines.Given as goal
-
-abbrev pub invariant-loop-conn : goal.invariant-loop-conn
-invariant-loop-conn l = l.records.items ≡ l.fn.records.items ++ flat_map engine_records (take l.conn-index l.conns)
