@@ -5,7 +5,7 @@ use Rattle.std.proofs.lemmas.Bool.Decides.{Decides-eqb}
 use Rattle.std.proofs.lemmas.Slice.Eq.{ends_is}
 use Rattle.std.specs.Char.{is_ascii_digit}
 use Rattle.std.specs.List.{ends_with, suffix_len, list_all}
-use Rattle.message_defs.specs.Points.{ends_in_name, ends_in_timeout, begins_with_fraction, whole_behind, whole_timeouts}
+use Rattle.cluster_defs.specs.Points.{ends_in_name, ends_in_timeout, begins_with_fraction, whole_behind, whole_timeouts}
 use Rattle.jupyter_header.proofs.Walk.{on}
 
 -- what stands at the end of what was passed: `t`, `t"`, or neither

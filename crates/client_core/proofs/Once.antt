@@ -4,8 +4,8 @@ use Rattle.std.proofs.lemmas.Slice.Eq.{bytes_eq-Decides}
 use Rattle.std.specs.Prelude.{⊤}
 use Rattle.std.specs.Result.{result_ok}
 use Rattle.cluster_types.specs.declared.message.Message.{Message}
-use Rattle.message_defs.specs.Reply.{read_status}
-use Rattle.message_defs.specs.Texts.{submit_refused}
+use Rattle.cluster_defs.specs.Reply.{read_status}
+use Rattle.cluster_defs.specs.Texts.{submit_refused}
 use Rattle.client_core.specs.declared.took.Took.{Took}
 use Rattle.client_core.specs.declared.took.Took.TheVariants.{Settled, Other, Stranger}
 use Rattle.client_core.specs.Clients.{Used, settled_in, with_settled}

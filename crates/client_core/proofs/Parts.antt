@@ -2,10 +2,10 @@
 use Rattle.std.proofs.Common.{◌≡◌, List, ℕ, Bool, true, false, Ok, Err, codes, refl, sym, ap, ◌∙◌}
 use Rattle.std.specs.Str.{is_utf8, chars}
 use Rattle.serde_json.proofs.OnLiterals.{serde_json_on_literals}
-use Rattle.message_defs.specs.declared.content.ReplyMeta.{ReplyMeta}
-use Rattle.message_defs.specs.declared.fault.ReadError.{ReadError}
-use Rattle.message_defs.specs.Json.{Reading, reading_then}
-use Rattle.message_defs.specs.Reply.{read_task, read_declined, read_status, read_reply}
+use Rattle.cluster_defs.specs.declared.content.ReplyMeta.{ReplyMeta}
+use Rattle.cluster_defs.specs.declared.fault.ReadError.{ReadError}
+use Rattle.cluster_defs.specs.Json.{Reading, reading_then}
+use Rattle.cluster_defs.specs.Reply.{read_task, read_declined, read_status, read_reply}
 
 some_task : read_task (codes "{\"msg_id\":\"0\"}") ≡ Ok (codes "0")
 unfolding serde_json_on_literals is_utf8 chars read_task

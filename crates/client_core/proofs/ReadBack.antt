@@ -16,12 +16,12 @@ use Rattle.serde_json.specs.Events.{items_len}
 use Rattle.serde_json.specs.Read.{read, of_json, of_items, max_depth}
 use Rattle.serde_json.proofs.Numbers.{number_of-decimal}
 use Rattle.cluster_types.specs.declared.event.Dep.{Dep}
-use Rattle.message_defs.specs.declared.content.SubmitMeta.{SubmitMeta}
-use Rattle.message_defs.specs.Fields.{is_id, id_in, each_of}
-use Rattle.message_defs.specs.Json.{read_object}
-use Rattle.message_defs.specs.Points.{whole_timeouts}
-use Rattle.message_defs.specs.Submit.{submit_from, read_submit, at_most_4096, dependency_from}
-use Rattle.message_defs.specs.Texts.{texts_list}
+use Rattle.cluster_defs.specs.declared.content.SubmitMeta.{SubmitMeta}
+use Rattle.cluster_defs.specs.Fields.{is_id, id_in, each_of}
+use Rattle.cluster_defs.specs.Json.{read_object}
+use Rattle.cluster_defs.specs.Points.{whole_timeouts}
+use Rattle.cluster_defs.specs.Submit.{submit_from, read_submit, at_most_4096, dependency_from}
+use Rattle.cluster_defs.specs.Texts.{texts_list}
 use Rattle.client_core.specs.Limits.{are_ids, is_dependency, is_within_limits}
 use Rattle.client_core.specs.Messages.{flag_text, dependency_text, submit_metadata, dependency_once, meta_once}
 use Rattle.client_core.proofs.Fractions.{Passed, neither, letter, closed, keyless, behind, dotless, untouched}

@@ -5,10 +5,10 @@ use Rattle.serde_json.proofs.OnLiterals.{serde_json_on_literals}
 use Rattle.std.specs.Str.{is_utf8, chars}
 use Rattle.json.specs.Print.{escape_byte}
 use Rattle.uuid.specs.Text.{by_index}
-use Rattle.message_defs.specs.Header.{read_header}
-use Rattle.message_defs.specs.Reply.{read_task, read_status}
-use Rattle.message_defs.specs.Texts.{submit_refused}
-use Rattle.message_defs.specs.declared.content.SubmitMeta.{SubmitMeta}
+use Rattle.cluster_defs.specs.Header.{read_header}
+use Rattle.cluster_defs.specs.Reply.{read_task, read_status}
+use Rattle.cluster_defs.specs.Texts.{submit_refused}
+use Rattle.cluster_defs.specs.declared.content.SubmitMeta.{SubmitMeta}
 use Rattle.cluster_types.specs.declared.message.Message.{Message}
 use Rattle.client_core.specs.declared.took.Took.TheVariants.{Settled, Other, Stranger}
 use Rattle.client_core.specs.Identifier.{client_id}

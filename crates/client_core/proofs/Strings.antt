@@ -3,7 +3,7 @@ use Rattle.std.proofs.Common.{◌≡◌, ◌<◌, ◌≤◌, ℕ, Bool, true, fa
 use Rattle.std.proofs.lemmas.Bool.{and_parts, cases_eq, cases_lt, ne_eqb, agree_below_at, not-true}
 use Rattle.json.specs.Print.{escape_byte, escape, quoted}
 use Rattle.json.proofs.Printed.Strings.{escape_byte_plain}
-use Rattle.message_defs.specs.Texts.{parted, texts_list}
+use Rattle.cluster_defs.specs.Texts.{parted, texts_list}
 use Rattle.client_core.proofs.Fractions.{Passed, neither, letter, closed, behind, keyless, keyless-append, behind-append}
 
 abbrev is_closed : Passed → Bool

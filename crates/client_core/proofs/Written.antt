@@ -5,8 +5,8 @@ use Rattle.json.specs.Json as json
 use Rattle.json.specs.Print.{print, print_from, token_text, quoted, escape_byte}
 use Rattle.json.specs.Tree.{json_tokens, items_tokens, members_tokens}
 use Rattle.cluster_types.specs.declared.event.Dep.{Dep}
-use Rattle.message_defs.specs.declared.content.SubmitMeta.{SubmitMeta}
-use Rattle.message_defs.specs.Texts.{parted, texts_list}
+use Rattle.cluster_defs.specs.declared.content.SubmitMeta.{SubmitMeta}
+use Rattle.cluster_defs.specs.Texts.{parted, texts_list}
 use Rattle.client_core.specs.Messages.{flag_text, dependency_text, submit_metadata}
 
 abbrev pub strings : List (List ℕ) → json.Items

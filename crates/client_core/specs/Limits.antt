@@ -2,8 +2,8 @@
 use Rattle.std.specs.Prelude.{ℕ, Bool, ◌&&◌, not, List, length, nat_le, bytes_eq, codes}
 use Rattle.std.specs.List.{list_all}
 use Rattle.cluster_types.specs.declared.event.Dep.{Dep}
-use Rattle.message_defs.specs.declared.content.SubmitMeta.{SubmitMeta}
-use Rattle.message_defs.specs.Fields.{is_id}
+use Rattle.cluster_defs.specs.declared.content.SubmitMeta.{SubmitMeta}
+use Rattle.cluster_defs.specs.Fields.{is_id}
 
 -- ids of 1 to 255 octets
 abbrev pub are_ids : List (List ℕ) → Bool

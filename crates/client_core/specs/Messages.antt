@@ -3,9 +3,9 @@ use Rattle.std.specs.Prelude.{ℕ, Bool, true, false, List, [], ◌++◌, codes,
 use Rattle.json.specs.Print.{quoted}
 use Rattle.cluster_types.specs.declared.event.Dep.{Dep}
 use Rattle.cluster_types.specs.declared.message.Message.{Message}
-use Rattle.message_defs.specs.declared.content.SubmitMeta.{SubmitMeta}
-use Rattle.message_defs.specs.Submit.{once}
-use Rattle.message_defs.specs.Texts.{texts_list, resubmit_header, empty_object}
+use Rattle.cluster_defs.specs.declared.content.SubmitMeta.{SubmitMeta}
+use Rattle.cluster_defs.specs.Submit.{once}
+use Rattle.cluster_defs.specs.Texts.{texts_list, resubmit_header, empty_object}
 use Rattle.edges.specs.Date.{date_of}
 
 -- the type of a request to run code

@@ -2,9 +2,9 @@
 use Rattle.std.specs.Prelude.{ℕ, Bool, true, false, List, [], ◌∷◌, length, filter, Option, Some, None, bytes_eq, if◌then◌else◌, option_map}
 use Rattle.std.specs.Result.{result_ok}
 use Rattle.cluster_types.specs.declared.message.Message.{Message}
-use Rattle.message_defs.specs.Header.{read_header}
-use Rattle.message_defs.specs.Reply.{read_task, read_status}
-use Rattle.message_defs.specs.Texts.{submit_refused}
+use Rattle.cluster_defs.specs.Header.{read_header}
+use Rattle.cluster_defs.specs.Reply.{read_task, read_status}
+use Rattle.cluster_defs.specs.Texts.{submit_refused}
 use Rattle.client_core.specs.declared.took.Took.{Took}
 use Rattle.client_core.specs.declared.took.Took.TheVariants.{Settled, Other, Stranger}
 use Rattle.client_core.specs.Clients.{Known, Used, settled_in, with_settled}

@@ -2,14 +2,14 @@
 
 ghost use Rattle.std.specs.Prelude.{◌≡◌, ◌⊎◌, Ok, Err, IfOk, IfErr};
 ghost use Rattle.std.specs.Result.{result_ok};
-ghost use Rattle.message_defs.specs.Reply.{read_task, read_status};
+ghost use Rattle.cluster_defs.specs.Reply.{read_task, read_status};
 ghost use Rattle.client_core.specs.Taking.{type_in, task_in};
 
 use cluster_types::text::Text;
 use json::Scratch;
 use jupyter_header::header::read_header;
 use jupyter_header::reply::read_reply;
-use message_defs::fault::ReadError;
+use cluster_defs::fault::ReadError;
 use std::alloc::{AllocError, Global};
 
 /// A parent header that reads, whatever it names.

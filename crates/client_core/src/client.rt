@@ -2,7 +2,7 @@
 
 ghost use Rattle.std.specs.Prelude.{◌≡◌, ◌⊎◌, ◌≤◌, [], true, Ok, Err, IfOk, IfErr, OnOk, OnErr};
 ghost use Rattle.cluster_types.specs.Limits.{last_moment};
-ghost use Rattle.message_defs.specs.Submit.{read_submit};
+ghost use Rattle.cluster_defs.specs.Submit.{read_submit};
 ghost use Rattle.client_core.specs.Limits.{is_within_limits, is_engine};
 ghost use Rattle.client_core.specs.Messages.{task_request, engine_request, hub_request, meta_once};
 ghost use Rattle.client_core.specs.Clients.{unsettled};
@@ -19,7 +19,7 @@ use crate::used::{note, settle, settled_in};
 use cluster_types::shared_message::SharedMessage;
 use cluster_types::text::Text;
 use json::Scratch;
-use message_defs::content::SubmitMeta;
+use cluster_defs::content::SubmitMeta;
 use std::alloc::{AllocError, Global};
 use std::collections::BTreeMap;
 use std::marker::Model;
@@ -98,7 +98,7 @@ impl Client {
 
     /// A task for any engine that its metadata lets it run on. Its id is the UUID of the random octets, and the moment is in
     /// milliseconds since 1970-01-01T00:00:00Z.
-    #[tactic(auto, unfolding(crate::specs::Messages::execute_request, message_defs::specs::Texts::empty_object))]
+    #[tactic(auto, unfolding(crate::specs::Messages::execute_request, cluster_defs::specs::Texts::empty_object))]
     pub fn submit(
         &mut self,
         code: &str,
@@ -127,7 +127,7 @@ impl Client {
 
     /// A request to one engine, which is named by its uuid. Its id is the UUID of the random octets, and the moment is in
     /// milliseconds since 1970-01-01T00:00:00Z.
-    #[tactic(auto, unfolding(crate::specs::Messages::execute_request, message_defs::specs::Texts::empty_object))]
+    #[tactic(auto, unfolding(crate::specs::Messages::execute_request, cluster_defs::specs::Texts::empty_object))]
     pub fn direct(
         &mut self,
         engine: &str,
@@ -154,7 +154,7 @@ impl Client {
 
     /// A request to the hub. Its id is the UUID of the random octets, and isn't kept, so that the answer is a
     /// stranger's unless a task has the same id. The moment is in milliseconds since 1970-01-01T00:00:00Z.
-    #[tactic(auto, unfolding(message_defs::specs::Texts::empty_object))]
+    #[tactic(auto, unfolding(cluster_defs::specs::Texts::empty_object))]
     pub fn ask(
         &self,
         msg_type: &str,

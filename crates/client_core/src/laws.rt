@@ -3,8 +3,8 @@
 ghost use Rattle.std.specs.Prelude.{◌≡◌, ◌≤◌, ℕ, List, Ok, true};
 ghost use Rattle.std.specs.Str.{is_utf8};
 ghost use Rattle.cluster_types.specs.declared.message.Message.{Message};
-ghost use Rattle.message_defs.specs.declared.content.SubmitMeta.{SubmitMeta};
-ghost use Rattle.message_defs.specs.Submit.{read_submit};
+ghost use Rattle.cluster_defs.specs.declared.content.SubmitMeta.{SubmitMeta};
+ghost use Rattle.cluster_defs.specs.Submit.{read_submit};
 ghost use Rattle.client_core.specs.Clients.{Used};
 ghost use Rattle.client_core.specs.Limits.{is_within_limits};
 ghost use Rattle.client_core.specs.Messages.{submit_metadata, meta_once};

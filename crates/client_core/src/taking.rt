@@ -17,7 +17,7 @@ use std::collections::BTreeMap;
 const SUBMIT_REFUSED: &str = "submit_refused";
 
 /// What a message about the task of an unsettled id is.
-#[tactic(auto, unfolding(message_defs::specs::Texts::submit_refused))]
+#[tactic(auto, unfolding(cluster_defs::specs::Texts::submit_refused))]
 fn took_unsettled(
     alloc: Global,
     content: &[u8],

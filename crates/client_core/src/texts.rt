@@ -6,7 +6,7 @@ ghost use Rattle.client_core.specs.Messages.{flag_text, dependency_text, submit_
 use cluster_types::event::Dep;
 use jupyter_header::contents::texts_list;
 use jupyter_header::write::quoted;
-use message_defs::content::SubmitMeta;
+use cluster_defs::content::SubmitMeta;
 use std::alloc::{AllocError, Global};
 
 /// The content of a request to run code.

@@ -2,8 +2,8 @@
 
 ghost use Rattle.std.specs.Prelude.{◌≡◌, ◌≤◌, ◌∷◌, [], reverse, length, None, IfOk, OnOk, Ok, Err};
 ghost use Rattle.std.specs.Option.{is_some};
-ghost use Rattle.message_defs.specs.Event.{event_of};
-ghost use Rattle.message_defs.specs.Header.{message_type};
+ghost use Rattle.cluster_defs.specs.Event.{event_of};
+ghost use Rattle.cluster_defs.specs.Header.{message_type};
 ghost use Rattle.cluster_types.specs.declared.entry.Entry.{Entry};
 ghost use Rattle.cluster_types.specs.Limits.{last_moment};
 ghost use Rattle.cluster_defs.specs.Connections.{channel_on, connection_on};

@@ -4,3 +4,4 @@ pub mod Falls
 pub mod Options
 pub mod Says
 pub mod Attempts
+pub mod Rows

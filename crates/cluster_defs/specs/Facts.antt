@@ -10,7 +10,7 @@ use Rattle.cluster_types.specs.declared.event.Reason.{Reason}
 use Rattle.cluster_types.specs.declared.entry.Entry.{Entry}
 use Rattle.cluster_types.specs.declared.entry.Entry.TheVariants.{Input}
 use Rattle.cluster_types.specs.declared.entry.Input.TheVariants.{In}
-use Rattle.message_defs.specs.Event.{event_of}
+use Rattle.cluster_defs.specs.Event.{event_of}
 use Rattle.cluster_defs.specs.declared.connection.Connection.{Connection}
 use Rattle.cluster_defs.specs.Words.{Id}
 use Rattle.cluster_defs.specs.Connections.{channel_on}

@@ -23,3 +23,13 @@ pub mod Tasks
 pub mod Thin
 pub mod Uses
 pub mod Words
+pub mod Json
+pub mod Fields
+pub mod Header
+pub mod Points
+pub mod Submit
+pub mod Reply
+pub mod Hub
+pub mod Event
+pub mod Texts
+pub mod Sent

@@ -7,7 +7,7 @@ use Rattle.cluster_types.specs.declared.message.Message.{Message}
 use Rattle.cluster_types.specs.declared.verdict.Cause.{Cause}
 use Rattle.cluster_types.specs.declared.verdict.Cause.TheVariants.{Reply}
 use Rattle.edges.specs.Date.{date_of}
-use Rattle.message_defs.specs.Texts.{made_header, reply_type, outcome_id, empty_object, outcome_content}
+use Rattle.cluster_defs.specs.Texts.{made_header, reply_type, outcome_id, empty_object, outcome_content}
 use Rattle.cluster_defs.specs.Words.{Id}
 use Rattle.cluster_defs.specs.declared.settled.Settled.{Settled}
 use Rattle.cluster_defs.specs.Requests.{Request, Body}

@@ -9,7 +9,7 @@ use Rattle.cluster_types.specs.declared.out.Out.TheVariants.{Pass, Made}
 use Rattle.cluster_types.specs.declared.entry.Input.TheVariants.{Open, In, Beat}
 use Rattle.cluster_types.specs.declared.entry.Entry.{Entry}
 use Rattle.cluster_types.specs.declared.entry.Entry.TheVariants.{Input, Hand, Settle}
-use Rattle.message_defs.specs.Texts.{answer_id, beat_id, beat_request, beat_content, empty_object}
+use Rattle.cluster_defs.specs.Texts.{answer_id, beat_id, beat_request, beat_content, empty_object}
 use Rattle.cluster_defs.specs.declared.acceptance.Acceptance.{Acceptance}
 use Rattle.cluster_defs.specs.declared.acceptance.Acceptance.TheVariants.{Again}
 use Rattle.cluster_defs.specs.declared.answer.Answer.{Answer}

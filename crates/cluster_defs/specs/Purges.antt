@@ -4,7 +4,7 @@ use Rattle.std.specs.Option.{option_and_then}
 use Rattle.cluster_types.specs.declared.event.Event.{Event}
 use Rattle.cluster_types.specs.declared.event.Event.TheVariants.{Purge, Resubmit}
 use Rattle.edges.specs.Date.{date_of}
-use Rattle.message_defs.specs.Texts.{resubmit_id, resubmit_header}
+use Rattle.cluster_defs.specs.Texts.{resubmit_id, resubmit_header}
 use Rattle.cluster_defs.specs.Words.{Id, is_empty, is_listed, once}
 use Rattle.cluster_defs.specs.Requests.{Request, Body, is_invalid, targets_of}
 use Rattle.cluster_defs.specs.Facts.{Facts, is_settled}

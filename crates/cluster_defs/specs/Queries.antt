@@ -12,8 +12,8 @@ use Rattle.cluster_types.specs.declared.event.Query.TheVariants.{Connection, Que
 use Rattle.cluster_types.specs.declared.event.Event.{Event}
 use Rattle.cluster_types.specs.declared.event.Event.TheVariants.{Submit, Direct, Reply, Join, Leave, Pong, Purge, Resubmit, Ask}
 use Rattle.cluster_types.specs.Limits.{body_limit, most_buffers}
-use Rattle.message_defs.specs.Header.{message_type}
-use Rattle.message_defs.specs.Texts.{reply_type, submit_refused, ok_content, join_content, error_content, connection_content, history_content, queue_content, result_content, resubmit_content, EngineQueue, Settled as SettledText}
+use Rattle.cluster_defs.specs.Header.{message_type}
+use Rattle.cluster_defs.specs.Texts.{reply_type, submit_refused, ok_content, join_content, error_content, connection_content, history_content, queue_content, result_content, resubmit_content, EngineQueue, Settled as SettledText}
 use Rattle.cluster_defs.specs.declared.acceptance.Acceptance.{Acceptance}
 use Rattle.cluster_defs.specs.declared.acceptance.Acceptance.TheVariants.{Reserved, Purged, Again, NoSuchEngine, Full, Accepted as AcceptedTask}
 use Rattle.cluster_defs.specs.declared.answer.Answer.{Answer}

@@ -6,7 +6,7 @@ use Rattle.cluster_types.specs.Verdicts.{verdict_name, cause_name}
 use Rattle.cluster_types.specs.declared.config.Channel.{Channel}
 use Rattle.cluster_types.specs.declared.event.Query.{Query}
 use Rattle.cluster_types.specs.declared.record.Record.{Record}
-use Rattle.message_defs.specs.Texts.{EngineQueue, Settled as SettledText}
+use Rattle.cluster_defs.specs.Texts.{EngineQueue, Settled as SettledText}
 use Rattle.cluster_defs.specs.declared.answer.Answer.{Answer}
 use Rattle.cluster_defs.specs.Words.{Id, is_number}
 use Rattle.cluster_defs.specs.Queries.{QueryView, shown, queues_by, all_left_by, results_by, result_by, answer_by, limited}

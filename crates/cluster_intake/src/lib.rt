@@ -4,12 +4,12 @@
 #![tactic(auto)]
 
 ghost use Rattle.std.specs.Prelude.{◌≡◌, ◌⊎◌, ◌==◌, Ok, Err, Some, None, Result, IfOk, IfErr, length, codes};
-ghost use Rattle.message_defs.specs.Event.{fault_field, event_of_content, request_event, hub_request, hub_event, submission, submitted, task_event, direct_meta, mux_event, echo_event, replied, reply_event, is_registration, is_echo, engine_event, event_under, event_of};
+ghost use Rattle.cluster_defs.specs.Event.{fault_field, event_of_content, request_event, hub_request, hub_event, submission, submitted, task_event, direct_meta, mux_event, echo_event, replied, reply_event, is_registration, is_echo, engine_event, event_under, event_of};
 ghost use Rattle.cluster_intake.specs.Intake.{taken_in};
-ghost use Rattle.message_defs.specs.Header.{read_header, message_type};
-ghost use Rattle.message_defs.specs.Hub.{request_of, read_content};
-ghost use Rattle.message_defs.specs.Reply.{read_reply};
-ghost use Rattle.message_defs.specs.Submit.{read_submit};
+ghost use Rattle.cluster_defs.specs.Header.{read_header, message_type};
+ghost use Rattle.cluster_defs.specs.Hub.{request_of, read_content};
+ghost use Rattle.cluster_defs.specs.Reply.{read_reply};
+ghost use Rattle.cluster_defs.specs.Submit.{read_submit};
 
 pub mod fault;
 pub mod understood;
@@ -26,10 +26,10 @@ use jupyter_header::hub::read_content;
 use jupyter_header::kinds::{is_leave, is_reply, is_request, request_of};
 use jupyter_header::reply::read_reply;
 use jupyter_header::submit::{plain_dependency, read_submit};
-use message_defs::content::{HubContent, SubmitMeta};
-use message_defs::fault::{Field, ReadError};
-use message_defs::header::Header;
-use message_defs::request::Request;
+use cluster_defs::content::{HubContent, SubmitMeta};
+use cluster_defs::fault::{Field, ReadError};
+use cluster_defs::header::Header;
+use cluster_defs::hub_request::Request;
 use std::alloc::{AllocError, Global};
 use understood::Understood;
 
@@ -315,7 +315,7 @@ fn understood_under(
 
 /// What a message on a channel means, and its type, or why it means nothing. The header is read once for both. Texts with escapes stand in
 /// `scratch` while they are read, which is of use to keep from message to message.
-#[tactic(auto, unfolding(message_defs::specs::Event::event_of))]
+#[tactic(auto, unfolding(cluster_defs::specs::Event::event_of))]
 pub fn understand(
     alloc: Global,
     channel: Channel,

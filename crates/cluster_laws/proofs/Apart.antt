@@ -10,7 +10,7 @@ use Rattle.cluster_types.specs.declared.event.Event.TheVariants.{Submit, Direct,
 use Rattle.cluster_types.specs.declared.entry.Input.TheVariants.{Open, Up, Down, In, Beat, Time}
 use Rattle.cluster_types.specs.declared.entry.Entry.{Entry}
 use Rattle.cluster_types.specs.declared.entry.Entry.TheVariants.{Input, Hand, Settle, Lose}
-use Rattle.message_defs.specs.Texts.{resubmit_id}
+use Rattle.cluster_defs.specs.Texts.{resubmit_id}
 use Rattle.cluster_defs.specs.declared.engine.Engine.{Engine}
 use Rattle.cluster_defs.specs.declared.engine.Joining.TheVariants.{Repeat, AlreadyJoined}
 use Rattle.cluster_defs.specs.Words.{Id, is_listed}

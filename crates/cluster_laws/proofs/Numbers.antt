@@ -13,7 +13,7 @@ use Rattle.cluster_types.specs.declared.event.Event.TheVariants.{Submit, Direct,
 use Rattle.cluster_types.specs.declared.entry.Input.TheVariants.{Open, Up, Down, In, Beat, Time}
 use Rattle.cluster_types.specs.declared.entry.Entry.{Entry}
 use Rattle.cluster_types.specs.declared.entry.Entry.TheVariants.{Input, Hand, Settle, Lose}
-use Rattle.message_defs.specs.Texts.{resubmit_id}
+use Rattle.cluster_defs.specs.Texts.{resubmit_id}
 use Rattle.cluster_defs.specs.declared.acceptance.Acceptance.TheVariants.{Reserved, Purged, Again, NoSuchEngine, Full, Accepted}
 use Rattle.cluster_defs.specs.Words.{Id, is_listed, begins_with}
 use Rattle.cluster_defs.specs.Engines.{engine_named}

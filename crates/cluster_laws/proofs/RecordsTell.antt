@@ -12,7 +12,7 @@ use Rattle.cluster_types.specs.declared.event.Query.{Query}
 use Rattle.cluster_types.specs.declared.event.Query.TheVariants.{Connection, Queue, Result as ResultQuery, History as HistoryQuery, Shutdown, Unknown, Bad}
 use Rattle.cluster_types.specs.declared.message.Message.{Message}
 use Rattle.cluster_types.specs.declared.record.Record.{Record}
-use Rattle.message_defs.specs.Texts.{queue_content, result_content, history_content, Settled as SettledText}
+use Rattle.cluster_defs.specs.Texts.{queue_content, result_content, history_content, Settled as SettledText}
 use Rattle.cluster_defs.specs.declared.attempt.Attempt.{Attempt}
 use Rattle.cluster_defs.specs.declared.attempt.Attempt.TheVariants.{Never, Running, EndedOk, EndedBadly, Lost, Declined}
 use Rattle.cluster_defs.specs.declared.engine.Engine.{Engine}

@@ -6,7 +6,7 @@ use Rattle.cluster_types.specs.declared.message.Message.{Message}
 use Rattle.cluster_types.specs.declared.event.Event.{Event}
 use Rattle.cluster_types.specs.declared.event.Event.TheVariants.{Submit, Direct, Reply, Join, Leave, Pong, Purge, Resubmit, Ask}
 use Rattle.cluster_types.specs.declared.event.Reason.{Reason}
-use Rattle.message_defs.specs.Event.{event_of}
+use Rattle.cluster_defs.specs.Event.{event_of}
 use Rattle.cluster_defs.specs.declared.acceptance.Acceptance.{Acceptance}
 use Rattle.cluster_defs.specs.declared.acceptance.Acceptance.TheVariants.{Reserved, Purged, Again}
 use Rattle.cluster_defs.specs.Words.{Id, is_listed, begins_with}

@@ -10,19 +10,19 @@ use Rattle.cluster_types.specs.declared.event.Event.{Event}
 use Rattle.cluster_types.specs.declared.event.Event.TheVariants.{Submit, Direct, Reply, Leave}
 use Rattle.cluster_types.specs.declared.event.Reason.{Reason}
 use Rattle.cluster_types.specs.declared.event.Reason.TheVariants.{BadHeader, BadType, NoTarget, BadReply}
-use Rattle.message_defs.specs.declared.header.Header.{Header as HeaderType}
-use Rattle.message_defs.specs.declared.content.SubmitMeta.{SubmitMeta}
-use Rattle.message_defs.specs.declared.content.ReplyMeta.{ReplyMeta}
-use Rattle.message_defs.specs.declared.content.HubContent.{HubContent}
-use Rattle.message_defs.specs.declared.content.HubContent.TheVariants.{Connection as ConnectionContent, History as HistoryContent, Shutdown as ShutdownContent, Queue as QueueContent, Result as ResultContent, Purge as PurgeContent, Resubmit as ResubmitContent, Join, Pong}
-use Rattle.message_defs.specs.declared.request.Request.{Request}
-use Rattle.message_defs.specs.declared.request.Request.TheVariants.{Registration, Beat}
-use Rattle.message_defs.specs.Json.{Reading, reading_then}
-use Rattle.message_defs.specs.Header.{read_header}
-use Rattle.message_defs.specs.Submit.{read_submit}
-use Rattle.message_defs.specs.Reply.{read_reply, read_task, read_declined, read_status}
-use Rattle.message_defs.specs.Hub.{request_of, read_content}
-use Rattle.message_defs.specs.Event.{event_of, event_under, event_of_content as content_event, request_event, hub_request, hub_event, submitted, task_event, mux_event, engine_event, reply_event, replied, echo_event, is_registration, is_echo, is_leave, is_reply, is_request, direct_meta, submission}
+use Rattle.cluster_defs.specs.declared.header.Header.{Header as HeaderType}
+use Rattle.cluster_defs.specs.declared.content.SubmitMeta.{SubmitMeta}
+use Rattle.cluster_defs.specs.declared.content.ReplyMeta.{ReplyMeta}
+use Rattle.cluster_defs.specs.declared.content.HubContent.{HubContent}
+use Rattle.cluster_defs.specs.declared.content.HubContent.TheVariants.{Connection as ConnectionContent, History as HistoryContent, Shutdown as ShutdownContent, Queue as QueueContent, Result as ResultContent, Purge as PurgeContent, Resubmit as ResubmitContent, Join, Pong}
+use Rattle.cluster_defs.specs.declared.hub_request.Request.{Request}
+use Rattle.cluster_defs.specs.declared.hub_request.Request.TheVariants.{Registration, Beat}
+use Rattle.cluster_defs.specs.Json.{Reading, reading_then}
+use Rattle.cluster_defs.specs.Header.{read_header}
+use Rattle.cluster_defs.specs.Submit.{read_submit}
+use Rattle.cluster_defs.specs.Reply.{read_reply, read_task, read_declined, read_status}
+use Rattle.cluster_defs.specs.Hub.{request_of, read_content}
+use Rattle.cluster_defs.specs.Event.{event_of, event_under, event_of_content as content_event, request_event, hub_request, hub_event, submitted, task_event, mux_event, engine_event, reply_event, replied, echo_event, is_registration, is_echo, is_leave, is_reply, is_request, direct_meta, submission}
 use Rattle.cluster_defs.specs.Thin.{short_reply}
 
 -- a message with another content and other buffers

@@ -4,7 +4,7 @@ use Rattle.cluster_types.specs.declared.out.Out.{Out}
 use Rattle.cluster_types.specs.declared.out.Out.TheVariants.{Pass, Made}
 use Rattle.cluster_types.specs.Limits.{last_moment}
 use Rattle.edges.specs.Date.{date_of}
-use Rattle.message_defs.specs.Sent.{sent_message}
+use Rattle.cluster_defs.specs.Sent.{sent_message}
 use Rattle.jupyter_parts.specs.Signed.{message_frames}
 
 -- the moment of a message that is made has a date

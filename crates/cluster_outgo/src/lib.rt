@@ -4,8 +4,8 @@
 ghost use Rattle.std.specs.Prelude.{◌≡◌, ◌≤◌, IfOk};
 ghost use Rattle.cluster_types.specs.Limits.{last_moment};
 ghost use Rattle.edges.specs.Date.{date_of};
-ghost use Rattle.message_defs.specs.Sent.{sent_message};
-ghost use Rattle.message_defs.specs.Texts.{made_header};
+ghost use Rattle.cluster_defs.specs.Sent.{sent_message};
+ghost use Rattle.cluster_defs.specs.Texts.{made_header};
 ghost use Rattle.jupyter_parts.specs.Signed.{signed_frames, IsSigned};
 ghost use Rattle.cluster_outgo.specs.Frames.{IsSendable, frames_of};
 

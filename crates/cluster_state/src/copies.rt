@@ -3,7 +3,7 @@
 ghost use Rattle.std.specs.Prelude.{◌≡◌, ◌≤◌, ◌+◌, ◌++◌, ◌∷◌, [], map, length, is_ok, IfOk, OnOk, Some, None, true};
 ghost use Rattle.cluster_types.specs.Limits.{last_moment};
 ghost use Rattle.cluster_defs.specs.Purges.{resubmitted};
-ghost use Rattle.message_defs.specs.Texts.{resubmit_header};
+ghost use Rattle.cluster_defs.specs.Texts.{resubmit_header};
 ghost use Rattle.edges.specs.Date.{date_of};
 ghost use Rattle.resubmission.specs.Plans.{copy_of as renaming};
 ghost use Rattle.task_table.specs.Seen.{begun, seen_in, all_open};

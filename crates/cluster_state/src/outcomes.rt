@@ -4,7 +4,7 @@ ghost use Rattle.std.specs.Prelude.{◌≡◌, ◌≤◌, ◌≢◌, IfOk, Some,
 ghost use Rattle.std.specs.Option.{option_copied};
 ghost use Rattle.cluster_types.specs.Verdicts.{cause_value};
 ghost use Rattle.cluster_types.specs.Limits.{last_moment};
-ghost use Rattle.message_defs.specs.Texts.{outcome_id, made_header, reply_type};
+ghost use Rattle.cluster_defs.specs.Texts.{outcome_id, made_header, reply_type};
 ghost use Rattle.edges.specs.Date.{date_of};
 ghost use Rattle.cluster_defs.specs.Outcomes.{made_outcome};
 ghost use Rattle.cluster_state.specs.Plain.{outcome_for};
@@ -24,7 +24,7 @@ use std::alloc::{AllocError, Global};
 use task_table::task::Task;
 
 /// The id of an outcome that the controller makes, by the number of the task.
-#[tactic(auto, unfolding(message_defs::specs::Texts::outcome_id))]
+#[tactic(auto, unfolding(cluster_defs::specs::Texts::outcome_id))]
 fn outcome_id(alloc: Global, number: u64) -> Result<Text, AllocError>
     ensures { IfOk result (λ text. text ≡ outcome_id number) }
 {

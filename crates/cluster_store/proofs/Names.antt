@@ -20,21 +20,21 @@ use Rattle.cluster_types.specs.declared.event.Reason.TheVariants.{BadType, NoTar
 use Rattle.cluster_types.specs.declared.entry.Input.TheVariants.{Open, Up, Down, In, Beat, Time}
 use Rattle.cluster_types.specs.declared.entry.Entry.{Entry}
 use Rattle.cluster_types.specs.declared.entry.Entry.TheVariants.{Input, Hand, Settle, Lose}
-use Rattle.message_defs.specs.declared.header.Header.{Header as HeaderType}
-use Rattle.message_defs.specs.declared.content.SubmitMeta.{SubmitMeta}
-use Rattle.message_defs.specs.declared.content.ReplyMeta.{ReplyMeta}
-use Rattle.message_defs.specs.declared.content.HubContent.{HubContent}
-use Rattle.message_defs.specs.declared.content.HubContent.TheVariants.{Connection as ConnectionContent, History as HistoryContent, Shutdown as ShutdownContent, Queue as QueueContent, Result as ResultContent, Purge as PurgeContent, Resubmit as ResubmitContent, Join, Pong}
-use Rattle.message_defs.specs.declared.request.Request.{Request}
-use Rattle.message_defs.specs.declared.request.Request.TheVariants.{Registration, Beat as BeatRequest}
-use Rattle.message_defs.specs.Json.{Reading, reading_then, read_object}
-use Rattle.message_defs.specs.Fields.{is_id, id_of, or_bad, id_from, text_from}
-use Rattle.message_defs.specs.Header.{header_from, read_header}
-use Rattle.message_defs.specs.Submit.{read_submit}
-use Rattle.message_defs.specs.Reply.{read_reply}
-use Rattle.message_defs.specs.Hub.{request_of, read_content}
-use Rattle.message_defs.specs.Texts.{resubmit_id}
-use Rattle.message_defs.specs.Event.{event_of, event_under, event_of_content, request_event, hub_request, hub_event, submitted, mux_event, echo_event, replied, reply_event, engine_event, submission, direct_meta, is_request, is_leave, is_reply, is_registration, is_echo}
+use Rattle.cluster_defs.specs.declared.header.Header.{Header as HeaderType}
+use Rattle.cluster_defs.specs.declared.content.SubmitMeta.{SubmitMeta}
+use Rattle.cluster_defs.specs.declared.content.ReplyMeta.{ReplyMeta}
+use Rattle.cluster_defs.specs.declared.content.HubContent.{HubContent}
+use Rattle.cluster_defs.specs.declared.content.HubContent.TheVariants.{Connection as ConnectionContent, History as HistoryContent, Shutdown as ShutdownContent, Queue as QueueContent, Result as ResultContent, Purge as PurgeContent, Resubmit as ResubmitContent, Join, Pong}
+use Rattle.cluster_defs.specs.declared.hub_request.Request.{Request}
+use Rattle.cluster_defs.specs.declared.hub_request.Request.TheVariants.{Registration, Beat as BeatRequest}
+use Rattle.cluster_defs.specs.Json.{Reading, reading_then, read_object}
+use Rattle.cluster_defs.specs.Fields.{is_id, id_of, or_bad, id_from, text_from}
+use Rattle.cluster_defs.specs.Header.{header_from, read_header}
+use Rattle.cluster_defs.specs.Submit.{read_submit}
+use Rattle.cluster_defs.specs.Reply.{read_reply}
+use Rattle.cluster_defs.specs.Hub.{request_of, read_content}
+use Rattle.cluster_defs.specs.Texts.{resubmit_id}
+use Rattle.cluster_defs.specs.Event.{event_of, event_under, event_of_content, request_event, hub_request, hub_event, submitted, mux_event, echo_event, replied, reply_event, engine_event, submission, direct_meta, is_request, is_leave, is_reply, is_registration, is_echo}
 use Rattle.record_codec.specs.Spelling.{IsName}
 use Rattle.cluster_defs.specs.Words.{Id}
 use Rattle.cluster_defs.specs.Connections.{channel_on}

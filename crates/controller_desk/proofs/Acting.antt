@@ -6,7 +6,7 @@ use Rattle.cluster_types.specs.declared.message.Message.{Message}
 use Rattle.cluster_types.specs.declared.event.Reason.{Reason}
 use Rattle.cluster_types.specs.declared.entry.Input.TheVariants.{In}
 use Rattle.cluster_intake.specs.declared.understood.Understood.{Understood}
-use Rattle.message_defs.specs.Event.{event_of}
+use Rattle.cluster_defs.specs.Event.{event_of}
 use Rattle.cluster_defs.specs.Connections.{channel_on}
 use Rattle.cluster_defs.specs.Histories.{History, facts}
 use Rattle.cluster_store.specs.Stores.{StoreView}

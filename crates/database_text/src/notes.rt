@@ -1,7 +1,7 @@
 //! What entries do that bears on what a purge lets go.
 
 ghost use Rattle.std.specs.Prelude.{◌≡◌, ◌+◌, IfOk, Some, true};
-ghost use Rattle.message_defs.specs.Texts.{resubmit_id};
+ghost use Rattle.cluster_defs.specs.Texts.{resubmit_id};
 ghost use Rattle.cluster_defs.specs.Words.{once};
 ghost use Rattle.cluster_defs.specs.Purges.{copies_from};
 ghost use Rattle.database_text.specs.Notes.{note_as};
@@ -75,7 +75,7 @@ impl Copied {
 }
 
 /// The id of a copy, by its number.
-#[tactic(auto, unfolding(message_defs::specs::Texts::resubmit_id))]
+#[tactic(auto, unfolding(cluster_defs::specs::Texts::resubmit_id))]
 fn copy_id(alloc: Global, number: u64) -> Result<Text, AllocError>
     ensures { IfOk result (λ text. text ≡ resubmit_id number) }
 {

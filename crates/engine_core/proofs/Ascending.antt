@@ -11,9 +11,9 @@ use Rattle.json.specs.Lex.{tokens}
 use Rattle.serde_json.specs.Data.{Num, Data, Items, null, boolean, number, string, array, object, Members, no_members, member, put}
 use Rattle.serde_json.specs.Find.{get, get_member, as_object, as_str}
 use Rattle.serde_json.specs.Read.{of_json, of_items, of_members, number_of, max_depth, read}
-use Rattle.message_defs.specs.declared.fault.ReadError.TheVariants.{NotObject}
-use Rattle.message_defs.specs.Json.{Reading, reading_then, json_of, object_in, read_object}
-use Rattle.message_defs.specs.Fields.{or_bad, flag_from}
+use Rattle.cluster_defs.specs.declared.fault.ReadError.TheVariants.{NotObject}
+use Rattle.cluster_defs.specs.Json.{Reading, reading_then, json_of, object_in, read_object}
+use Rattle.cluster_defs.specs.Fields.{or_bad, flag_from}
 use Rattle.engine_core.specs.declared.request.Expression.{Expression}
 use Rattle.engine_core.specs.declared.request.ExecuteRequest.{ExecuteRequest}
 use Rattle.engine_core.specs.Request.{code_from, expression, expression_in, expressions_of, expressions_in, expressions_from, execute_from, read_execute, names_of}

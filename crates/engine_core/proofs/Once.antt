@@ -1,8 +1,8 @@
 -- An engine has one answer to a message.
 use Rattle.std.proofs.Common.{◌≡◌, ◌≢◌, ◌∙◌, ℕ, ℤ, List, [], ◌∷◌, Option, Some, None, Result, Ok, Err, refl, sym, ap, subst, min, ◌+◌, ◌-◌, ◌^◌}
 use Rattle.cluster_types.specs.declared.message.Message.{Message}
-use Rattle.message_defs.specs.Json.{Reading}
-use Rattle.message_defs.specs.Header.{read_header}
+use Rattle.cluster_defs.specs.Json.{Reading}
+use Rattle.cluster_defs.specs.Header.{read_header}
 use Rattle.arith_syntax.specs.declared.error.SyntaxError.{SyntaxError}
 use Rattle.arith_syntax.specs.declared.error.SyntaxError.TheVariants.{OutOfMemory}
 use Rattle.arith_syntax.specs.Grammar.{FirstFault}

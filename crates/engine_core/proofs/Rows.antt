@@ -13,10 +13,10 @@ use Rattle.arith_syntax.specs.Lexical.{constant, symbol, token_at, lexemes}
 use Rattle.arith_syntax.specs.Tree.{Constant, Operation}
 use Rattle.arith_syntax.specs.Grammar.{Grammar}
 use Rattle.arith_eval.specs.declared.error.ArithError.TheVariants.{NameError}
-use Rattle.message_defs.specs.declared.fault.ReadError.TheVariants.{Missing, BadField}
-use Rattle.message_defs.specs.Header.{read_header}
-use Rattle.message_defs.specs.Event.{is_request}
-use Rattle.message_defs.specs.Texts.{empty_object, header_text, outcome_content, reply_type}
+use Rattle.cluster_defs.specs.declared.fault.ReadError.TheVariants.{Missing, BadField}
+use Rattle.cluster_defs.specs.Header.{read_header}
+use Rattle.cluster_defs.specs.Event.{is_request}
+use Rattle.cluster_defs.specs.Texts.{empty_object, header_text, outcome_content, reply_type}
 use Rattle.engine_core.specs.declared.fault.Fault.TheVariants.{Arithmetic}
 use Rattle.engine_core.specs.Request.{read_execute, expression}
 use Rattle.engine_core.specs.Contents.{failed_content, executed_content, value_content}

@@ -1,11 +1,11 @@
 -- What an engine sends: its registration, and the answers to requests.
 use Rattle.std.specs.Prelude.{◌≡◌, ℕ, ◌+◌, ◌-◌, ◌^◌, min, ℤ, Bool, not, ◌&&◌, if◌then◌else◌, List, [], map, Option, Some, None, Result, Ok, Err, bytes_eq, codes}
 use Rattle.cluster_types.specs.declared.message.Message.{Message}
-use Rattle.message_defs.specs.declared.header.Header.{Header as HeaderType}
-use Rattle.message_defs.specs.Json.{Reading}
-use Rattle.message_defs.specs.Header.{read_header}
-use Rattle.message_defs.specs.Event.{is_request, fault_field}
-use Rattle.message_defs.specs.Texts.{empty_object, reply_type}
+use Rattle.cluster_defs.specs.declared.header.Header.{Header as HeaderType}
+use Rattle.cluster_defs.specs.Json.{Reading}
+use Rattle.cluster_defs.specs.Header.{read_header}
+use Rattle.cluster_defs.specs.Event.{is_request, fault_field}
+use Rattle.cluster_defs.specs.Texts.{empty_object, reply_type}
 use Rattle.arith_eval.specs.Names.{Environment}
 use Rattle.engine_core.specs.declared.fault.Fault.{Fault}
 use Rattle.engine_core.specs.declared.evaluation.Shown.{Shown}

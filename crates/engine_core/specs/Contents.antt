@@ -2,7 +2,7 @@
 use Rattle.std.specs.Prelude.{ℕ, ℤ, List, ◌∷◌, ◌++◌, map, Result, Ok, Err, codes, decimal}
 use Rattle.std.specs.Fmt.{signed_decimal}
 use Rattle.json.specs.Print.{quoted}
-use Rattle.message_defs.specs.Texts.{object_text, outcome_content}
+use Rattle.cluster_defs.specs.Texts.{object_text, outcome_content}
 use Rattle.engine_core.specs.declared.fault.Fault.{Fault}
 use Rattle.engine_core.specs.declared.evaluation.Shown.{Shown}
 use Rattle.engine_core.specs.Faults.{ename, evalue}

@@ -1,7 +1,7 @@
 -- The headers of an engine's messages.
 use Rattle.std.specs.Prelude.{ℕ, List, ◌++◌, codes, decimal}
 use Rattle.edges.specs.Date.{date_of}
-use Rattle.message_defs.specs.Texts.{resubmit_header}
+use Rattle.cluster_defs.specs.Texts.{resubmit_header}
 
 -- the id of an engine's message with a number; a registration has the number 0, and the replies count from 1
 unfoldable pub message_id : List ℕ → ℕ → List ℕ

@@ -2,9 +2,9 @@
 use Rattle.std.specs.Prelude.{ℕ, true, false, List, [], ◌∷◌, Option, Some, None, Ok, Err, map, option_map, option_and_then, codes}
 use Rattle.serde_json.specs.Data.{Data, Members, no_members, member}
 use Rattle.serde_json.specs.Find.{get, as_str, as_object}
-use Rattle.message_defs.specs.declared.fault.ReadError.TheVariants.{Missing}
-use Rattle.message_defs.specs.Json.{Reading, reading_then, read_object}
-use Rattle.message_defs.specs.Fields.{or_bad, flag_from}
+use Rattle.cluster_defs.specs.declared.fault.ReadError.TheVariants.{Missing}
+use Rattle.cluster_defs.specs.Json.{Reading, reading_then, read_object}
+use Rattle.cluster_defs.specs.Fields.{or_bad, flag_from}
 use Rattle.engine_core.specs.declared.request.Expression.{Expression}
 use Rattle.engine_core.specs.declared.request.ExecuteRequest.{ExecuteRequest}
 

@@ -2,7 +2,7 @@
 
 ghost use Rattle.std.specs.Prelude.{◌≡◌, ◌++◌, ◌∷◌, [], List, ℕ, map, codes, decimal, IfOk, OnOk, string_bytes};
 ghost use Rattle.json.specs.Print.{quoted};
-ghost use Rattle.message_defs.specs.Texts.{parted, object_text, outcome_content};
+ghost use Rattle.cluster_defs.specs.Texts.{parted, object_text, outcome_content};
 ghost use Rattle.jupyter_header.specs.Comma.{comma};
 ghost use Rattle.engine_core.specs.Faults.{ename, evalue};
 ghost use Rattle.engine_core.specs.Contents.{registration_content, failed_content, value_content, shown_content, shown_member, executed_content};
@@ -78,7 +78,7 @@ fn value_content(alloc: Global, value: i64) -> Result<String, AllocError>
 }
 
 /// What a user expression that has no value shows.
-#[tactic(auto, unfolding(message_defs::specs::Texts::outcome_content))]
+#[tactic(auto, unfolding(cluster_defs::specs::Texts::outcome_content))]
 fn fault_shown(alloc: Global, fault: &Fault) -> Result<String, AllocError>
     ensures { IfOk result (λ s. string_bytes s ≡ outcome_content (ename fault.now) (evalue fault.now)) }
 {

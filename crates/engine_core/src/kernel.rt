@@ -2,7 +2,7 @@
 
 ghost use Rattle.std.specs.Prelude.{◌≡◌, [], IfOk, codes};
 ghost use Rattle.arith_eval.specs.Names.{value_in};
-ghost use Rattle.message_defs.specs.Event.{fault_field};
+ghost use Rattle.cluster_defs.specs.Event.{fault_field};
 ghost use Rattle.engine_core.specs.Request.{read_execute};
 ghost use Rattle.engine_core.specs.State.{session};
 ghost use Rattle.engine_core.specs.Answer.{counted, Replies, Executes, AnswersExecution, kind_of, AnswersContent};
@@ -16,7 +16,7 @@ use crate::request::ExecuteRequest;
 use arith_eval::namespace::Namespace;
 use cluster_types::octets::Octets;
 use cluster_types::text::Text;
-use message_defs::fault::{Field, ReadError};
+use cluster_defs::fault::{Field, ReadError};
 use std::alloc::{AllocError, Global};
 
 /// The names that requests share, and how many requests were counted.

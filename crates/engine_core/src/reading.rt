@@ -3,14 +3,14 @@
 ghost use Rattle.std.specs.Prelude.{◌≡◌, ◌⊎◌, Ok, Err, Some, None, IfOk, IfErr, option_map, true, false, codes};
 ghost use Rattle.serde_json.specs.Find.{get};
 ghost use Rattle.serde_json.specs.View.{view, members_view};
-ghost use Rattle.message_defs.specs.Json.{json_of, read_object};
-ghost use Rattle.message_defs.specs.Fields.{flag_from};
+ghost use Rattle.cluster_defs.specs.Json.{json_of, read_object};
+ghost use Rattle.cluster_defs.specs.Fields.{flag_from};
 ghost use Rattle.engine_core.specs.Request.{code_from, expression_in, expressions_of, expressions_in, expressions_from, read_execute};
 
 use crate::request::{ExecuteRequest, Expression};
 use cluster_types::sequence::Sequence;
 use cluster_types::text::Text;
-use message_defs::fault::ReadError;
+use cluster_defs::fault::ReadError;
 use serde_json::{Map, Value};
 use std::alloc::{AllocError, Global};
 use std::str;

@@ -6,7 +6,7 @@ use Rattle.cluster_types.specs.declared.entry.Input.TheVariants.{In}
 use Rattle.cluster_types.specs.declared.event.Event.{Event}
 use Rattle.cluster_types.specs.declared.event.Query.{Query}
 use Rattle.cluster_types.specs.declared.event.Query.TheVariants.{Connection, Queue}
-use Rattle.message_defs.specs.Header.{message_type}
+use Rattle.cluster_defs.specs.Header.{message_type}
 
 -- the type of the message in an entry, empty where there is none
 abbrev pub type_on : Entry → List ℕ

@@ -8,7 +8,7 @@ use Rattle.cluster_types.specs.declared.entry.Entry.TheVariants.{Settle}
 use Rattle.cluster_types.specs.declared.verdict.Verdict.{Verdict}
 use Rattle.cluster_types.specs.declared.verdict.Cause.{Cause}
 use Rattle.std.specs.Prelude.{None}
-use Rattle.message_defs.specs.Texts.{submit_refused}
+use Rattle.cluster_defs.specs.Texts.{submit_refused}
 use Rattle.cluster_defs.specs.Words.{Id}
 use Rattle.cluster_defs.specs.Facts.{Facts}
 use Rattle.cluster_defs.specs.Steps.{step}

@@ -1,7 +1,7 @@
 //! Heartbeats.
 
 ghost use Rattle.std.specs.Prelude.{◌≡◌, IfOk, map};
-ghost use Rattle.message_defs.specs.Texts.{answer_id, beat_id, beat_request, beat_content};
+ghost use Rattle.cluster_defs.specs.Texts.{answer_id, beat_id, beat_request, beat_content};
 ghost use Rattle.cluster_defs.specs.Outs.{beat_out};
 
 use cluster_defs::engine::Engine;
@@ -13,7 +13,7 @@ use jupyter_header::contents::empty_object;
 use std::alloc::{AllocError, Global};
 
 /// The id of the answer to the input at a place after the last Open, where so many Opens stand.
-#[tactic(auto, unfolding(message_defs::specs::Texts::answer_id))]
+#[tactic(auto, unfolding(cluster_defs::specs::Texts::answer_id))]
 pub fn answer_id(alloc: Global, opens: u64, place: u64) -> Result<Text, AllocError>
     ensures { IfOk result (λ text. text ≡ answer_id opens place) }
 {
@@ -27,7 +27,7 @@ pub fn answer_id(alloc: Global, opens: u64, place: u64) -> Result<Text, AllocErr
 }
 
 /// The id of a beat to an engine.
-#[tactic(auto, unfolding(message_defs::specs::Texts::beat_id))]
+#[tactic(auto, unfolding(cluster_defs::specs::Texts::beat_id))]
 fn beat_id(alloc: Global, opens: u64, place: u64, engine: u32) -> Result<Text, AllocError>
     ensures { IfOk result (λ text. text ≡ beat_id opens place engine) }
 {
@@ -39,7 +39,7 @@ fn beat_id(alloc: Global, opens: u64, place: u64, engine: u32) -> Result<Text, A
     Text::from_string(text)
 }
 
-#[tactic(auto, unfolding(message_defs::specs::Texts::beat_request))]
+#[tactic(auto, unfolding(cluster_defs::specs::Texts::beat_request))]
 fn beat_request(alloc: Global) -> Result<Text, AllocError>
     ensures { IfOk result (λ text. text ≡ beat_request) }
 {
@@ -47,7 +47,7 @@ fn beat_request(alloc: Global) -> Result<Text, AllocError>
 }
 
 /// The content of a beat.
-#[tactic(auto, unfolding(message_defs::specs::Texts::beat_content))]
+#[tactic(auto, unfolding(cluster_defs::specs::Texts::beat_content))]
 fn beat_content(alloc: Global, beat: u64) -> Result<Octets, AllocError>
     ensures { IfOk result (λ content. content ≡ beat_content beat) }
 {

@@ -2,7 +2,7 @@
 
 ghost use Rattle.std.specs.Prelude.{◌≡◌, [], false, IfOk, Some, codes};
 ghost use Rattle.hex.specs.Hex.{encode_lower};
-ghost use Rattle.message_defs.specs.Texts.{submit_refused};
+ghost use Rattle.cluster_defs.specs.Texts.{submit_refused};
 ghost use Rattle.cluster_defs.specs.Acceptance.{acceptance as acceptance_of};
 ghost use Rattle.cluster_defs.specs.Queries.{refusal, demand_answer};
 ghost use Rattle.cluster_defs.specs.Outcomes.{outcome};
@@ -28,7 +28,7 @@ use hub_queries::limits::refusal;
 use std::alloc::{AllocError, Global};
 
 /// The type of the refusal of a request for a task.
-#[tactic(auto, unfolding(message_defs::specs::Texts::submit_refused))]
+#[tactic(auto, unfolding(cluster_defs::specs::Texts::submit_refused))]
 pub fn submit_refused(alloc: Global) -> Result<Text, AllocError>
     ensures { IfOk result (λ text. text ≡ submit_refused) }
 {

@@ -4,7 +4,7 @@ ghost use Rattle.std.specs.Prelude.{◌≡◌, ◌≤◌, ◌+◌, IfOk, Some, m
 ghost use Rattle.std.specs.Option.{option_copied};
 ghost use Rattle.cluster_types.specs.Limits.{last_moment};
 ghost use Rattle.cluster_types.specs.declared.event.Event.{Event as EventType};
-ghost use Rattle.message_defs.specs.Header.{message_type};
+ghost use Rattle.cluster_defs.specs.Header.{message_type};
 ghost use Rattle.cluster_defs.specs.Connections.{connection_on};
 ghost use Rattle.cluster_defs.specs.Histories.{History, Legal, facts};
 ghost use Rattle.cluster_defs.specs.Outs.{beat_out, message_outs, outs_as};

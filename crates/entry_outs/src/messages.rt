@@ -1,8 +1,8 @@
 //! What messages send.
 
 ghost use Rattle.std.specs.Prelude.{◌≡◌, ◌≢◌, [], IfOk, Some, Err, codes, decimal};
-ghost use Rattle.message_defs.specs.Header.{message_type};
-ghost use Rattle.message_defs.specs.Texts.{ok_content, join_content};
+ghost use Rattle.cluster_defs.specs.Header.{message_type};
+ghost use Rattle.cluster_defs.specs.Texts.{ok_content, join_content};
 ghost use Rattle.cluster_defs.specs.Purges.{Resubmitting};
 ghost use Rattle.cluster_defs.specs.Queries.{plain as plain_answer, refusal, limited, join_answer, leave_answer, purge_answer, resubmit_answer};
 ghost use Rattle.cluster_defs.specs.Outs.{answer_out};
@@ -36,7 +36,7 @@ use resubmission::purge::PurgePlan;
 use std::alloc::{AllocError, Global};
 
 /// The content of the answer to a registration.
-#[tactic(auto, unfolding(message_defs::specs::Texts::join_content))]
+#[tactic(auto, unfolding(cluster_defs::specs::Texts::join_content))]
 fn join_content(alloc: Global, number: u32) -> Result<Octets, AllocError>
     ensures { IfOk result (λ content. content ≡ join_content number) }
 {

@@ -1,7 +1,7 @@
 //! What questions about the cluster are answered.
 
 ghost use Rattle.std.specs.Prelude.{◌≡◌, map, IfOk, Some};
-ghost use Rattle.message_defs.specs.Header.{message_type};
+ghost use Rattle.cluster_defs.specs.Header.{message_type};
 ghost use Rattle.cluster_defs.specs.Queries.{bad_type, query_type, answer};
 ghost use Rattle.cluster_defs.specs.Outs.{answer_out};
 ghost use Rattle.cluster_state.specs.Plain.{facts_in};

@@ -5,7 +5,7 @@ use Rattle.std.specs.Option.{option_to_list}
 use Rattle.std.proofs.lemmas.List.{take_more, map-append, length-map}
 use Rattle.std.proofs.lemmas.List.Concat.{flat_map-append}
 use Rattle.std.proofs.lemmas.List.Elements.{filter_map-append}
-use Rattle.message_defs.specs.Texts.{parted, text_member}
+use Rattle.cluster_defs.specs.Texts.{parted, text_member}
 use Rattle.cluster_defs.specs.Purges.{Copy}
 use Rattle.cluster_defs.specs.RecordAnswers.{lives_in}
 use Rattle.jupyter_header.specs.Comma.{comma}

@@ -4,7 +4,7 @@ use Rattle.std.proofs.lemmas.Bool.Decides.{nat_tests}
 use Rattle.std.proofs.lemmas.List.{map-append}
 use Rattle.std.proofs.lemmas.List.Sums.{sum_by-append}
 use Rattle.json.specs.Print.{quoted}
-use Rattle.message_defs.specs.Texts.{parted, texts_list, engine_or_null, settled_member, result_content, Settled}
+use Rattle.cluster_defs.specs.Texts.{parted, texts_list, engine_or_null, settled_member, result_content, Settled}
 use Rattle.cluster_defs.specs.Words.{Id}
 use Rattle.cluster_types.specs.declared.config.Channel.{Channel}
 use Rattle.cluster_defs.specs.declared.answer.Answer.{Answer}

@@ -1,6 +1,6 @@
 -- How many ids a queue reply has, in the place of which.
 use Rattle.std.specs.Prelude.{length}
-use Rattle.message_defs.specs.Texts.{EngineQueue}
+use Rattle.cluster_defs.specs.Texts.{EngineQueue}
 use Rattle.hub_queries.specs.declared.lengths.Lengths.{Lengths}
 
 -- the lengths of an engine's lists

@@ -1,7 +1,7 @@
 -- What is written of the tasks of a result reply.
 use Rattle.std.specs.Prelude.{ℕ, List, ◌++◌, length, map, flat_map, Option, codes}
 use Rattle.json.specs.Print.{quoted}
-use Rattle.message_defs.specs.Texts.{parted, settled_member, engine_or_null, Settled}
+use Rattle.cluster_defs.specs.Texts.{parted, settled_member, engine_or_null, Settled}
 
 pub record Written : Type 0 where
   pub count : ℕ

@@ -1,7 +1,7 @@
 -- What is kept of some ids for a reply: how many they are and, where that is asked, their texts.
 use Rattle.std.specs.Prelude.{ℕ, List, [], length, map, Bool, true, false}
 use Rattle.json.specs.Print.{quoted}
-use Rattle.message_defs.specs.Texts.{parted}
+use Rattle.cluster_defs.specs.Texts.{parted}
 use Rattle.cluster_defs.specs.Words.{Id}
 
 pub record Tallied : Type 0 where

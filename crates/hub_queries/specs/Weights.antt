@@ -2,7 +2,7 @@
 use Rattle.std.specs.Prelude.{ℕ, ◌+◌, nat_lt, List, [], ◌∷◌, length, map, sum, Bool, ◌||◌}
 use Rattle.cluster_types.specs.declared.message.Message.{Message}
 use Rattle.cluster_types.specs.Limits.{body_limit, most_buffers}
-use Rattle.message_defs.specs.Texts.{Settled}
+use Rattle.cluster_defs.specs.Texts.{Settled}
 use Rattle.cluster_defs.specs.Queries.{answer_limit}
 use Rattle.hub_queries.specs.declared.weights.Measure.{Measure}
 use Rattle.hub_queries.specs.declared.weights.Measure.TheVariants.{Text, BufferCount, BufferOctets}

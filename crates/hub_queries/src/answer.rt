@@ -1,7 +1,7 @@
 //! The answer to a question.
 
 ghost use Rattle.std.specs.Prelude.{◌≡◌, [], codes, map, IfOk};
-ghost use Rattle.message_defs.specs.Texts.{ok_content};
+ghost use Rattle.cluster_defs.specs.Texts.{ok_content};
 ghost use Rattle.cluster_defs.specs.Queries.{plain, refusal, bad_name, limited};
 ghost use Rattle.cluster_defs.specs.RecordAnswers.{answer_in};
 ghost use Rattle.cluster_defs.specs.declared.answer.Answer.{Answer};
@@ -31,7 +31,7 @@ fn bad_name(channel: Channel) -> &'static str
 }
 
 /// The answer without a word more.
-#[tactic(auto, unfolding(message_defs::specs::Texts::ok_content))]
+#[tactic(auto, unfolding(cluster_defs::specs::Texts::ok_content))]
 pub fn ok_answer(alloc: Global) -> Result<Answer, AllocError>
     ensures { IfOk result (λ a. a ≡ plain ok_content) }
 {

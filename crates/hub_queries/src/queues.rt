@@ -3,7 +3,7 @@
 ghost use Rattle.std.specs.Prelude.{◌≡◌, ℕ, ◌++◌, ◌∷◌, [], Bool, not, find, List, map, flat_map, codes, decimal, IfOk, OnOk, string_bytes};
 ghost use Rattle.json.specs.Print.{quoted};
 ghost use Rattle.cluster_types.specs.declared.record.Record.{Record};
-ghost use Rattle.message_defs.specs.Texts.{parted, engine_member, connection_content, history_content, counted, queue_member, queue_content};
+ghost use Rattle.cluster_defs.specs.Texts.{parted, engine_member, connection_content, history_content, counted, queue_member, queue_content};
 ghost use Rattle.cluster_defs.specs.Words.{Id};
 ghost use Rattle.cluster_defs.specs.Queries.{plain, refusal};
 ghost use Rattle.cluster_defs.specs.RecordAnswers.{ids_where, queue_in, waits_in, queues_in, lives_in};
@@ -64,7 +64,7 @@ fn push_engines(text: &mut String, alloc: Global, live: &LiveEngines) -> Result<
 }
 
 /// The answer that lists the live engines.
-#[tactic(auto, unfolding(message_defs::specs::Texts::connection_content))]
+#[tactic(auto, unfolding(cluster_defs::specs::Texts::connection_content))]
 pub fn connection_answer(alloc: Global, live: &LiveEngines) -> Result<Answer, AllocError>
     ensures { IfOk result (λ a. a ≡ plain (connection_content live.now)) }
 {
@@ -75,7 +75,7 @@ pub fn connection_answer(alloc: Global, live: &LiveEngines) -> Result<Answer, Al
 }
 
 /// The content that lists the ids that aren't purged.
-#[tactic(auto, unfolding(message_defs::specs::Texts::history_content))]
+#[tactic(auto, unfolding(cluster_defs::specs::Texts::history_content))]
 fn history_text<R: Records>(alloc: Global, table: &R) -> Result<String, AllocError>
     ensures { IfOk result (λ s. string_bytes s ≡ history_content (ids_where (λ r. not r.purged) (R.records table.now))) }
 {

@@ -1,7 +1,7 @@
 //! The answers to a purge and to a resubmission.
 
 ghost use Rattle.std.specs.Prelude.{◌≡◌, ◌≢◌, ◌++◌, Some, IfOk, OnOk, map, string_bytes};
-ghost use Rattle.message_defs.specs.Texts.{parted, text_member, resubmit_content};
+ghost use Rattle.cluster_defs.specs.Texts.{parted, text_member, resubmit_content};
 ghost use Rattle.cluster_defs.specs.Purges.{Resubmitting, Makes};
 ghost use Rattle.cluster_defs.specs.Queries.{limited, purge_answer, resubmit_answer};
 ghost use Rattle.jupyter_header.specs.Comma.{comma};

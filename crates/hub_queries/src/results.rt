@@ -4,7 +4,7 @@ ghost use Rattle.std.specs.Prelude.{◌≡◌, ◌+◌, ◌<◌, ◌^◌, ◌++�
 ghost use Rattle.std.specs.Option.{option_copied, option_and_then, option_to_list};
 ghost use Rattle.cluster_types.specs.Verdicts.{verdict_name, cause_name};
 ghost use Rattle.cluster_types.specs.declared.record.Record.{Record};
-ghost use Rattle.message_defs.specs.Texts.{settled_member, engine_or_null, result_content, texts_list, Settled};
+ghost use Rattle.cluster_defs.specs.Texts.{settled_member, engine_or_null, result_content, texts_list, Settled};
 ghost use Rattle.cluster_defs.specs.Words.{Id, once};
 ghost use Rattle.cluster_defs.specs.Queries.{is_hub, limited};
 ghost use Rattle.cluster_defs.specs.RecordAnswers.{record_in, left_in, all_left, result_in, results_in, is_settled_record};
@@ -99,7 +99,7 @@ fn whole_member(alloc: Global, head: String, outcome: &SharedMessage) -> Result<
 }
 
 /// The member of a settled task.
-#[tactic(auto, unfolding(message_defs::specs::Texts::settled_member, crate::specs::Results::head_text))]
+#[tactic(auto, unfolding(cluster_defs::specs::Texts::settled_member, crate::specs::Results::head_text))]
 fn member(
     alloc: Global,
     task: &Record,
@@ -221,7 +221,7 @@ fn lists_text(alloc: Global, pending: &Ids, completed: &Ids) -> Result<String, A
 }
 
 /// The answer of its parts.
-#[tactic(auto, unfolding(message_defs::specs::Texts::result_content))]
+#[tactic(auto, unfolding(cluster_defs::specs::Texts::result_content))]
 fn joined(
     alloc: Global,
     pending: &Ids,

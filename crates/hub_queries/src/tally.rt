@@ -2,7 +2,7 @@
 
 ghost use Rattle.std.specs.Prelude.{◌≡◌, ◌+◌, ◌<◌, ◌^◌, ◌++◌, ◌∷◌, [], Bool, false, List, length, map, if◌then◌else◌, IfOk, OnOk, string_bytes};
 ghost use Rattle.json.specs.Print.{quoted};
-ghost use Rattle.message_defs.specs.Texts.{counted};
+ghost use Rattle.cluster_defs.specs.Texts.{counted};
 ghost use Rattle.cluster_defs.specs.Words.{Id};
 ghost use Rattle.jupyter_header.specs.Comma.{comma};
 ghost use Rattle.hub_queries.specs.Tallies.{tallied};

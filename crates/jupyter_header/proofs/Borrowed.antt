@@ -13,7 +13,7 @@ use Rattle.serde_json.specs.Data.{Num, negative, float, Data, number, array, obj
 use Rattle.serde_json.specs.Find.{get, get_member, as_null, as_bool, as_str, as_u64}
 use Rattle.serde_json.specs.Read.{number_of, number_from, is_integer, of_json, of_items, of_members, max_depth, read}
 use Rattle.serde_json.proofs.Views.{get_member-put, get_member-put_other}
-use Rattle.message_defs.specs.Fields.{whole_in}
+use Rattle.cluster_defs.specs.Fields.{whole_in}
 use Rattle.jupyter_header.specs.Borrowed.{data_of, items, members, in_range, items_in_range, members_in_range, view}
 
 -- a reading that is refused where something is out of range

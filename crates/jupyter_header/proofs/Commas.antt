@@ -4,7 +4,7 @@ use Rattle.std.proofs.lemmas.List.{take_more, map-append, length-map}
 use Rattle.std.proofs.lemmas.List.Concat.{flat_map-append}
 use Rattle.std.specs.List.{flat_map}
 use Rattle.json.specs.Print.{quoted}
-use Rattle.message_defs.specs.Texts.{parted}
+use Rattle.cluster_defs.specs.Texts.{parted}
 use Rattle.jupyter_header.specs.Comma.{comma}
 
 pub parted_more : (pieces : List (List ℕ)) (piece : List ℕ) → parted (pieces ++ piece ∷ []) ≡ parted pieces ++ (comma (length pieces) ++ piece)

@@ -2,7 +2,7 @@
 use Rattle.std.proofs.Common.{◌≡◌, ◌<◌, ◌+◌, ℕ, List, [], ◌∷◌, ◌++◌, length, take, map, get_or, arith, sym, ap, ◌∙◌, length-take-le}
 use Rattle.jupyter_header.proofs.Commas.{parted_more}
 use Rattle.jupyter_header.specs.Comma.{comma}
-use Rattle.message_defs.specs.Texts.{parted}
+use Rattle.cluster_defs.specs.Texts.{parted}
 use Rattle.std.proofs.lemmas.List.{take_more, map-append, length-map}
 
 pub members_more : {X : Type 0} (f : X → List ℕ) (xs : List X) (place : ℕ) (x : X) → place < length xs → x ≡ get_or xs place x

@@ -2,7 +2,7 @@
 use Rattle.std.proofs.Common.{◌≡◌, ℕ, List, [], ◌∷◌, ◌++◌, Option, Some, is_some, cond, Bool, true, false, not, ◌||◌, if◌then◌else◌, bytes_eq, refl, sym, ap, ◌∙◌, append-nil}
 use Rattle.std.specs.List.{list_any}
 use Rattle.std.proofs.lemmas.Slice.Eq.{bytes_eq-Decides}
-use Rattle.message_defs.specs.Submit.{with_new}
+use Rattle.cluster_defs.specs.Submit.{with_new}
 
 -- whether an id stands in a list
 abbrev pub is_listed : List ℕ → List (List ℕ) → Bool

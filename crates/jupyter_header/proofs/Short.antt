@@ -3,8 +3,8 @@ use Rattle.std.proofs.Common.{◌≡◌, ◌<◌, ◌≤◌, List, length, None,
 use Rattle.serde_json.specs.Events.{items_len}
 use Rattle.jupyter_header.specs.Borrowed.{items_view}
 use Rattle.json.specs.declared.value.Value.{Value}
-use Rattle.message_defs.specs.Fields.{id_in, each_of}
-use Rattle.message_defs.specs.Submit.{at_most_4096}
+use Rattle.cluster_defs.specs.Fields.{id_in, each_of}
+use Rattle.cluster_defs.specs.Submit.{at_most_4096}
 
 length_of : {A : Type 0} (values : List (Value A)) → items_len (items_view values) ≡ length values
 length_of [] = refl

@@ -1,7 +1,7 @@
 -- Steps of a walk that takes fractions of timeouts off.
 use Rattle.std.proofs.Common.{◌≡◌, ◌<◌, ◌≤◌, ◌+◌, ◌&&◌, ℕ, List, [], ◌∷◌, ◌++◌, length, take, drop, get_or, true, false, true≢false, arith, refl, sym, ◌∙◌, take-add, drop-drop, length-drop}
 use Rattle.std.proofs.lemmas.List.{drop_more, take_more}
-use Rattle.message_defs.specs.Points.{begins_with_fraction, ends_in_timeout, whole_behind}
+use Rattle.cluster_defs.specs.Points.{begins_with_fraction, ends_in_timeout, whole_behind}
 
 -- a fraction is taken off
 off : (front text : List ℕ) → (begins_with_fraction text && ends_in_timeout front) ≡ true → whole_behind front text ≡ whole_behind (front ++ take 2 text) (drop 2 text)

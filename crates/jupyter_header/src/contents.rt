@@ -2,7 +2,7 @@
 
 ghost use Rattle.std.specs.Prelude.{◌≡◌, ◌++◌, ◌∷◌, [], IfOk, OnOk, codes, map, string_bytes};
 ghost use Rattle.json.specs.Print.{quoted};
-ghost use Rattle.message_defs.specs.Texts.{parted, empty_object, texts_list, error_content, outcome_content};
+ghost use Rattle.cluster_defs.specs.Texts.{parted, empty_object, texts_list, error_content, outcome_content};
 ghost use Rattle.jupyter_header.specs.Comma.{comma};
 
 use crate::write::quoted;
@@ -12,7 +12,7 @@ use cluster_types::text::Text;
 use std::alloc::{AllocError, Global};
 
 /// An object without members.
-#[tactic(auto, unfolding(message_defs::specs::Texts::empty_object))]
+#[tactic(auto, unfolding(cluster_defs::specs::Texts::empty_object))]
 pub fn empty_object() -> &'static [u8]
     ensures { result.now ≡ empty_object }
 {
@@ -63,7 +63,7 @@ fn error_text(alloc: Global, ename: &str, evalue: &str) -> Result<String, AllocE
 }
 
 /// The content of a refusal: its name, its value, and the ids concerned.
-#[tactic(auto, unfolding(message_defs::specs::Texts::error_content))]
+#[tactic(auto, unfolding(cluster_defs::specs::Texts::error_content))]
 pub fn error_content(
     alloc: Global,
     ename: &str,
@@ -83,7 +83,7 @@ pub fn error_content(
 }
 
 /// The content of an outcome that the controller makes.
-#[tactic(auto, unfolding(message_defs::specs::Texts::outcome_content))]
+#[tactic(auto, unfolding(cluster_defs::specs::Texts::outcome_content))]
 pub fn outcome_content(alloc: Global, ename: &str, evalue: &str) -> Result<Octets, AllocError>
     ensures { IfOk result (λ o. o ≡ outcome_content ename.now evalue.now) }
 {

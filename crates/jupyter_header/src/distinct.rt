@@ -1,7 +1,7 @@
 //! Lists of ids without repeats.
 
 ghost use Rattle.std.specs.Prelude.{◌≡◌, ◌++◌, ◌∷◌, [], if◌then◌else◌, IfOk, OnOk};
-ghost use Rattle.message_defs.specs.Submit.{once};
+ghost use Rattle.cluster_defs.specs.Submit.{once};
 
 use cluster_types::message::Ids;
 use cluster_types::sequence::Sequence;

@@ -3,12 +3,12 @@
 ghost use Rattle.std.specs.Prelude.{◌≡◌, ◌⊎◌, ◌≤◌, Ok, Err, Some, None, IfOk, IfErr, length, option_map, codes};
 ghost use Rattle.serde_json.specs.Find.{get};
 ghost use Rattle.jupyter_header.specs.Borrowed.{view};
-ghost use Rattle.message_defs.specs.Fields.{is_id, id_in, id_from, text_from, flag_from, whole_from};
+ghost use Rattle.cluster_defs.specs.Fields.{is_id, id_in, id_from, text_from, flag_from, whole_from};
 
 use crate::values::{flag, get, is_null, text, whole};
 use cluster_types::text::Text;
 use json::Value;
-use message_defs::fault::ReadError;
+use cluster_defs::fault::ReadError;
 use std::alloc::{AllocError, Global};
 
 /// The id that a value is.

@@ -1,19 +1,19 @@
 //! The header of a message.
 
 ghost use Rattle.std.specs.Prelude.{◌≡◌, ◌⊎◌, Ok, Err, IfOk, IfErr, codes};
-ghost use Rattle.message_defs.specs.Header.{read_header};
+ghost use Rattle.cluster_defs.specs.Header.{read_header};
 
 use crate::fields::{id_field, text_field};
 use crate::object::read_object;
 use json::Scratch;
-use message_defs::fault::ReadError;
-use message_defs::header::Header;
+use cluster_defs::fault::ReadError;
+use cluster_defs::header::Header;
 use std::alloc::Global;
 
 /// The header that the octets are.
 ///
 /// The ids are `msg_id` and `msg_type`, in this order; `session` and `username` may be absent or anything.
-#[tactic(auto, unfolding(message_defs::specs::Header::read_header))]
+#[tactic(auto, unfolding(cluster_defs::specs::Header::read_header))]
 pub fn read_header(alloc: Global, octets: &[u8], scratch: &mut Scratch) -> Result<Header, ReadError>
     ensures ok { IfOk result (λ h. read_header octets.now ≡ Ok h) }
     ensures err { IfErr result (λ e. (e ≡ ReadError.OutOfMemory) ⊎ (read_header octets.now ≡ Err e)) }

@@ -3,8 +3,8 @@
 ghost use Rattle.std.specs.Prelude.{◌≡◌, ◌⊎◌, Ok, Err, Some, None, IfOk, IfErr, OnOk, IsSome, option_map, codes};
 ghost use Rattle.serde_json.specs.Find.{get, as_str, as_array};
 ghost use Rattle.jupyter_header.specs.Borrowed.{view, items_view};
-ghost use Rattle.message_defs.specs.Fields.{whole_in};
-ghost use Rattle.message_defs.specs.Hub.{request_of, queue_from, result_from, is_all, is_no_items, lists_none, none_listed, ids_or_all, purge_from, resubmit_from, join_from, number_from, pong_from, unread, content_from, read_content, read_hub};
+ghost use Rattle.cluster_defs.specs.Fields.{whole_in};
+ghost use Rattle.cluster_defs.specs.Hub.{request_of, queue_from, result_from, is_all, is_no_items, lists_none, none_listed, ids_or_all, purge_from, resubmit_from, join_from, number_from, pong_from, unread, content_from, read_content, read_hub};
 
 use crate::fields::{bad, flag_field, id_field, missing};
 use crate::kinds::request_of;
@@ -14,9 +14,9 @@ use crate::values::{get, is_null, items, text, whole};
 use cluster_types::message::Ids;
 use cluster_types::sequence::Sequence;
 use json::{Scratch, Value};
-use message_defs::content::HubContent;
-use message_defs::fault::ReadError;
-use message_defs::request::Request;
+use cluster_defs::content::HubContent;
+use cluster_defs::fault::ReadError;
+use cluster_defs::hub_request::Request;
 use std::alloc::Global;
 
 /// What a question about queues asks for.
@@ -181,7 +181,7 @@ fn read_fields(alloc: Global, request: Request, value: &Value<'_>) -> Result<Hub
 /// The content of a request.
 ///
 /// `connection_request`, `history_request` and `shutdown_request` say all by their type: their content isn't read.
-#[tactic(auto, unfolding(message_defs::specs::Hub::read_content))]
+#[tactic(auto, unfolding(cluster_defs::specs::Hub::read_content))]
 pub fn read_content(
     alloc: Global,
     request: Request,

@@ -1,16 +1,16 @@
 //! What a `msg_type` tells.
 
 ghost use Rattle.std.specs.Prelude.{◌≡◌, IfOk};
-ghost use Rattle.message_defs.specs.Event.{is_request, is_reply, is_leave};
-ghost use Rattle.message_defs.specs.Hub.{request_of};
-ghost use Rattle.message_defs.specs.Texts.{stem_of, reply_type};
+ghost use Rattle.cluster_defs.specs.Event.{is_request, is_reply, is_leave};
+ghost use Rattle.cluster_defs.specs.Hub.{request_of};
+ghost use Rattle.cluster_defs.specs.Texts.{stem_of, reply_type};
 
 use cluster_types::text::Text;
-use message_defs::request::Request;
+use cluster_defs::hub_request::Request;
 use std::alloc::{AllocError, Global};
 
 /// Whether it ends in `_request`.
-#[tactic(auto, unfolding(message_defs::specs::Event::is_request))]
+#[tactic(auto, unfolding(cluster_defs::specs::Event::is_request))]
 pub fn is_request(msg_type: &Text) -> bool
     ensures { result ≡ is_request msg_type.now }
 {
@@ -18,7 +18,7 @@ pub fn is_request(msg_type: &Text) -> bool
 }
 
 /// Whether it ends in `_reply`.
-#[tactic(auto, unfolding(message_defs::specs::Event::is_reply))]
+#[tactic(auto, unfolding(cluster_defs::specs::Event::is_reply))]
 pub fn is_reply(msg_type: &Text) -> bool
     ensures { result ≡ is_reply msg_type.now }
 {
@@ -26,7 +26,7 @@ pub fn is_reply(msg_type: &Text) -> bool
 }
 
 /// Whether it is `unregistration_request`.
-#[tactic(auto, unfolding(message_defs::specs::Event::is_leave))]
+#[tactic(auto, unfolding(cluster_defs::specs::Event::is_leave))]
 pub fn is_leave(msg_type: &Text) -> bool
     ensures { result ≡ is_leave msg_type.now }
 {
@@ -34,7 +34,7 @@ pub fn is_leave(msg_type: &Text) -> bool
 }
 
 /// The request whose content is read that it names.
-#[tactic(auto, unfolding(message_defs::specs::Hub::request_of))]
+#[tactic(auto, unfolding(cluster_defs::specs::Hub::request_of))]
 pub fn request_of(msg_type: &str) -> Option<Request>
     ensures { result ≡ request_of msg_type.now }
 {
@@ -72,7 +72,7 @@ fn stem_of(msg_type: &str) -> &str
 }
 
 /// The type of the answer to a message: `_reply` in the place of `_request`, else appended.
-#[tactic(auto, unfolding(message_defs::specs::Texts::reply_type))]
+#[tactic(auto, unfolding(cluster_defs::specs::Texts::reply_type))]
 pub fn reply_type(alloc: Global, msg_type: &Text) -> Result<Text, AllocError>
     ensures { IfOk result (λ t. t ≡ reply_type msg_type.now) }
 {

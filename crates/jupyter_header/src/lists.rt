@@ -3,8 +3,8 @@
 ghost use Rattle.std.specs.Prelude.{◌≡◌, ◌⊎◌, Ok, Err, Some, None, IfOk, IfErr, length, option_map};
 ghost use Rattle.serde_json.specs.Find.{get};
 ghost use Rattle.jupyter_header.specs.Borrowed.{view, items_view};
-ghost use Rattle.message_defs.specs.Fields.{id_in, each_of, list_in, list_from, ids_from};
-ghost use Rattle.message_defs.specs.Hub.{engine_in};
+ghost use Rattle.cluster_defs.specs.Fields.{id_in, each_of, list_in, list_from, ids_from};
+ghost use Rattle.cluster_defs.specs.Hub.{engine_in};
 
 use crate::fields::{bad, id_in, missing};
 use crate::values::{get, is_null, items, whole};
@@ -12,7 +12,7 @@ use cluster_types::message::{Engines, Ids};
 use cluster_types::sequence::Sequence;
 use cluster_types::text::Text;
 use json::Value;
-use message_defs::fault::ReadError;
+use cluster_defs::fault::ReadError;
 use std::alloc::{AllocError, Global};
 
 /// The ids that the values are, where each is one.

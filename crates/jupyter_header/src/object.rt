@@ -1,13 +1,13 @@
 //! JSON texts that are objects.
 
 ghost use Rattle.std.specs.Prelude.{◌≡◌, ◌⊎◌, Ok, Err, Some, None, IfOk, IfErr};
-ghost use Rattle.message_defs.specs.Json.{json_of, read_object};
+ghost use Rattle.cluster_defs.specs.Json.{json_of, read_object};
 ghost use Rattle.serde_json.specs.Read.{read};
 ghost use Rattle.jupyter_header.specs.Borrowed.{view};
 
 use crate::values::{in_range, is_object};
 use json::{Error, Reader, Scratch, Value};
-use message_defs::fault::ReadError;
+use cluster_defs::fault::ReadError;
 use std::alloc::Global;
 use std::str;
 

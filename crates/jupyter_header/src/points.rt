@@ -3,7 +3,7 @@
 ghost use Rattle.std.specs.Prelude.{◌≡◌, ◌<◌, ◌≤◌, ◌&&◌, length, take, drop, IfOk, codes};
 ghost use Rattle.std.specs.Char.{is_ascii_digit};
 ghost use Rattle.std.specs.List.{suffix_len};
-ghost use Rattle.message_defs.specs.Points.{ends_in_name, ends_in_timeout, begins_with_fraction, whole_timeouts};
+ghost use Rattle.cluster_defs.specs.Points.{ends_in_name, ends_in_timeout, begins_with_fraction, whole_timeouts};
 
 use std::alloc::{AllocError, Global};
 
@@ -20,7 +20,7 @@ fn digits_at_end(text: &[u8]) -> usize
 }
 
 /// Whether a text ends in `"timeout":` and at most one space.
-#[tactic(auto, unfolding(message_defs::specs::Points::ends_in_name))]
+#[tactic(auto, unfolding(cluster_defs::specs::Points::ends_in_name))]
 fn ends_in_name(text: &[u8]) -> bool
     ensures { result ≡ ends_in_name text.now }
 {

@@ -3,19 +3,19 @@
 ghost use Rattle.std.specs.Prelude.{◌≡◌, ◌⊎◌, Ok, Err, IfOk, IfErr, option_map, option_and_then, codes};
 ghost use Rattle.serde_json.specs.Find.{get, as_str, as_bool};
 ghost use Rattle.jupyter_header.specs.Borrowed.{view};
-ghost use Rattle.message_defs.specs.Reply.{is_false, status_of, status_from, read_task, read_declined, read_status, read_reply};
+ghost use Rattle.cluster_defs.specs.Reply.{is_false, status_of, status_from, read_task, read_declined, read_status, read_reply};
 
 use crate::fields::{bad, id_field, missing};
 use crate::object::read_object;
 use crate::values::{flag, get, text};
 use cluster_types::text::Text;
 use json::{Scratch, Value};
-use message_defs::content::ReplyMeta;
-use message_defs::fault::ReadError;
+use cluster_defs::content::ReplyMeta;
+use cluster_defs::fault::ReadError;
 use std::alloc::Global;
 
 /// The id of the task, from the header of the request.
-#[tactic(auto, unfolding(message_defs::specs::Reply::read_task))]
+#[tactic(auto, unfolding(cluster_defs::specs::Reply::read_task))]
 fn read_task(alloc: Global, parent: &[u8], scratch: &mut Scratch) -> Result<Text, ReadError>
     ensures ok { IfOk result (λ t. read_task parent.now ≡ Ok t) }
     ensures err { IfErr result (λ e. (e ≡ ReadError.OutOfMemory) ⊎ (read_task parent.now ≡ Err e)) }
@@ -32,7 +32,7 @@ fn is_declined(value: &Value<'_>) -> bool
 }
 
 /// Whether the engine declined the task.
-#[tactic(auto, unfolding(message_defs::specs::Reply::read_declined))]
+#[tactic(auto, unfolding(cluster_defs::specs::Reply::read_declined))]
 fn read_declined(alloc: Global, metadata: &[u8], scratch: &mut Scratch) -> Result<bool, ReadError>
     ensures ok { IfOk result (λ b. read_declined metadata.now ≡ Ok b) }
     ensures err { IfErr result (λ e. (e ≡ ReadError.OutOfMemory) ⊎ (read_declined metadata.now ≡ Err e)) }
@@ -67,7 +67,7 @@ fn status_field(alloc: Global, value: &Value<'_>) -> Result<bool, ReadError>
 }
 
 /// Whether the task ran without an error.
-#[tactic(auto, unfolding(message_defs::specs::Reply::read_status))]
+#[tactic(auto, unfolding(cluster_defs::specs::Reply::read_status))]
 fn read_status(alloc: Global, content: &[u8], scratch: &mut Scratch) -> Result<bool, ReadError>
     ensures ok { IfOk result (λ b. read_status content.now ≡ Ok b) }
     ensures err { IfErr result (λ e. (e ≡ ReadError.OutOfMemory) ⊎ (read_status content.now ≡ Err e)) }

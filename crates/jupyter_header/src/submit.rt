@@ -3,8 +3,8 @@
 ghost use Rattle.std.specs.Prelude.{◌≡◌, ◌⊎◌, ◌≤◌, ◌∷◌, [], Ok, Err, Some, None, IfOk, IfErr, length, codes};
 ghost use Rattle.serde_json.specs.Find.{get};
 ghost use Rattle.jupyter_header.specs.Borrowed.{view, items_view};
-ghost use Rattle.message_defs.specs.Fields.{whole_from};
-ghost use Rattle.message_defs.specs.Submit.{at_most_4096, listed_by, listed_from, plain_dependency, flagged_dependency, dependency_from, submit_from, read_submit};
+ghost use Rattle.cluster_defs.specs.Fields.{whole_from};
+ghost use Rattle.cluster_defs.specs.Submit.{at_most_4096, listed_by, listed_from, plain_dependency, flagged_dependency, dependency_from, submit_from, read_submit};
 
 use crate::distinct::once;
 use crate::fields::{bad, flag_field, id_in, whole_field};
@@ -17,8 +17,8 @@ use cluster_types::message::Ids;
 use cluster_types::sequence::Sequence;
 use cluster_types::text::Text;
 use json::{Scratch, Value};
-use message_defs::content::SubmitMeta;
-use message_defs::fault::ReadError;
+use cluster_defs::content::SubmitMeta;
+use cluster_defs::fault::ReadError;
 use std::alloc::{AllocError, Global};
 
 /// The greatest number of ids that a dependency lists.
@@ -161,7 +161,7 @@ fn submit_fields(alloc: Global, value: &Value<'_>) -> Result<SubmitMeta, ReadErr
 ///
 /// The fields are `after`, `follow`, `targets`, `timeout` and `retries`, in this order; each may be absent. A `.0`
 /// behind the digits of a timeout is read over.
-#[tactic(auto, unfolding(message_defs::specs::Submit::read_submit))]
+#[tactic(auto, unfolding(cluster_defs::specs::Submit::read_submit))]
 pub fn read_submit(
     alloc: Global,
     octets: &[u8],

@@ -5,7 +5,7 @@ ghost use Rattle.fast_float.specs.Text.{minus};
 ghost use Rattle.json.specs.Value.{value_view, items_view as json_items, members_view as json_members};
 ghost use Rattle.serde_json.specs.Find.{get, as_null, as_bool, as_str, as_array, as_object, as_u64};
 ghost use Rattle.serde_json.specs.Read.{number_of, number_from};
-ghost use Rattle.message_defs.specs.Fields.{whole_in};
+ghost use Rattle.cluster_defs.specs.Fields.{whole_in};
 ghost use Rattle.jupyter_header.specs.Borrowed.{in_range, items_in_range, members_in_range, view, items_view};
 
 use fast_float::Numeral;

@@ -2,7 +2,7 @@
 
 ghost use Rattle.std.specs.Prelude.{◌≡◌, ◌++◌, IfOk, codes, string_bytes};
 ghost use Rattle.json.specs.Print.{quoted};
-ghost use Rattle.message_defs.specs.Texts.{header_text, made_header, resubmit_header};
+ghost use Rattle.cluster_defs.specs.Texts.{header_text, made_header, resubmit_header};
 
 use cluster_types::octets::Octets;
 use cluster_types::text::Text;

@@ -7,8 +7,8 @@ use Rattle.cluster_types.specs.declared.event.Dep.{Dep}
 use Rattle.cluster_types.specs.declared.message.Message.{Message}
 use Rattle.command_words.specs.declared.standing.Action.{Action}
 use Rattle.command_words.specs.declared.standing.Action.TheVariants.{Run, Result, Purge, Resubmit, Queue, History, Shutdown}
-use Rattle.message_defs.specs.declared.content.SubmitMeta.{SubmitMeta}
-use Rattle.message_defs.specs.Texts.{texts_list, empty_object}
+use Rattle.cluster_defs.specs.declared.content.SubmitMeta.{SubmitMeta}
+use Rattle.cluster_defs.specs.Texts.{texts_list, empty_object}
 use Rattle.edges.specs.Spelling.{be64}
 use Rattle.thread_edges.specs.Series.{Draws}
 

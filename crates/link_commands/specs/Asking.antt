@@ -10,8 +10,8 @@ use Rattle.edges.specs.Streams.{Took, Added}
 use Rattle.link_messages.specs.Message.{signed}
 use Rattle.link_messages.specs.Written.{AddedFront}
 use Rattle.jupyter_parts.specs.Signed.{message_frames, read_parts}
-use Rattle.message_defs.specs.Header.{read_header}
-use Rattle.message_defs.specs.Reply.{read_status}
+use Rattle.cluster_defs.specs.Header.{read_header}
+use Rattle.cluster_defs.specs.Reply.{read_status}
 use Rattle.zmtp_peer.specs.declared.fault.PeerFault.{PeerFault}
 use Rattle.zmtp_peer.specs.Message.{message_written}
 use Rattle.zmtp_peer.specs.PeerStream.{Talk, sent, identity, messages, peer_stream}

@@ -16,7 +16,7 @@ use cluster_types::shared_message::SharedMessage;
 use cluster_types::text::Text;
 use command_words::standing::Action;
 use jupyter_header::contents::texts_list;
-use message_defs::content::SubmitMeta;
+use cluster_defs::content::SubmitMeta;
 use std::alloc::{AllocError, Global};
 
 /// The session of the program's client.
@@ -124,7 +124,7 @@ pub fn channel_for(action: &Action) -> u8
 }
 
 /// The message for an action, under the id of random octets.
-#[tactic(auto, unfolding(crate::specs::Actions::result_request, crate::specs::Actions::purge_request, crate::specs::Actions::resubmit_request, crate::specs::Actions::queue_request, crate::specs::Actions::history_request, crate::specs::Actions::shutdown_request, message_defs::specs::Texts::empty_object))]
+#[tactic(auto, unfolding(crate::specs::Actions::result_request, crate::specs::Actions::purge_request, crate::specs::Actions::resubmit_request, crate::specs::Actions::queue_request, crate::specs::Actions::history_request, crate::specs::Actions::shutdown_request, cluster_defs::specs::Texts::empty_object))]
 pub fn message_for(
     alloc: Global,
     action: &Action,

@@ -11,7 +11,7 @@ use hmac_sign::Key;
 use json::Scratch;
 use jupyter_header::header::read_header;
 use link_messages::message::signed;
-use message_defs::fault::ReadError;
+use cluster_defs::fault::ReadError;
 use std::alloc::{AllocError, Global};
 use zmtp_peer::fault::PeerFault;
 

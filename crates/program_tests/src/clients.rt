@@ -12,7 +12,7 @@ use cluster_types::event::Dep;
 use cluster_types::sequence::Sequence;
 use cluster_types::shared_message::SharedMessage;
 use cluster_types::text::Text;
-use message_defs::content::SubmitMeta;
+use cluster_defs::content::SubmitMeta;
 use std::alloc::Global;
 use std::process::Abort;
 

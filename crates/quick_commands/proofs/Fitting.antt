@@ -12,7 +12,7 @@ use Rattle.hex.proofs.HexLemmas.{length-encode_with}
 use Rattle.json.specs.Print.{escape_byte, quoted}
 use Rattle.hmac_sign.specs.Hmac.{with_pad, hmac, tag_of}
 use Rattle.edges.specs.Date.{from_month, from_year, civil_date, digits as date_digits, day_text, time_text, date_of}
-use Rattle.message_defs.specs.Texts.{empty_object, header_text}
+use Rattle.cluster_defs.specs.Texts.{empty_object, header_text}
 use Rattle.jupyter_parts.specs.Signed.{delimiter, signature}
 use Rattle.engine_core.specs.Headers.{message_id}
 use Rattle.engine_core.specs.Contents.{registration_content}

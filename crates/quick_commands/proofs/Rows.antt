@@ -1,7 +1,7 @@
 -- Worked rows: numbers that are drawn, and a task.
 use Rattle.std.proofs.Common.{◌≡◌, List, ℕ, codes, refl}
 use Rattle.std.specs.Fmt.{digits}
-use Rattle.message_defs.specs.Texts.{empty_object}
+use Rattle.cluster_defs.specs.Texts.{empty_object}
 use Rattle.quick_commands.specs.Draws.{next_draw, draw}
 use Rattle.quick_commands.specs.Tasks.{task_header, after_text, task_metadata, task_content}
 

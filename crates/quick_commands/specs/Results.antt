@@ -6,7 +6,7 @@ use Rattle.serde_json.specs.Find.{get, as_str}
 use Rattle.cluster_types.specs.declared.out.Out.{Out}
 use Rattle.cluster_types.specs.declared.out.Out.TheVariants.{Pass, Made}
 use Rattle.cluster_defs.specs.Outs.{conn_of}
-use Rattle.message_defs.specs.Json.{json_of}
+use Rattle.cluster_defs.specs.Json.{json_of}
 
 abbrev pub content_of : Out → List ℕ
 content_of (Pass conn message) = message.content

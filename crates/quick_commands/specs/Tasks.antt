@@ -1,7 +1,7 @@
 -- The messages that submit the tasks, by the number of the task, from 1 on, and the number that was drawn for it.
 use Rattle.std.specs.Prelude.{ℕ, ◌-◌, ◌/◌, ◌%◌, List, [], ◌++◌, nat_le, if◌then◌else◌, codes, decimal}
 use Rattle.cluster_types.specs.declared.message.Message.{Message}
-use Rattle.message_defs.specs.Texts.{empty_object}
+use Rattle.cluster_defs.specs.Texts.{empty_object}
 
 unfoldable pub task_header : ℕ → List ℕ
 task_header k =

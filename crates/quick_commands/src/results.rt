@@ -4,7 +4,7 @@ ghost use Rattle.std.specs.Prelude.{◌≡◌, ◌+ℤ◌, IfOk, OnOk, option_ma
 ghost use Rattle.std.specs.Int.{w64, int_wrap};
 ghost use Rattle.serde_json.specs.Find.{get, as_str};
 ghost use Rattle.serde_json.specs.View.{view};
-ghost use Rattle.message_defs.specs.Json.{json_of};
+ghost use Rattle.cluster_defs.specs.Json.{json_of};
 ghost use Rattle.quick_commands.specs.Results.{content_of, result_text, IsInteger, is_to_client, IsAdded};
 
 use cluster_types::out::Out;

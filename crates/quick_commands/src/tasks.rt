@@ -36,7 +36,7 @@ fn after_text(alloc: Global, number: u32) -> Result<String, AllocError>
     Ok(text)
 }
 
-#[tactic(auto, unfolding(message_defs::specs::Texts::empty_object))]
+#[tactic(auto, unfolding(cluster_defs::specs::Texts::empty_object))]
 fn task_metadata(alloc: Global, number: u32) -> Result<String, AllocError>
     ensures { IfOk result (λ s. string_bytes s ≡ task_metadata number) }
 {

@@ -1,6 +1,6 @@
 -- One more copy.
 use Rattle.std.proofs.Common.{◌≡◌, ◌+◌, ℕ, List, [], ◌∷◌, ◌++◌, length, suc, ap, ◌∙◌, arith}
-use Rattle.message_defs.specs.Texts.{resubmit_id}
+use Rattle.cluster_defs.specs.Texts.{resubmit_id}
 use Rattle.cluster_defs.specs.Words.{Id}
 use Rattle.cluster_defs.specs.Purges.{Copy, copies_from}
 

@@ -2,8 +2,8 @@
 -- behind it.
 use Rattle.std.proofs.Common.{◌≡◌, List, [], ◌∷◌, ◌++◌, fold, cond, Bool, true, false, not, ◌||◌, bytes_eq, filter, refl, sym, ap, ◌∙◌, append_assoc, append-nil}
 use Rattle.std.proofs.lemmas.Slice.Eq.{bytes_eq-Decides}
-use Rattle.message_defs.specs.Submit.{with_new}
-use Rattle.message_defs.specs.Submit as submit
+use Rattle.cluster_defs.specs.Submit.{with_new}
+use Rattle.cluster_defs.specs.Submit as submit
 use Rattle.cluster_defs.specs.Words.{Id, is_listed, once}
 
 -- equality of texts doesn't depend on the order

@@ -1,7 +1,7 @@
 //! The plan of a resubmission.
 
 ghost use Rattle.std.specs.Prelude.{◌≡◌, ◌⊎◌, ◌+◌, ◌<◌, ◌^◌, ℕ, Some, IfOk, IfErr, OnOk, length, map, nat_lt};
-ghost use Rattle.message_defs.specs.Texts.{resubmit_id};
+ghost use Rattle.cluster_defs.specs.Texts.{resubmit_id};
 ghost use Rattle.cluster_defs.specs.Words.{once, is_empty};
 ghost use Rattle.cluster_defs.specs.Purges.{copies_from, Makes};
 ghost use Rattle.cluster_defs.specs.RecordPlans.{resubmit_known_in, resubmit_in};
@@ -72,7 +72,7 @@ impl From<AllocError> for ResubmitRefusal {
 }
 
 /// The id of a task that is made by a resubmission, by its number.
-#[tactic(auto, unfolding(message_defs::specs::Texts::resubmit_id))]
+#[tactic(auto, unfolding(cluster_defs::specs::Texts::resubmit_id))]
 fn new_id(alloc: Global, number: u64) -> Result<Text, AllocError>
     ensures { IfOk result (λ t. t ≡ resubmit_id number) }
 {

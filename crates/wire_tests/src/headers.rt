@@ -12,10 +12,10 @@ use jupyter_header::kinds::{reply_type, request_of};
 use jupyter_header::reply::read_reply;
 use jupyter_header::submit::read_submit;
 use jupyter_header::write::{made_header, resubmit_header};
-use message_defs::content::{HubContent, ReplyMeta, SubmitMeta};
-use message_defs::fault::ReadError;
-use message_defs::header::Header;
-use message_defs::request::Request;
+use cluster_defs::content::{HubContent, ReplyMeta, SubmitMeta};
+use cluster_defs::fault::ReadError;
+use cluster_defs::header::Header;
+use cluster_defs::hub_request::Request;
 use std::alloc::Global;
 use std::process::Abort;
 
@@ -414,7 +414,7 @@ fn is_asked(content: &HubContent, wanted: &str) -> bool {
 }
 
 #[test]
-#[tactic(auto, unfolding(message_defs::specs::Hub::request_of))]
+#[tactic(auto, unfolding(cluster_defs::specs::Hub::request_of))]
 fn reads_requests(rt: HostRuntime) {
     let alloc = rt.alloc();
     let mut scratch = Scratch::new(alloc);

@@ -18,13 +18,13 @@ use Rattle.cluster_types.specs.declared.event.Query.TheVariants.{Queue, Bad}
 use Rattle.cluster_types.specs.declared.out.Out.TheVariants.{Pass, Made}
 use Rattle.cluster_types.specs.declared.entry.Input.TheVariants.{Open, Up, Down, In, Beat, Time}
 use Rattle.cluster_types.specs.declared.entry.Entry.TheVariants.{Input, Hand, Settle, Lose}
-use Rattle.message_defs.specs.Event.{event_of, is_request, is_reply, is_leave}
-use Rattle.message_defs.specs.Points.{whole_timeouts, ends_in_name}
-use Rattle.message_defs.specs.Submit.{read_submit}
-use Rattle.message_defs.specs.Reply.{read_task, read_declined, read_status}
-use Rattle.message_defs.specs.Hub.{request_of, read_content}
-use Rattle.message_defs.specs.Header.{read_header}
-use Rattle.message_defs.specs.Texts.{answer_id, beat_id, beat_request, outcome_id, resubmit_id, header_text, reply_type, submit_refused, empty_object, ok_content, join_content, beat_content, error_content, outcome_content, resubmit_content, connection_content, history_content, queue_member, queue_content, settled_member, result_content}
+use Rattle.cluster_defs.specs.Event.{event_of, is_request, is_reply, is_leave}
+use Rattle.cluster_defs.specs.Points.{whole_timeouts, ends_in_name}
+use Rattle.cluster_defs.specs.Submit.{read_submit}
+use Rattle.cluster_defs.specs.Reply.{read_task, read_declined, read_status}
+use Rattle.cluster_defs.specs.Hub.{request_of, read_content}
+use Rattle.cluster_defs.specs.Header.{read_header}
+use Rattle.cluster_defs.specs.Texts.{answer_id, beat_id, beat_request, outcome_id, resubmit_id, header_text, reply_type, submit_refused, empty_object, ok_content, join_content, beat_content, error_content, outcome_content, resubmit_content, connection_content, history_content, queue_member, queue_content, settled_member, result_content}
 use Rattle.cluster_defs.specs.Acceptance.{no_dependency, reserved_front}
 use Rattle.cluster_defs.specs.Steps.{next_word}
 use Rattle.cluster_defs.specs.Histories.{Legal}

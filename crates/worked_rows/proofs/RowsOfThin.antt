@@ -11,13 +11,13 @@ use Rattle.cluster_types.specs.declared.verdict.Cause.TheVariants.{Reply as ByRe
 use Rattle.cluster_types.specs.declared.message.Message.{Message}
 use Rattle.cluster_types.specs.declared.entry.Input.TheVariants.{Open, Up, Down, In, Beat, Time}
 use Rattle.cluster_types.specs.declared.entry.Entry.TheVariants.{Input, Hand, Settle}
-use Rattle.message_defs.specs.Event.{event_of, is_request, is_reply, is_leave}
-use Rattle.message_defs.specs.Points.{whole_timeouts, ends_in_name}
-use Rattle.message_defs.specs.Submit.{read_submit}
-use Rattle.message_defs.specs.Reply.{read_task, read_declined, read_status}
-use Rattle.message_defs.specs.Hub.{request_of, read_content}
-use Rattle.message_defs.specs.Header.{read_header}
-use Rattle.message_defs.specs.Texts.{resubmit_id}
+use Rattle.cluster_defs.specs.Event.{event_of, is_request, is_reply, is_leave}
+use Rattle.cluster_defs.specs.Points.{whole_timeouts, ends_in_name}
+use Rattle.cluster_defs.specs.Submit.{read_submit}
+use Rattle.cluster_defs.specs.Reply.{read_task, read_declined, read_status}
+use Rattle.cluster_defs.specs.Hub.{request_of, read_content}
+use Rattle.cluster_defs.specs.Header.{read_header}
+use Rattle.cluster_defs.specs.Texts.{resubmit_id}
 use Rattle.cluster_defs.specs.Acceptance.{reserved_front}
 use Rattle.cluster_defs.specs.Histories.{History, kept}
 use Rattle.cluster_defs.specs.Thin.{no_content, short_reply, thin}

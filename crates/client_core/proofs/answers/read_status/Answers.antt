@@ -1,6 +1,6 @@
 use Rattle.std.proofs.Common.{rules, ◌≡◌, ◌⊎◌, Err, inl, inr, ⊎_elim}
-use Rattle.message_defs.specs.declared.fault.ReadError.{ReadError}
-use Rattle.message_defs.specs.Reply.{read_status}
+use Rattle.cluster_defs.specs.declared.fault.ReadError.{ReadError}
+use Rattle.cluster_defs.specs.Reply.{read_status}
 use Rattle.client_core.proofs.Parts.{no_status}
 use Rattle.client_core.proofs.answers.read_status.Goals as goal
 

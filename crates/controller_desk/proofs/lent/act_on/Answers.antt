@@ -1,7 +1,7 @@
 use Rattle.std.proofs.Common.{◌≡◌, ◌∙◌, sym, ap, subst}
 use Rattle.cluster_types.specs.declared.config.Channel.{Channel}
 use Rattle.cluster_types.specs.declared.message.Message.{Message}
-use Rattle.message_defs.specs.Event.{event_of}
+use Rattle.cluster_defs.specs.Event.{event_of}
 use Rattle.cluster_defs.specs.Connections.{channel_on}
 use Rattle.cluster_defs.specs.Histories.{History, facts}
 use Rattle.controller_desk.specs.Calls.{HasActed}

@@ -1,5 +1,5 @@
 use Rattle.std.proofs.Common.{◌≡◌, ◌<◌, ◌++◌, length, take, map, get_or, string_bytes, arith, sym, ap, ◌∙◌, append_assoc}
-use Rattle.message_defs.specs.Texts.{parted}
+use Rattle.cluster_defs.specs.Texts.{parted}
 use Rattle.jupyter_header.specs.Comma.{comma}
 use Rattle.engine_core.specs.Contents.{shown_member}
 use Rattle.engine_core.proofs.contents.push_all.Goals as goal

@@ -1,5 +1,5 @@
 use Rattle.std.proofs.Common.{◌≡◌, ◌++◌, map, take, string_bytes}
-use Rattle.message_defs.specs.Texts.{parted}
+use Rattle.cluster_defs.specs.Texts.{parted}
 use Rattle.engine_core.specs.Contents.{shown_member}
 use Rattle.engine_core.proofs.contents.push_all.Given as goal
 

@@ -1,5 +1,5 @@
 use Rattle.std.proofs.Common.{true, not, refl}
-use Rattle.message_defs.specs.Texts.{history_content}
+use Rattle.cluster_defs.specs.Texts.{history_content}
 use Rattle.cluster_defs.specs.RecordAnswers.{ids_where}
 use Rattle.hub_queries.proofs.queues.history_text.Goals as goal
 

@@ -1,5 +1,5 @@
 use Rattle.std.proofs.Common.{◌≡◌, ◌<◌, ◌++◌, length, take, map, get_or, string_bytes, arith, sym, ap, ◌∙◌, append_assoc}
-use Rattle.message_defs.specs.Texts.{parted, engine_member}
+use Rattle.cluster_defs.specs.Texts.{parted, engine_member}
 use Rattle.jupyter_header.specs.Comma.{comma}
 use Rattle.hub_queries.proofs.queues.push_engines.Goals as goal
 use Rattle.jupyter_header.proofs.CommasMore.{members_more}

@@ -1,5 +1,5 @@
 use Rattle.std.proofs.Common.{◌≡◌, ◌++◌, map, take, string_bytes}
-use Rattle.message_defs.specs.Texts.{parted, engine_member}
+use Rattle.cluster_defs.specs.Texts.{parted, engine_member}
 use Rattle.hub_queries.proofs.queues.push_engines.Given as goal
 
 abbrev pub invariant-loop-place : goal.invariant-loop-place

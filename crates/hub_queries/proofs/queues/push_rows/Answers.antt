@@ -1,6 +1,6 @@
 use Rattle.std.proofs.Common.{◌≡◌, ◌<◌, ◌++◌, ◌∷◌, [], ℕ, List, length, take, get_or, flat_map, string_bytes, arith, sym, ap, ◌∙◌, append_assoc}
 use Rattle.std.proofs.lemmas.List.{get_or-map, length-map}
-use Rattle.message_defs.specs.Texts.{queue_member}
+use Rattle.cluster_defs.specs.Texts.{queue_member}
 use Rattle.cluster_defs.specs.RecordAnswers.{queue_in}
 use Rattle.hub_queries.specs.Rows.{row_of}
 use Rattle.hub_queries.proofs.Parts.{flat_more}

@@ -1,6 +1,6 @@
 use Rattle.std.proofs.Common.{◌≡◌, ◌++◌, ◌∷◌, ℕ, List, Bool, map, take, flat_map, string_bytes}
 use Rattle.cluster_types.specs.declared.record.Record.{Record}
-use Rattle.message_defs.specs.Texts.{queue_member}
+use Rattle.cluster_defs.specs.Texts.{queue_member}
 use Rattle.cluster_defs.specs.RecordAnswers.{queue_in}
 use Rattle.hub_queries.specs.Rows.{row_of}
 use Rattle.hub_queries.proofs.queues.push_rows.Given as goal

@@ -1,5 +1,5 @@
 use Rattle.std.proofs.Common.{refl}
-use Rattle.message_defs.specs.Texts.{queue_content, queue_member}
+use Rattle.cluster_defs.specs.Texts.{queue_content, queue_member}
 use Rattle.cluster_defs.specs.RecordAnswers.{queue_in}
 use Rattle.hub_queries.proofs.Parts.{flat_of_map}
 use Rattle.hub_queries.proofs.queues.queue_text.Goals as goal

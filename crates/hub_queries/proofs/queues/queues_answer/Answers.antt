@@ -1,6 +1,6 @@
 use Rattle.std.proofs.Common.{◌≡◌, ◌||◌, Some, None, map, filter, find, not, nat_eq, subst, sym, ap, ◌∙◌}
 use Rattle.std.specs.List.{list_any}
-use Rattle.message_defs.specs.Texts.{queue_content}
+use Rattle.cluster_defs.specs.Texts.{queue_content}
 use Rattle.cluster_defs.specs.Words.{is_empty}
 use Rattle.cluster_defs.specs.Queries.{plain}
 use Rattle.cluster_defs.specs.RecordAnswers.{ids_where, queue_in, waits_in, queues_in, lives_in, asked_engines}

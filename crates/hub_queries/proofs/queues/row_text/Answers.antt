@@ -1,5 +1,5 @@
 use Rattle.std.proofs.Common.{ap, refl}
-use Rattle.message_defs.specs.Texts.{queue_member}
+use Rattle.cluster_defs.specs.Texts.{queue_member}
 use Rattle.cluster_defs.specs.RecordAnswers.{queue_in}
 use Rattle.hub_queries.proofs.queues.row_text.Goals as goal
 

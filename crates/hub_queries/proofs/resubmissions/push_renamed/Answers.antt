@@ -1,5 +1,5 @@
 use Rattle.std.proofs.Common.{◌≡◌, ◌<◌, ◌++◌, ℕ, List, length, take, map, get_or, string_bytes, arith, sym, ap, ◌∙◌, append_assoc}
-use Rattle.message_defs.specs.Texts.{parted, text_member}
+use Rattle.cluster_defs.specs.Texts.{parted, text_member}
 use Rattle.jupyter_header.specs.Comma.{comma}
 use Rattle.resubmission.specs.Plans.{pair_of}
 use Rattle.resubmission.specs.declared.plan.Renaming.{Renaming}

@@ -1,5 +1,5 @@
 use Rattle.std.proofs.Common.{◌≡◌, ◌++◌, map, take, string_bytes}
-use Rattle.message_defs.specs.Texts.{parted, text_member}
+use Rattle.cluster_defs.specs.Texts.{parted, text_member}
 use Rattle.resubmission.specs.Plans.{pair_of}
 use Rattle.hub_queries.proofs.resubmissions.push_renamed.Given as goal
 

@@ -1,5 +1,5 @@
 use Rattle.std.proofs.Common.{refl}
-use Rattle.message_defs.specs.Texts.{resubmit_content}
+use Rattle.cluster_defs.specs.Texts.{resubmit_content}
 use Rattle.hub_queries.proofs.Parts.{members_of}
 use Rattle.hub_queries.proofs.resubmissions.renamed_text.Goals as goal
 

@@ -1,7 +1,7 @@
 use Rattle.std.proofs.Common.{◌≡◌, ◌<◌, ◌+◌, ◌-◌, ◌^◌, ◌++◌, ◌∷◌, [], ℕ, List, Option, length, min, take, get_or, filter_map, arith, sym, ap, ◌∙◌}
 use Rattle.std.specs.Option.{option_and_then, option_to_list}
 use Rattle.std.proofs.lemmas.List.{take_more}
-use Rattle.message_defs.specs.Texts.{Settled}
+use Rattle.cluster_defs.specs.Texts.{Settled}
 use Rattle.cluster_defs.specs.RecordAnswers.{record_in, left_in}
 use Rattle.hub_queries.specs.Weights.{weight}
 use Rattle.hub_queries.proofs.Parts.{filter_map_more}

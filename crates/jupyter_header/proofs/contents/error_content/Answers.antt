@@ -1,5 +1,5 @@
 use Rattle.std.proofs.Common.{◌≡◌, IfOk, string_bytes, refl, subst}
-use Rattle.message_defs.specs.Texts.{error_content}
+use Rattle.cluster_defs.specs.Texts.{error_content}
 use Rattle.jupyter_header.proofs.contents.error_content.Goals as goal
 
 pub returns : goal.returns

@@ -1,6 +1,6 @@
 use Rattle.std.proofs.Common.{◌≡◌, ◌++◌, map, take, string_bytes, sym, ap, ◌∙◌, arith, append_assoc}
 use Rattle.json.specs.Print.{quoted}
-use Rattle.message_defs.specs.Texts.{parted}
+use Rattle.cluster_defs.specs.Texts.{parted}
 use Rattle.jupyter_header.specs.Comma.{comma}
 use Rattle.jupyter_header.proofs.Commas.{ids_more}
 use Rattle.jupyter_header.proofs.contents.push_ids.Goals as goal

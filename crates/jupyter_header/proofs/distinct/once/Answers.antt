@@ -4,7 +4,7 @@ use Rattle.std.specs.Cmp.Lexicographic.{slice_cmp}
 use Rattle.std.proofs.lemmas.List.{take_more}
 use Rattle.std.proofs.lemmas.Grind.{fold-append}
 use Rattle.std.proofs.lemmas.Map.Text.{btree_map_updates_str}
-use Rattle.message_defs.specs.Submit.{once, with_new}
+use Rattle.cluster_defs.specs.Submit.{once, with_new}
 use Rattle.jupyter_header.proofs.Onces.{is_listed, added, seen_more}
 use Rattle.jupyter_header.proofs.distinct.once.Goals as goal
 

@@ -1,7 +1,7 @@
 use Rattle.std.proofs.Common.{◌≡◌, ℕ, List, take, nat_cmp, is_some}
 use Rattle.std.specs.BTreeMap as tree
 use Rattle.std.specs.Cmp.Lexicographic.{slice_cmp}
-use Rattle.message_defs.specs.Submit.{once}
+use Rattle.cluster_defs.specs.Submit.{once}
 use Rattle.jupyter_header.proofs.Onces.{is_listed}
 use Rattle.jupyter_header.proofs.distinct.once.Given as goal
 

@@ -1,7 +1,7 @@
 use Rattle.std.proofs.Common.{◌≡◌, ◌==◌, ◌∙◌, suc, false, arith, List, [], ◌∷◌, length, refl}
 use Rattle.jupyter_header.specs.Borrowed.{items_view}
 use Rattle.json.specs.declared.value.Value.{Value}
-use Rattle.message_defs.specs.Hub.{is_no_items}
+use Rattle.cluster_defs.specs.Hub.{is_no_items}
 use Rattle.jupyter_header.proofs.hub.is_none.Goals as goal
 
 none : {A : Type 0} (values : List (Value A)) → (length values == 0) ≡ is_no_items (items_view values)

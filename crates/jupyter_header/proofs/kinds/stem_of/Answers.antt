@@ -2,8 +2,8 @@ use Rattle.std.proofs.Common.{◌≡◌, ◌≢◌, ◌-◌, ◌++◌, ℕ, List
 use Rattle.std.proofs.lemmas.Bool.Decides.{Decides-eqb}
 use Rattle.std.proofs.lemmas.Slice.Eq.{ends_is}
 use Rattle.std.specs.Str.Pattern.{FindsTextSuffix, StripsSuffix}
-use Rattle.message_defs.specs.Event.{is_request}
-use Rattle.message_defs.specs.Texts.{stem_of}
+use Rattle.cluster_defs.specs.Event.{is_request}
+use Rattle.cluster_defs.specs.Texts.{stem_of}
 use Rattle.jupyter_header.proofs.kinds.stem_of.Goals as goal
 
 ends : (s front : List ℕ) → s ≡ front ++ codes "_request" → is_request s ≡ true

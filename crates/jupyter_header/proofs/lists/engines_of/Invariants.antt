@@ -1,7 +1,7 @@
 use Rattle.std.proofs.Common.{◌≡◌, ◌++◌, drop, option_map}
 use Rattle.jupyter_header.specs.Borrowed.{items_view}
-use Rattle.message_defs.specs.Fields.{each_of}
-use Rattle.message_defs.specs.Hub.{engine_in}
+use Rattle.cluster_defs.specs.Fields.{each_of}
+use Rattle.cluster_defs.specs.Hub.{engine_in}
 use Rattle.jupyter_header.proofs.lists.engines_of.Given as goal
 
 abbrev pub invariant-loop-value : goal.invariant-loop-value

@@ -1,6 +1,6 @@
 use Rattle.std.proofs.Common.{◌≡◌, ◌++◌, drop, option_map}
 use Rattle.jupyter_header.specs.Borrowed.{items_view}
-use Rattle.message_defs.specs.Fields.{each_of, id_in}
+use Rattle.cluster_defs.specs.Fields.{each_of, id_in}
 use Rattle.jupyter_header.proofs.lists.ids_of.Given as goal
 
 abbrev pub invariant-loop-value : goal.invariant-loop-value

@@ -2,7 +2,7 @@ use Rattle.std.proofs.Common.{◌≡◌, Bool, Some, IfOk, true, false, refl, in
 use Rattle.std.specs.Str.{is_utf8}
 use Rattle.std.proofs.lemmas.Str.{IsUtf8-from_is_utf8, is_utf8-from_IsUtf8}
 use Rattle.serde_json.specs.Read.{read}
-use Rattle.message_defs.specs.Json.{json_of}
+use Rattle.cluster_defs.specs.Json.{json_of}
 use Rattle.jupyter_header.specs.Borrowed.{view}
 use Rattle.jupyter_header.proofs.object.parse.Goals as goal
 

@@ -1,5 +1,5 @@
 use Rattle.std.proofs.Common.{◌∙◌, ◌++◌, ap, sym, arith, append_assoc, refl}
-use Rattle.message_defs.specs.Points.{whole_timeouts}
+use Rattle.cluster_defs.specs.Points.{whole_timeouts}
 use Rattle.jupyter_header.proofs.Walk as walk
 use Rattle.jupyter_header.proofs.points.whole_timeouts.Goals as goal
 

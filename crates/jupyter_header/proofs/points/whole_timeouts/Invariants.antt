@@ -1,5 +1,5 @@
 use Rattle.std.proofs.Common.{◌≡◌, ◌++◌, ◌-◌, ◌≤◌, length, take, drop}
-use Rattle.message_defs.specs.Points.{whole_behind, whole_timeouts}
+use Rattle.cluster_defs.specs.Points.{whole_behind, whole_timeouts}
 use Rattle.jupyter_header.proofs.points.whole_timeouts.Given as goal
 
 abbrev pub invariant-loop-at : goal.invariant-loop-at

@@ -1,5 +1,5 @@
 use Rattle.std.proofs.Common.{refl}
-use Rattle.message_defs.specs.Texts.{header_text}
+use Rattle.cluster_defs.specs.Texts.{header_text}
 use Rattle.jupyter_header.proofs.write.header_text.Goals as goal
 
 pub returns : goal.returns

@@ -1,6 +1,6 @@
 use Rattle.link_commands.specs.Actions.{result_request, history_request, shutdown_request}
 use Rattle.link_commands.proofs.actions.message_for.Goals as goal
-use Rattle.message_defs.specs.Texts.{empty_object}
+use Rattle.cluster_defs.specs.Texts.{empty_object}
 
 pub returns-in-Result-clause-value : goal.returns-in-Result-clause-value
 unfolding result_request

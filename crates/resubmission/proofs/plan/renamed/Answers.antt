@@ -1,6 +1,6 @@
 use Rattle.std.proofs.Common.{◌≡◌, ◌<◌, ◌+◌, ◌++◌, ◌∷◌, [], length, take, get_or, map, arith, sym, ap, ◌∙◌, length-take-le}
 use Rattle.std.proofs.lemmas.List.{take_more, map-append}
-use Rattle.message_defs.specs.Texts.{resubmit_id}
+use Rattle.cluster_defs.specs.Texts.{resubmit_id}
 use Rattle.cluster_defs.specs.Purges.{copies_from}
 use Rattle.resubmission.specs.Plans.{copy_of}
 use Rattle.resubmission.proofs.Copies.{copies_more}

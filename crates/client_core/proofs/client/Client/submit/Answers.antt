@@ -2,7 +2,7 @@ use Rattle.std.proofs.Common.{◌≡◌, Bool, true, false, cond, Result, Ok, Er
 use Rattle.std.proofs.lemmas.Str.{is_utf8-from_IsUtf8}
 use Rattle.std.specs.Str.{is_utf8}
 use Rattle.cluster_types.specs.declared.message.Message.{Message}
-use Rattle.message_defs.specs.Submit.{read_submit}
+use Rattle.cluster_defs.specs.Submit.{read_submit}
 use Rattle.client_core.specs.declared.error.SubmitError.{SubmitError}
 use Rattle.client_core.specs.Messages.{submit_metadata, meta_once}
 use Rattle.client_core.proofs.ReadBack.{reads_back}

@@ -3,9 +3,9 @@ use Rattle.std.specs.Prelude.{ℕ, List, [], Ok, Err, codes}
 use Rattle.serde_json.specs.Data.{Data}
 use Rattle.serde_json.specs.Find.{get}
 use Rattle.cluster_types.specs.declared.message.Message.{Message}
-use Rattle.message_defs.specs.declared.header.Header.{Header as HeaderType}
-use Rattle.message_defs.specs.Json.{Reading, reading_then, read_object}
-use Rattle.message_defs.specs.Fields.{id_from, text_from}
+use Rattle.cluster_defs.specs.declared.header.Header.{Header as HeaderType}
+use Rattle.cluster_defs.specs.Json.{Reading, reading_then, read_object}
+use Rattle.cluster_defs.specs.Fields.{id_from, text_from}
 
 abbrev pub header_from : Data → Reading HeaderType
 header_from value =

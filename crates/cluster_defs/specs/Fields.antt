@@ -2,8 +2,8 @@
 use Rattle.std.specs.Prelude.{ℕ, ◌&&◌, Bool, List, [], ◌∷◌, length, nat_lt, nat_le, if◌then◌else◌, Option, Some, None, Ok, Err, is_some, unwrap_or, option_map, option_and_then}
 use Rattle.serde_json.specs.Data.{Data, Items, no_items, item}
 use Rattle.serde_json.specs.Find.{as_null, as_bool, as_number, as_str, as_array, as_u64}
-use Rattle.message_defs.specs.declared.fault.ReadError.TheVariants.{Missing, BadField}
-use Rattle.message_defs.specs.Json.{Reading}
+use Rattle.cluster_defs.specs.declared.fault.ReadError.TheVariants.{Missing, BadField}
+use Rattle.cluster_defs.specs.Json.{Reading}
 
 -- an id is a text of 1 to 255 octets
 abbrev pub is_id : List ℕ → Bool

@@ -5,10 +5,10 @@ use Rattle.serde_json.specs.Data.{Data, Items}
 use Rattle.serde_json.specs.Events.{items_len}
 use Rattle.serde_json.specs.Find.{get, as_null, as_str, as_array, as_object}
 use Rattle.cluster_types.specs.declared.event.Dep.{Dep}
-use Rattle.message_defs.specs.declared.content.SubmitMeta.{SubmitMeta}
-use Rattle.message_defs.specs.Json.{Reading, reading_then, read_object}
-use Rattle.message_defs.specs.Fields.{or_bad, id_in, each_of, flag_from, whole_from, list_from}
-use Rattle.message_defs.specs.Points.{whole_timeouts}
+use Rattle.cluster_defs.specs.declared.content.SubmitMeta.{SubmitMeta}
+use Rattle.cluster_defs.specs.Json.{Reading, reading_then, read_object}
+use Rattle.cluster_defs.specs.Fields.{or_bad, id_in, each_of, flag_from, whole_from, list_from}
+use Rattle.cluster_defs.specs.Points.{whole_timeouts}
 
 -- the texts in order, each at its first place alone
 abbrev pub with_new : List (List ℕ) → List ℕ → List (List ℕ)

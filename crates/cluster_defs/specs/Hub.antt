@@ -2,13 +2,13 @@
 use Rattle.std.specs.Prelude.{ℕ, ◌^◌, Bool, true, false, List, [], nat_lt, if◌then◌else◌, Option, Some, None, Ok, Err, is_some, bytes_eq, codes, option_map, ⊤}
 use Rattle.serde_json.specs.Data.{Data, Items, no_items, item}
 use Rattle.serde_json.specs.Find.{get, as_null, as_str, as_array}
-use Rattle.message_defs.specs.declared.request.Request.{Request}
-use Rattle.message_defs.specs.declared.request.Request.TheVariants.{Connection, Queue, Results, History, Shutdown, Purge, Resubmit, Registration, Beat}
-use Rattle.message_defs.specs.declared.content.HubContent.{HubContent}
-use Rattle.message_defs.specs.declared.content.HubContent.TheVariants.{Connection as ConnectionContent, History as HistoryContent, Shutdown as ShutdownContent, Queue as QueueContent, Result as ResultContent, Purge as PurgeContent, Resubmit as ResubmitContent, Join, Pong}
-use Rattle.message_defs.specs.declared.fault.ReadError.TheVariants.{Missing, BadField}
-use Rattle.message_defs.specs.Json.{Reading, reading_then, read_object}
-use Rattle.message_defs.specs.Fields.{or_bad, id_in, whole_in, list_in, id_from, flag_from, list_from, ids_from}
+use Rattle.cluster_defs.specs.declared.hub_request.Request.{Request}
+use Rattle.cluster_defs.specs.declared.hub_request.Request.TheVariants.{Connection, Queue, Results, History, Shutdown, Purge, Resubmit, Registration, Beat}
+use Rattle.cluster_defs.specs.declared.content.HubContent.{HubContent}
+use Rattle.cluster_defs.specs.declared.content.HubContent.TheVariants.{Connection as ConnectionContent, History as HistoryContent, Shutdown as ShutdownContent, Queue as QueueContent, Result as ResultContent, Purge as PurgeContent, Resubmit as ResubmitContent, Join, Pong}
+use Rattle.cluster_defs.specs.declared.fault.ReadError.TheVariants.{Missing, BadField}
+use Rattle.cluster_defs.specs.Json.{Reading, reading_then, read_object}
+use Rattle.cluster_defs.specs.Fields.{or_bad, id_in, whole_in, list_in, id_from, flag_from, list_from, ids_from}
 
 -- the request that a msg_type names
 unfoldable pub request_of : List ℕ → Option Request

@@ -3,7 +3,7 @@ use Rattle.std.specs.Prelude.{ℕ, List, []}
 use Rattle.cluster_types.specs.declared.message.Message.{Message}
 use Rattle.cluster_types.specs.declared.out.Out.{Out}
 use Rattle.cluster_types.specs.declared.out.Out.TheVariants.{Pass, Made}
-use Rattle.message_defs.specs.Texts.{made_header, empty_object}
+use Rattle.cluster_defs.specs.Texts.{made_header, empty_object}
 
 -- a message without identity frames
 abbrev pub untargeted : Message → Message

@@ -7,15 +7,15 @@ use Rattle.cluster_types.specs.declared.config.Channel.TheVariants.{Task, Mux, E
 use Rattle.cluster_types.specs.declared.event.Reason.TheVariants.{BadHeader, BadType, NoTarget, BadReply}
 use Rattle.cluster_types.specs.declared.event.Event.TheVariants.{Ask}
 use Rattle.cluster_types.specs.declared.event.Query.TheVariants.{Bad}
-use Rattle.message_defs.specs.declared.fault.ReadError.TheVariants.{NotJson, NotObject, Missing, BadField}
-use Rattle.message_defs.specs.declared.content.HubContent.TheVariants.{Result}
-use Rattle.message_defs.specs.Header.{read_header}
-use Rattle.message_defs.specs.Points.{whole_timeouts, ends_in_name}
-use Rattle.message_defs.specs.Submit.{read_submit, plain_dependency}
-use Rattle.message_defs.specs.Reply.{read_task}
-use Rattle.message_defs.specs.Hub.{read_hub, request_of, read_content}
-use Rattle.message_defs.specs.Event.{event_of, is_request, is_reply, is_leave}
-use Rattle.message_defs.specs.Texts.{header_text, made_header, error_content, reply_type}
+use Rattle.cluster_defs.specs.declared.fault.ReadError.TheVariants.{NotJson, NotObject, Missing, BadField}
+use Rattle.cluster_defs.specs.declared.content.HubContent.TheVariants.{Result}
+use Rattle.cluster_defs.specs.Header.{read_header}
+use Rattle.cluster_defs.specs.Points.{whole_timeouts, ends_in_name}
+use Rattle.cluster_defs.specs.Submit.{read_submit, plain_dependency}
+use Rattle.cluster_defs.specs.Reply.{read_task}
+use Rattle.cluster_defs.specs.Hub.{read_hub, request_of, read_content}
+use Rattle.cluster_defs.specs.Event.{event_of, is_request, is_reply, is_leave}
+use Rattle.cluster_defs.specs.Texts.{header_text, made_header, error_content, reply_type}
 
 pub header_not_json : read_header (codes "{") ≡ Err NotJson
 unfolding serde_json_on_literals is_utf8 chars read_header

@@ -10,20 +10,20 @@ use Rattle.cluster_types.specs.declared.event.Event.TheVariants.{Submit, Direct,
 use Rattle.cluster_types.specs.declared.event.Query.TheVariants.{Connection as ConnectionQuery, Queue as QueueQuery, Result as ResultQuery, History as HistoryQuery, Shutdown as ShutdownQuery, Unknown, Bad}
 use Rattle.cluster_types.specs.declared.event.Reason.{Reason}
 use Rattle.cluster_types.specs.declared.event.Reason.TheVariants.{BadHeader, BadType, NoTarget, BadReply}
-use Rattle.message_defs.specs.declared.header.Header.{Header as HeaderType}
-use Rattle.message_defs.specs.declared.content.SubmitMeta.{SubmitMeta}
-use Rattle.message_defs.specs.declared.content.ReplyMeta.{ReplyMeta}
-use Rattle.message_defs.specs.declared.content.HubContent.{HubContent}
-use Rattle.message_defs.specs.declared.content.HubContent.TheVariants.{Connection as ConnectionContent, History as HistoryContent, Shutdown as ShutdownContent, Queue as QueueContent, Result as ResultContent, Purge as PurgeContent, Resubmit as ResubmitContent, Join, Pong}
-use Rattle.message_defs.specs.declared.fault.ReadError.{ReadError}
-use Rattle.message_defs.specs.declared.fault.ReadError.TheVariants.{NotJson, NotObject, Missing, BadField, OutOfMemory}
-use Rattle.message_defs.specs.declared.request.Request.{Request}
-use Rattle.message_defs.specs.declared.request.Request.TheVariants.{Connection, Queue, Results, History, Shutdown, Purge, Resubmit, Registration, Beat}
-use Rattle.message_defs.specs.Json.{Reading}
-use Rattle.message_defs.specs.Header.{read_header}
-use Rattle.message_defs.specs.Submit.{read_submit, plain_dependency}
-use Rattle.message_defs.specs.Reply.{read_reply}
-use Rattle.message_defs.specs.Hub.{request_of, read_content}
+use Rattle.cluster_defs.specs.declared.header.Header.{Header as HeaderType}
+use Rattle.cluster_defs.specs.declared.content.SubmitMeta.{SubmitMeta}
+use Rattle.cluster_defs.specs.declared.content.ReplyMeta.{ReplyMeta}
+use Rattle.cluster_defs.specs.declared.content.HubContent.{HubContent}
+use Rattle.cluster_defs.specs.declared.content.HubContent.TheVariants.{Connection as ConnectionContent, History as HistoryContent, Shutdown as ShutdownContent, Queue as QueueContent, Result as ResultContent, Purge as PurgeContent, Resubmit as ResubmitContent, Join, Pong}
+use Rattle.cluster_defs.specs.declared.fault.ReadError.{ReadError}
+use Rattle.cluster_defs.specs.declared.fault.ReadError.TheVariants.{NotJson, NotObject, Missing, BadField, OutOfMemory}
+use Rattle.cluster_defs.specs.declared.hub_request.Request.{Request}
+use Rattle.cluster_defs.specs.declared.hub_request.Request.TheVariants.{Connection, Queue, Results, History, Shutdown, Purge, Resubmit, Registration, Beat}
+use Rattle.cluster_defs.specs.Json.{Reading}
+use Rattle.cluster_defs.specs.Header.{read_header}
+use Rattle.cluster_defs.specs.Submit.{read_submit, plain_dependency}
+use Rattle.cluster_defs.specs.Reply.{read_reply}
+use Rattle.cluster_defs.specs.Hub.{request_of, read_content}
 
 -- a msg_type that ends in `_request`
 unfoldable pub is_request : List ℕ → Bool

@@ -24,7 +24,7 @@ pub enum ReadError {
 
 impl From<AllocError> for ReadError {
     ghost use Rattle.std.specs.Prelude.{◌≡◌};
-    ghost use Rattle.message_defs.specs.declared.fault.ReadError.{ReadError};
+    ghost use Rattle.cluster_defs.specs.declared.fault.ReadError.{ReadError};
 
     ghost from_gives = { λ _ e. e ≡ ReadError.OutOfMemory };
 

@@ -2,10 +2,10 @@
 use Rattle.std.specs.Prelude.{ℕ, Bool, true, false, List, if◌then◌else◌, ◌||◌, Option, Some, None, Ok, Err, bytes_eq, codes, option_and_then}
 use Rattle.serde_json.specs.Data.{Data}
 use Rattle.serde_json.specs.Find.{get, as_bool, as_str}
-use Rattle.message_defs.specs.declared.content.ReplyMeta.{ReplyMeta}
-use Rattle.message_defs.specs.declared.fault.ReadError.TheVariants.{Missing}
-use Rattle.message_defs.specs.Json.{Reading, reading_then, read_object}
-use Rattle.message_defs.specs.Fields.{or_bad, id_from}
+use Rattle.cluster_defs.specs.declared.content.ReplyMeta.{ReplyMeta}
+use Rattle.cluster_defs.specs.declared.fault.ReadError.TheVariants.{Missing}
+use Rattle.cluster_defs.specs.Json.{Reading, reading_then, read_object}
+use Rattle.cluster_defs.specs.Fields.{or_bad, id_from}
 
 -- the id of the task, from the header of the request
 unfoldable pub read_task : List ℕ → Reading (List ℕ)

@@ -2,7 +2,7 @@
 use Rattle.std.specs.Prelude.{ℕ, ◌-◌, Bool, true, false, List, [], ◌∷◌, ◌++◌, length, take, map, flat_map, if◌then◌else◌, Option, Some, None, codes, decimal}
 use Rattle.json.specs.Print.{quoted}
 use Rattle.cluster_types.specs.declared.message.Message.{Message}
-use Rattle.message_defs.specs.Event.{is_request}
+use Rattle.cluster_defs.specs.Event.{is_request}
 
 -- a header (Jupyter messaging 5.3), of texts that are quoted already and a date
 unfoldable pub header_text : List ℕ → List ℕ → List ℕ → List ℕ → List ℕ → List ℕ

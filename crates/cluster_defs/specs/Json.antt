@@ -4,8 +4,8 @@ use Rattle.std.specs.Str.{is_utf8}
 use Rattle.serde_json.specs.Data.{Data}
 use Rattle.serde_json.specs.Find.{as_object}
 use Rattle.serde_json.specs.Read.{read}
-use Rattle.message_defs.specs.declared.fault.ReadError.{ReadError}
-use Rattle.message_defs.specs.declared.fault.ReadError.TheVariants.{NotJson, NotObject}
+use Rattle.cluster_defs.specs.declared.fault.ReadError.{ReadError}
+use Rattle.cluster_defs.specs.declared.fault.ReadError.TheVariants.{NotJson, NotObject}
 
 -- a reading, or the first fault
 abbrev pub Reading : Type 0 → Type 0
