@@ -18,7 +18,7 @@ ghost use Rattle.entry_outs.specs.Reached.{IsNext};
 ghost use Rattle.cluster_core.specs.Steps.{AllInTime, IsReadOff, understood, entry_place};
 
 use crate::meaning::Meaning;
-use crate::taken::{Taken, take_entry};
+use crate::taken::{TakenEntry, take_entry};
 use cluster_intake::fault::IntakeError;
 use cluster_intake::understand;
 use cluster_state::acceptance::connection_on;
@@ -173,7 +173,7 @@ impl Known {
         alloc: Global,
         entry: &Entry,
         meaning: &Meaning,
-    ) -> Result<Taken, AllocError>
+    ) -> Result<TakenEntry, AllocError>
         requires next { IsNext (plain self.old.state) entry.now }
         requires kind { meaning.now.msg_type ≡ told_type meaning.now.event (type_on entry.now) }
         requires time { InTime entry.now }
@@ -190,7 +190,7 @@ impl Known {
     }
 
     /// Takes a decision, and gives what it sends.
-    pub fn decide(&mut self, alloc: Global, decision: &Entry) -> Result<Taken, AllocError>
+    pub fn decide(&mut self, alloc: Global, decision: &Entry) -> Result<TakenEntry, AllocError>
         requires next { IsNext (plain self.old.state) decision.now }
         requires time { InTime decision.now }
         requires now { self.old.state.moment ≤ last_moment }

@@ -19,7 +19,7 @@ use std::alloc::{AllocError, Global};
 
 /// What an entry sent, and whether a crash leaves it.
 #[derive(Drop)]
-pub struct Taken {
+pub struct TakenEntry {
     pub outs: Vec<Out>,
     pub is_kept: bool,
 }
@@ -32,7 +32,7 @@ pub fn take_entry(
     state: &mut State,
     entry: &Entry,
     meaning: &Meaning,
-) -> Result<Taken, AllocError>
+) -> Result<TakenEntry, AllocError>
     requires next { IsNext (plain state.old) entry.now }
     requires kind { meaning.now.msg_type ≡ told_type meaning.now.event (type_on entry.now) }
     requires time { InTime entry.now }
@@ -45,5 +45,5 @@ pub fn take_entry(
     let ruling = ruling(state, entry, event)?;
     let outs = outs(alloc, place, state, entry, event, msg_type, &ruling)?.into_vec();
     let is_kept = state.take(entry, event, ruling)?;
-    Ok(Taken { outs, is_kept })
+    Ok(TakenEntry { outs, is_kept })
 }

@@ -17,8 +17,8 @@ use Rattle.cluster_defs.specs.declared.content.HubContent.{HubContent}
 use Rattle.cluster_defs.specs.declared.content.HubContent.TheVariants.{Connection as ConnectionContent, History as HistoryContent, Shutdown as ShutdownContent, Queue as QueueContent, Result as ResultContent, Purge as PurgeContent, Resubmit as ResubmitContent, Join, Pong}
 use Rattle.cluster_defs.specs.declared.fault.ReadError.{ReadError}
 use Rattle.cluster_defs.specs.declared.fault.ReadError.TheVariants.{NotJson, NotObject, Missing, BadField, OutOfMemory}
-use Rattle.cluster_defs.specs.declared.hub_request.Request.{Request}
-use Rattle.cluster_defs.specs.declared.hub_request.Request.TheVariants.{Connection, Queue, Results, History, Shutdown, Purge, Resubmit, Registration, Beat}
+use Rattle.cluster_defs.specs.declared.hub_request.RequestType.{RequestType}
+use Rattle.cluster_defs.specs.declared.hub_request.RequestType.TheVariants.{Connection, Queue, Results, History, Shutdown, Purge, Resubmit, Registration, Beat}
 use Rattle.cluster_defs.specs.Json.{Reading}
 use Rattle.cluster_defs.specs.Header.{read_header}
 use Rattle.cluster_defs.specs.Submit.{read_submit, plain_dependency}
@@ -62,7 +62,7 @@ request_event (Ok content) = event_of_content content
 request_event (Err fault) = Ask (Bad (fault_field (codes "content") fault))
 
 -- the requests that the hub knows: registrations and echoes belong to engines
-abbrev pub hub_request : Option Request → Option Request
+abbrev pub hub_request : Option RequestType → Option RequestType
 hub_request None = None
 hub_request (Some Registration) = None
 hub_request (Some Beat) = None
@@ -74,7 +74,7 @@ hub_request (Some Shutdown) = Some Shutdown
 hub_request (Some Purge) = Some Purge
 hub_request (Some Resubmit) = Some Resubmit
 
-abbrev pub hub_event : List ℕ → Option Request → EventType
+abbrev pub hub_event : List ℕ → Option RequestType → EventType
 hub_event content None = Ask Unknown
 hub_event content (Some request) = request_event (read_content request content)
 
@@ -122,12 +122,12 @@ reply_event header message =
     if is_leave header.msg_type then Ok Leave
     else (if is_reply header.msg_type then replied header (read_reply message.parent message.metadata message.content) else Err BadType)
 
-abbrev pub is_registration : Option Request → Bool
+abbrev pub is_registration : Option RequestType → Bool
 is_registration None = false
 is_registration (Some Registration) = true
 is_registration (Some _) = false
 
-abbrev pub is_echo : Option Request → Bool
+abbrev pub is_echo : Option RequestType → Bool
 is_echo None = false
 is_echo (Some Beat) = true
 is_echo (Some _) = false

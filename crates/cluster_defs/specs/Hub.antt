@@ -2,8 +2,8 @@
 use Rattle.std.specs.Prelude.{ℕ, ◌^◌, Bool, true, false, List, [], nat_lt, if◌then◌else◌, Option, Some, None, Ok, Err, is_some, bytes_eq, codes, option_map, ⊤}
 use Rattle.serde_json.specs.Data.{Data, Items, no_items, item}
 use Rattle.serde_json.specs.Find.{get, as_null, as_str, as_array}
-use Rattle.cluster_defs.specs.declared.hub_request.Request.{Request}
-use Rattle.cluster_defs.specs.declared.hub_request.Request.TheVariants.{Connection, Queue, Results, History, Shutdown, Purge, Resubmit, Registration, Beat}
+use Rattle.cluster_defs.specs.declared.hub_request.RequestType.{RequestType}
+use Rattle.cluster_defs.specs.declared.hub_request.RequestType.TheVariants.{Connection, Queue, Results, History, Shutdown, Purge, Resubmit, Registration, Beat}
 use Rattle.cluster_defs.specs.declared.content.HubContent.{HubContent}
 use Rattle.cluster_defs.specs.declared.content.HubContent.TheVariants.{Connection as ConnectionContent, History as HistoryContent, Shutdown as ShutdownContent, Queue as QueueContent, Result as ResultContent, Purge as PurgeContent, Resubmit as ResubmitContent, Join, Pong}
 use Rattle.cluster_defs.specs.declared.fault.ReadError.TheVariants.{Missing, BadField}
@@ -11,7 +11,7 @@ use Rattle.cluster_defs.specs.Json.{Reading, reading_then, read_object}
 use Rattle.cluster_defs.specs.Fields.{or_bad, id_in, whole_in, list_in, id_from, flag_from, list_from, ids_from}
 
 -- the request that a msg_type names
-unfoldable pub request_of : List ℕ → Option Request
+unfoldable pub request_of : List ℕ → Option RequestType
 request_of msg_type =
     if bytes_eq msg_type (codes "connection_request") then Some Connection
     else (if bytes_eq msg_type (codes "queue_request") then Some Queue
@@ -89,14 +89,14 @@ abbrev pub pong_from : Data → Reading HubContent
 pong_from value = reading_then (number_from (codes "beat") (get (codes "beat") value)) (λ beat. Ok (Pong beat))
 
 -- a request that says all by its type: its content isn't read
-abbrev pub unread : Request → Option HubContent
+abbrev pub unread : RequestType → Option HubContent
 unread Connection = Some ConnectionContent
 unread History = Some HistoryContent
 unread Shutdown = Some ShutdownContent
 unread _ = None
 
 -- what the object says, of a request whose content is read
-abbrev pub content_from : Request → Data → Reading HubContent
+abbrev pub content_from : RequestType → Data → Reading HubContent
 content_from Connection value = Ok ConnectionContent
 content_from History value = Ok HistoryContent
 content_from Shutdown value = Ok ShutdownContent
@@ -107,11 +107,11 @@ content_from Resubmit value = resubmit_from value
 content_from Registration value = join_from value
 content_from Beat value = pong_from value
 
-abbrev pub read_unless : List ℕ → Request → Option HubContent → Reading HubContent
+abbrev pub read_unless : List ℕ → RequestType → Option HubContent → Reading HubContent
 read_unless content request (Some known) = Ok known
 read_unless content request None = reading_then (read_object content) (content_from request)
 
-unfoldable pub read_content : Request → List ℕ → Reading HubContent
+unfoldable pub read_content : RequestType → List ℕ → Reading HubContent
 read_content request content = read_unless content request (unread request)
 
 -- the reading of a content by the msg_type, where that names such a request

@@ -2,7 +2,7 @@
 
 /// The types of message whose content is read, after their `msg_type`.
 #[derive(Clone, Copy, Debug, PartialEq, Eq)]
-pub enum Request {
+pub enum RequestType {
     /// `connection_request`
     Connection,
     /// `queue_request`

@@ -29,7 +29,7 @@ use jupyter_header::submit::{plain_dependency, read_submit};
 use cluster_defs::content::{HubContent, SubmitMeta};
 use cluster_defs::fault::{Field, ReadError};
 use cluster_defs::header::Header;
-use cluster_defs::hub_request::Request;
+use cluster_defs::hub_request::RequestType;
 use std::alloc::{AllocError, Global};
 use understood::Understood;
 
@@ -64,7 +64,7 @@ fn event_of_content(content: HubContent) -> Event
 /// What a content asks for, or that it is bad.
 fn request_event(
     alloc: Global,
-    request: Request,
+    request: RequestType,
     content: &[u8],
     scratch: &mut Scratch,
 ) -> Result<Event, AllocError>
@@ -81,11 +81,11 @@ fn request_event(
 }
 
 /// The request that the hub knows.
-fn hub_request(found: Option<Request>) -> Option<Request>
+fn hub_request(found: Option<RequestType>) -> Option<RequestType>
     ensures { result ≡ hub_request found }
 {
     match found {
-        Some(Request::Registration | Request::Beat) => None,
+        Some(RequestType::Registration | RequestType::Beat) => None,
         _ => found,
     }
 }
@@ -188,10 +188,10 @@ fn mux_event(alloc: Global, header: Header, target: &[u8]) -> Result<Event, Inta
 
 /// The echo of a heartbeat.
 fn echo_event(alloc: Global, content: &[u8], scratch: &mut Scratch) -> Result<Event, IntakeError>
-    ensures ok { IfOk result (λ e. echo_event (read_content Request.Beat content.now) ≡ Ok e) }
-    ensures err { IfErr result (λ e. (e ≡ IntakeError.OutOfMemory) ⊎ (taken_in (echo_event (read_content Request.Beat content.now)) ≡ Err e)) }
+    ensures ok { IfOk result (λ e. echo_event (read_content RequestType.Beat content.now) ≡ Ok e) }
+    ensures err { IfErr result (λ e. (e ≡ IntakeError.OutOfMemory) ⊎ (taken_in (echo_event (read_content RequestType.Beat content.now)) ≡ Err e)) }
 {
-    match read_content(alloc, Request::Beat, content, scratch) {
+    match read_content(alloc, RequestType::Beat, content, scratch) {
         Ok(content) => Ok(event_of_content(content)),
         Err(ReadError::OutOfMemory) => Err(IntakeError::OutOfMemory),
         Err(_) => Err(IntakeError::Junk(Reason::BadReply)),
@@ -242,17 +242,17 @@ fn reply_event(
 }
 
 /// Whether a message registers an engine.
-fn is_registration(found: Option<Request>) -> bool
+fn is_registration(found: Option<RequestType>) -> bool
     ensures { result ≡ is_registration found }
 {
-    matches!(found, Some(Request::Registration))
+    matches!(found, Some(RequestType::Registration))
 }
 
 /// Whether a message is the echo of a heartbeat.
-fn is_echo(found: Option<Request>) -> bool
+fn is_echo(found: Option<RequestType>) -> bool
     ensures { result ≡ is_echo found }
 {
-    matches!(found, Some(Request::Beat))
+    matches!(found, Some(RequestType::Beat))
 }
 
 /// What a message of an engine says.
@@ -267,7 +267,7 @@ fn engine_event(
 {
     let request = request_of(header.msg_type.as_str());
     if is_registration(request) {
-        let event = request_event(alloc, Request::Registration, message.content(), scratch)?;
+        let event = request_event(alloc, RequestType::Registration, message.content(), scratch)?;
         return Ok(event);
     }
     if is_echo(request) {

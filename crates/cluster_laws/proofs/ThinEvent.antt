@@ -15,8 +15,8 @@ use Rattle.cluster_defs.specs.declared.content.SubmitMeta.{SubmitMeta}
 use Rattle.cluster_defs.specs.declared.content.ReplyMeta.{ReplyMeta}
 use Rattle.cluster_defs.specs.declared.content.HubContent.{HubContent}
 use Rattle.cluster_defs.specs.declared.content.HubContent.TheVariants.{Connection as ConnectionContent, History as HistoryContent, Shutdown as ShutdownContent, Queue as QueueContent, Result as ResultContent, Purge as PurgeContent, Resubmit as ResubmitContent, Join, Pong}
-use Rattle.cluster_defs.specs.declared.hub_request.Request.{Request}
-use Rattle.cluster_defs.specs.declared.hub_request.Request.TheVariants.{Registration, Beat}
+use Rattle.cluster_defs.specs.declared.hub_request.RequestType.{RequestType}
+use Rattle.cluster_defs.specs.declared.hub_request.RequestType.TheVariants.{Registration, Beat}
 use Rattle.cluster_defs.specs.Json.{Reading, reading_then}
 use Rattle.cluster_defs.specs.Header.{read_header}
 use Rattle.cluster_defs.specs.Submit.{read_submit}
@@ -55,7 +55,7 @@ asked_plain : (r : Reading HubContent) → (is_demand (request_event r) ≡ fals
 asked_plain (Ok c) = content_plain c
 asked_plain (Err fault) = (refl, refl)
 
-hub_plain : (content : List ℕ) (r : Option Request) → (is_demand (hub_event content r) ≡ false) × (is_answer (hub_event content r) ≡ false)
+hub_plain : (content : List ℕ) (r : Option RequestType) → (is_demand (hub_event content r) ≡ false) × (is_answer (hub_event content r) ≡ false)
 hub_plain content None = (refl, refl)
 hub_plain content (Some request) = asked_plain (read_content request content)
 

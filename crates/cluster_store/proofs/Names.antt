@@ -25,8 +25,8 @@ use Rattle.cluster_defs.specs.declared.content.SubmitMeta.{SubmitMeta}
 use Rattle.cluster_defs.specs.declared.content.ReplyMeta.{ReplyMeta}
 use Rattle.cluster_defs.specs.declared.content.HubContent.{HubContent}
 use Rattle.cluster_defs.specs.declared.content.HubContent.TheVariants.{Connection as ConnectionContent, History as HistoryContent, Shutdown as ShutdownContent, Queue as QueueContent, Result as ResultContent, Purge as PurgeContent, Resubmit as ResubmitContent, Join, Pong}
-use Rattle.cluster_defs.specs.declared.hub_request.Request.{Request}
-use Rattle.cluster_defs.specs.declared.hub_request.Request.TheVariants.{Registration, Beat as BeatRequest}
+use Rattle.cluster_defs.specs.declared.hub_request.RequestType.{RequestType}
+use Rattle.cluster_defs.specs.declared.hub_request.RequestType.TheVariants.{Registration, Beat as BeatRequest}
 use Rattle.cluster_defs.specs.Json.{Reading, reading_then, read_object}
 use Rattle.cluster_defs.specs.Fields.{is_id, id_of, or_bad, id_from, text_from}
 use Rattle.cluster_defs.specs.Header.{header_from, read_header}
@@ -122,7 +122,7 @@ request_names : (content : Reading HubContent) → Names (request_event content)
 request_names (Ok content) = content_names content
 request_names (Err fault) = tt
 
-hub_names : (content : List ℕ) (request : Option Request) → Names (hub_event content request)
+hub_names : (content : List ℕ) (request : Option RequestType) → Names (hub_event content request)
 hub_names content None = tt
 hub_names content (Some request) = request_names (read_content request content)
 

@@ -5,7 +5,7 @@ ghost use Rattle.cluster_defs.specs.Outs.{conn_of, outs_on};
 ghost use Rattle.cluster_store.specs.Queues.{left_at, room_at, released, after, handed, is_news, waits, is_none_left};
 
 use crate::taken::Taken;
-use crate::waiting::{Line, Waiting};
+use crate::waiting::{OutQueue, Waiting};
 use cluster_types::out::{Out, Outs};
 use std::alloc::{AllocError, Global};
 use std::collections::HashMap;
@@ -14,7 +14,7 @@ use std::marker::Model;
 /// The outs that wait, by connection. Contracts see those of each connection, and for how many more there is room.
 #[derive(Drop)]
 pub struct Queues {
-    lines: HashMap<u32, Line>,
+    lines: HashMap<u32, OutQueue>,
     alloc: Global,
 }
 
@@ -46,7 +46,7 @@ impl Queues {
         match self.lines.get_mut(&conn) {
             Some(line) => line.make_room(),
             None => {
-                let mut line = Line::new(self.alloc);
+                let mut line = OutQueue::new(self.alloc);
                 line.make_room()?;
                 self.lines.insert(conn, line)?;
                 Ok(())

@@ -18,12 +18,12 @@ pub struct Waiting {
 
 /// The outs that wait for one connection, the first one first. Contracts see also for how many more it has room.
 #[derive(Drop)]
-pub struct Line {
+pub struct OutQueue {
     outs: VecDeque<Waiting>,
     room: usize,
 }
 
-impl Model for Line {
+impl Model for OutQueue {
     ghost use Rattle.std.specs.Prelude.{◌≤◌, ◌+◌};
     ghost use Rattle.std.specs.VecDeque.{deque_len, deque_capacity};
     ghost use Rattle.cluster_store.specs.Queues.{LineView};
@@ -35,12 +35,12 @@ impl Model for Line {
     ghost invariant = { λ l. deque_len l.outs + l.room ≤ deque_capacity l.outs };
 }
 
-impl Line {
+impl OutQueue {
     /// No outs.
-    pub fn new(alloc: Global) -> Line
+    pub fn new(alloc: Global) -> OutQueue
         ensures { result ≡ record { outs = []; room = 0 } }
     {
-        Line {
+        OutQueue {
             outs: VecDeque::new(alloc),
             room: 0,
         }

@@ -26,7 +26,7 @@ use Rattle.task_journal.specs.declared.fault.AppendFault.{AppendFault}
 use Rattle.task_journal.specs.declared.fault.AppendFault.TheVariants as appends
 use Rattle.controller_threads.specs.declared.halt.Halt.{Halt}
 use Rattle.controller_threads.specs.declared.halt.Halt.TheVariants as halts
-use Rattle.controller_threads.specs.declared.stop.Stop.{Stop}
+use Rattle.controller_threads.specs.declared.stop.ServeStop.{ServeStop}
 use Rattle.controller_threads.specs.Halts.{has_risen, HaltCause, RefusalCause, StopCause, StopsAtStart}
 use Rattle.std.proofs.lemmas.Bool.{or_right, and_from}
 use Rattle.cluster_types.proofs.Booleans.{or_off_left, or_off_right, and_left}
@@ -105,6 +105,6 @@ flush_cause faults start u w before after flushed on turn f is =
 
 -- STARTS
 
-pub stops_at_start : {A P : Type 0} (result : Result A (Stop P)) (faults : P → ℕ) (start seen : Content) (before now : ℕ) → IfErr result (λ stop. StopsAtStart before now stop) → IfErr result (λ stop. StopCause faults start seen before now stop)
+pub stops_at_start : {A P : Type 0} (result : Result A (ServeStop P)) (faults : P → ℕ) (start seen : Content) (before now : ℕ) → IfErr result (λ stop. StopsAtStart before now stop) → IfErr result (λ stop. StopCause faults start seen before now stop)
 stops_at_start (Ok x) faults start seen before now all = tt
 stops_at_start (Err stop) faults start seen before now all = all faults start seen

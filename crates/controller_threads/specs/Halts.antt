@@ -9,8 +9,8 @@ use Rattle.controller_desk.specs.Contents.{faults_seen, fulls_seen, limits_seen}
 use Rattle.history_lock.specs.declared.known.Content.{Content}
 use Rattle.controller_threads.specs.declared.halt.Halt.{Halt}
 use Rattle.controller_threads.specs.declared.halt.Halt.TheVariants as halts
-use Rattle.controller_threads.specs.declared.stop.Stop.{Stop}
-use Rattle.controller_threads.specs.declared.stop.Stop.TheVariants as stops
+use Rattle.controller_threads.specs.declared.stop.ServeStop.{ServeStop}
+use Rattle.controller_threads.specs.declared.stop.ServeStop.TheVariants as stops
 
 -- a count rose, or stands at the end of its type
 abbrev pub has_risen : ℕ → ℕ → Bool
@@ -34,12 +34,12 @@ RefusalCause _ start seen = ⊤
 
 module _ {P : Type 0} (port_faults : P → ℕ) (start seen : Content) (before now : ℕ) where
   -- why the caller of the threads stops, where the counts of the spawner are these
-  abbrev pub StopCause : Stop P → Type 0
+  abbrev pub StopCause : ServeStop P → Type 0
   StopCause (stops.Halted halt) = HaltCause halt start seen
   StopCause (stops.PortFailed channel port) = 1 ≤ port_faults port
   StopCause stops.NotStarted = Rose before now
   StopCause stops.OutOfMemory = ⊤
 
 -- why it stops where a job isn't started
-abbrev pub StopsAtStart : {P : Type 0} → (before now : ℕ) → Stop P → Type 0
+abbrev pub StopsAtStart : {P : Type 0} → (before now : ℕ) → ServeStop P → Type 0
 StopsAtStart {P} before now stop = (faults : P → ℕ) (start seen : Content) → StopCause faults start seen before now stop

@@ -1,6 +1,6 @@
 //! The acceptors.
 
-use crate::handed::{Handed, Link, failed_port};
+use crate::handed::{Handed, AcceptedLink, failed_port};
 use crate::naming::Naming;
 use crate::port::Port;
 use crate::ports::ended_port;
@@ -26,7 +26,7 @@ impl<P: Port + Drop, T: SessionTypes, N: Naming> Shared<P, T, N> {
     fn accept_links(&self, channel: Channel, mut port: P) -> Handed<P, LockedOf<T>, N> {
         for _ in self.serving.rt.forever() {
             match port.accept(&self.serving.rt) {
-                Accepted::Pair(reader, writer) => self.hand(Handed::Accepted(Link {
+                Accepted::Pair(reader, writer) => self.hand(Handed::Accepted(AcceptedLink {
                     channel,
                     reader,
                     writer,

@@ -19,7 +19,7 @@ use crate::passes::{Halted, NamedPass};
 use crate::port::Port;
 use crate::ports::{EndedPorts, Ports};
 use crate::shared::Shared;
-use crate::stop::Stop;
+use crate::stop::ServeStop;
 use load_schemes::chooser::Chooser;
 use session_threads::admission::PassPool;
 use session_threads::context::{LockedOf, PassOf, SessionTypes};
@@ -84,14 +84,14 @@ where
     }
 
     /// Keeps the pass of a session that ended, to be used again.
-    fn keep(&mut self, pass: NamedPass<LockedOf<T>, N>) -> Result<(), Stop<P>>
+    fn keep(&mut self, pass: NamedPass<LockedOf<T>, N>) -> Result<(), ServeStop<P>>
         ensures { (before : ℕ) (now : ℕ) (seen : Content) → IfErr result (λ stop. StopCause P.faults N.start seen before now stop) }
     {
         self.sessions = self.sessions.saturating_sub(1);
         let NamedPass { pass, of: _ } = pass;
         match self.pool.kept.push(pass) {
             Ok(()) => Ok(()),
-            Err(_) => Err(Stop::OutOfMemory),
+            Err(_) => Err(ServeStop::OutOfMemory),
         }
     }
 
@@ -117,7 +117,7 @@ where
         spawner: &mut Spawner<H>,
         chooser: &Chooser,
         handed: Handed<P, LockedOf<T>, N>,
-    ) -> Result<(), Stop<P>>
+    ) -> Result<(), ServeStop<P>>
         ensures ok { OnOk result (spawner.new.faults ≡ spawner.old.faults) }
         ensures cause { IfErr result (λ stop. StopCause P.faults N.start (known self.new.pool.pass).seen spawner.old.faults spawner.new.faults stop) }
     {
@@ -138,13 +138,13 @@ where
             }
             Handed::PortFailed(failed) => {
                 let FailedPort { channel, port } = failed;
-                Err(Stop::PortFailed { channel, port })
+                Err(ServeStop::PortFailed { channel, port })
             }
             Handed::WorkerEnded(pass) => {
                 self.end_worker(pass);
                 Ok(())
             }
-            Handed::Halted(halted) => Err(Stop::Halted(self.halt(halted))),
+            Handed::Halted(halted) => Err(ServeStop::Halted(self.halt(halted))),
         }
     }
 
@@ -160,7 +160,7 @@ where
         &mut self,
         spawner: &mut Spawner<H>,
         chooser: &Chooser,
-    ) -> Result<(), Stop<P>>
+    ) -> Result<(), ServeStop<P>>
         ensures ok { OnOk result (AreAll self.new.ended) }
         ensures cause { IfErr result (λ stop. StopCause P.faults N.start (known self.new.pool.pass).seen spawner.old.faults spawner.new.faults stop) }
     {
@@ -174,7 +174,7 @@ where
             }
             match self.shared.queue.take(&rt) {
                 Some(handed) => self.answer(spawner, chooser, handed)?,
-                None => return Err(Stop::OutOfMemory),
+                None => return Err(ServeStop::OutOfMemory),
             }
         }
         unreachable!()
@@ -186,7 +186,7 @@ where
         spawner: &mut Spawner<H>,
         chooser: &Chooser,
         ports: Ports<P>,
-    ) -> Result<(), Stop<P>>
+    ) -> Result<(), ServeStop<P>>
         requires { 3 ≤ room_of self.old.pool.pass }
         ensures ok { OnOk result (AreAll self.new.ended) }
         ensures cause { IfErr result (λ stop. StopCause P.faults N.start (known self.new.pool.pass).seen spawner.old.faults spawner.new.faults stop) }
@@ -244,16 +244,16 @@ where
     }
 
     /// The end where it stops before. The workers end, and nobody waits for them.
-    pub fn stopped(self, stop: Stop<P>) -> ServeEnd<P, LockedOf<T>>
-        requires { (halt : HaltType) → stop ≡ Stop.Halted halt → HaltCause halt N.start (known self.pool.pass).seen }
+    pub fn stopped(self, stop: ServeStop<P>) -> ServeEnd<P, LockedOf<T>>
+        requires { (halt : HaltType) → stop ≡ ServeStop.Halted halt → HaltCause halt N.start (known self.pool.pass).seen }
         ensures { (before : ℕ) (now : ℕ) → StopCause P.faults N.start (known self.pool.pass).seen before now stop → EndCause N.lock N.start P.links P.faults before now result }
     {
         self.shared.end_workers();
         match stop {
-            Stop::Halted(halt) => self.halted(halt),
-            Stop::PortFailed { channel, port } => ServeEnd::ListenerFault { channel, port },
-            Stop::NotStarted => ServeEnd::SpawnFault,
-            Stop::OutOfMemory => ServeEnd::OutOfMemory,
+            ServeStop::Halted(halt) => self.halted(halt),
+            ServeStop::PortFailed { channel, port } => ServeEnd::ListenerFault { channel, port },
+            ServeStop::NotStarted => ServeEnd::SpawnFault,
+            ServeStop::OutOfMemory => ServeEnd::OutOfMemory,
         }
     }
 }

@@ -1,6 +1,6 @@
 //! The greetings.
 
-use crate::handed::{Handed, Link, ShortGreeted};
+use crate::handed::{Handed, AcceptedLink, ShortGreeted};
 use crate::naming::Naming;
 use crate::port::Port;
 use crate::shared::Shared;
@@ -15,12 +15,12 @@ use thread_edges::spawner::Job;
 #[derive(Drop)]
 pub struct Greeting<P: Port, T: SessionTypes, N: Naming> {
     pub shared: Arc<Shared<P, T, N>, Global>,
-    pub link: Link<P::In, P::Out>,
+    pub link: AcceptedLink<P::In, P::Out>,
 }
 
 impl<P: Port + Drop, T: SessionTypes, N: Naming> Shared<P, T, N> {
     /// Makes the handshake on a link.
-    fn greet_link(&self, mut link: Link<P::In, P::Out>) -> Handed<P, LockedOf<T>, N> {
+    fn greet_link(&self, mut link: AcceptedLink<P::In, P::Out>) -> Handed<P, LockedOf<T>, N> {
         match greet(
             &self.serving.rt,
             self.serving.alloc,

@@ -13,7 +13,7 @@ use link_messages::greeting::Greeted;
 
 /// A link to another machine, and the channel of the port where it was accepted.
 #[derive(Drop)]
-pub struct Link<I, O> {
+pub struct AcceptedLink<I, O> {
     pub channel: Channel,
     pub reader: I,
     pub writer: O,
@@ -56,9 +56,9 @@ pub fn failed_port<P: Port>(channel: Channel, port: P) -> FailedPort<P>
 #[derive(Drop)]
 pub enum Handed<P: Port, T, N: Naming> {
     /// A link was accepted.
-    Accepted(Link<P::In, P::Out>),
+    Accepted(AcceptedLink<P::In, P::Out>),
     /// The handshake of a link is done.
-    Greeted(Link<P::In, P::Out>, ShortGreeted),
+    Greeted(AcceptedLink<P::In, P::Out>, ShortGreeted),
     /// A link ended before its handshake was done.
     NotGreeted,
     /// A session ended.

@@ -7,7 +7,7 @@ ghost use Rattle.controller_threads.specs.Halts.{StopsAtStart};
 use crate::accepting::Accepting;
 use crate::caller::Caller;
 use crate::greeting::Greeting;
-use crate::handed::{Link, ShortGreeted};
+use crate::handed::{AcceptedLink, ShortGreeted};
 use crate::naming::Naming;
 use crate::opening::Admission;
 use crate::passes::NamedPass;
@@ -15,10 +15,10 @@ use crate::port::Port;
 use crate::ports::Ports;
 use crate::sessions::{ReadingSession, WritingSession};
 use crate::starting::{start, start_choosing};
-use crate::stop::Stop;
+use crate::stop::ServeStop;
 use crate::workers::{Flushing, Recurring, Rhythm};
 use cluster_types::config::Channel;
-use session_threads::connection::Connection;
+use session_threads::connection::ServedConnection;
 use session_threads::context::{LockedOf, SessionTypes};
 use std::sync::{Arc, Wait};
 use std::thread::Threads;
@@ -46,7 +46,7 @@ where
         spawner: &mut Spawner<H>,
         channel: Channel,
         port: P,
-    ) -> Result<(), Stop<P>>
+    ) -> Result<(), ServeStop<P>>
         ensures ok { OnOk result (spawner.new.faults ≡ spawner.old.faults) }
         ensures err { IfErr result (λ stop. StopsAtStart spawner.old.faults spawner.new.faults stop) }
     {
@@ -64,7 +64,7 @@ where
         &self,
         spawner: &mut Spawner<H>,
         ports: Ports<P>,
-    ) -> Result<(), Stop<P>>
+    ) -> Result<(), ServeStop<P>>
         ensures ok { OnOk result (spawner.new.faults ≡ spawner.old.faults) }
         ensures err { IfErr result (λ stop. StopsAtStart spawner.old.faults spawner.new.faults stop) }
     {
@@ -85,7 +85,7 @@ where
         spawner: &mut Spawner<H>,
         rhythm: Rhythm,
         pass: NamedPass<LockedOf<T>, N>,
-    ) -> Result<(), Stop<P>>
+    ) -> Result<(), ServeStop<P>>
         ensures ok { OnOk result (spawner.new.faults ≡ spawner.old.faults) }
         ensures err { IfErr result (λ stop. StopsAtStart spawner.old.faults spawner.new.faults stop) }
     {
@@ -102,7 +102,7 @@ where
         &self,
         spawner: &mut Spawner<H>,
         pass: NamedPass<LockedOf<T>, N>,
-    ) -> Result<(), Stop<P>>
+    ) -> Result<(), ServeStop<P>>
         ensures ok { OnOk result (spawner.new.faults ≡ spawner.old.faults) }
         ensures err { IfErr result (λ stop. StopsAtStart spawner.old.faults spawner.new.faults stop) }
     {
@@ -122,7 +122,7 @@ where
     }
 
     /// Starts the workers, each with a pass.
-    fn start_workers<H: Threads + Drop>(&mut self, spawner: &mut Spawner<H>) -> Result<(), Stop<P>>
+    fn start_workers<H: Threads + Drop>(&mut self, spawner: &mut Spawner<H>) -> Result<(), ServeStop<P>>
         requires { 3 ≤ room_of self.old.pool.pass }
         ensures ok { OnOk result (spawner.new.faults ≡ spawner.old.faults) }
         ensures err { IfErr result (λ stop. StopsAtStart spawner.old.faults spawner.new.faults stop) }
@@ -142,7 +142,7 @@ where
         &mut self,
         spawner: &mut Spawner<H>,
         ports: Ports<P>,
-    ) -> Result<(), Stop<P>>
+    ) -> Result<(), ServeStop<P>>
         requires { 3 ≤ room_of self.old.pool.pass }
         ensures ok { OnOk result (spawner.new.faults ≡ spawner.old.faults) }
         ensures err { IfErr result (λ stop. StopsAtStart spawner.old.faults spawner.new.faults stop) }
@@ -155,8 +155,8 @@ where
     pub fn start_greeting<H: Threads + Drop>(
         &mut self,
         spawner: &mut Spawner<H>,
-        link: Link<P::In, P::Out>,
-    ) -> Result<(), Stop<P>>
+        link: AcceptedLink<P::In, P::Out>,
+    ) -> Result<(), ServeStop<P>>
         ensures ok { OnOk result (spawner.new.faults ≡ spawner.old.faults) }
         ensures err { IfErr result (λ stop. StopsAtStart spawner.old.faults spawner.new.faults stop) }
     {
@@ -172,9 +172,9 @@ where
         spawner: &mut Spawner<H>,
         reader: P::In,
         greeted: ShortGreeted,
-        connection: Connection,
+        connection: ServedConnection,
         pass: NamedPass<LockedOf<T>, N>,
-    ) -> Result<(), Stop<P>>
+    ) -> Result<(), ServeStop<P>>
         ensures ok { OnOk result (spawner.new.faults ≡ spawner.old.faults) }
         ensures err { IfErr result (λ stop. StopsAtStart spawner.old.faults spawner.new.faults stop) }
     {
@@ -198,7 +198,7 @@ where
         writer: P::Out,
         conn: u32,
         pass: NamedPass<LockedOf<T>, N>,
-    ) -> Result<(), Stop<P>>
+    ) -> Result<(), ServeStop<P>>
         ensures ok { OnOk result (spawner.new.faults ≡ spawner.old.faults) }
         ensures err { IfErr result (λ stop. StopsAtStart spawner.old.faults spawner.new.faults stop) }
     {
@@ -215,12 +215,12 @@ where
     }
 
     /// Writes down that a connection has a writer.
-    fn note_writer(&self, conn: u32) -> Result<(), Stop<P>>
+    fn note_writer(&self, conn: u32) -> Result<(), ServeStop<P>>
         ensures { (before : ℕ) (now : ℕ) → IfErr result (λ stop. StopsAtStart before now stop) }
     {
         match self.shared.writers.add(&self.shared.serving.rt, conn) {
             Ok(()) => Ok(()),
-            Err(_) => Err(Stop::OutOfMemory),
+            Err(_) => Err(ServeStop::OutOfMemory),
         }
     }
 
@@ -228,14 +228,14 @@ where
     pub fn start_sessions<H: Threads + Drop>(
         &mut self,
         spawner: &mut Spawner<H>,
-        link: Link<P::In, P::Out>,
+        link: AcceptedLink<P::In, P::Out>,
         greeted: ShortGreeted,
         admission: Admission<LockedOf<T>, N>,
-    ) -> Result<(), Stop<P>>
+    ) -> Result<(), ServeStop<P>>
         ensures ok { OnOk result (spawner.new.faults ≡ spawner.old.faults) }
         ensures err { IfErr result (λ stop. StopsAtStart spawner.old.faults spawner.new.faults stop) }
     {
-        let Link {
+        let AcceptedLink {
             channel,
             reader,
             writer,
@@ -245,7 +245,7 @@ where
             reading,
             writing,
         } = admission;
-        let connection = Connection { number, channel };
+        let connection = ServedConnection { number, channel };
         self.start_reading(spawner, reader, greeted, connection, reading)?;
         self.note_writer(number)?;
         self.start_writing(spawner, writer, number, writing)

@@ -10,12 +10,12 @@ ghost use Rattle.controller_threads.specs.Passes.{IsSince};
 
 use crate::caller::Caller;
 use crate::halt::Halt;
-use crate::handed::{Link, ShortGreeted};
+use crate::handed::{AcceptedLink, ShortGreeted};
 use crate::naming::Naming;
 use crate::passes::NamedPass;
 use crate::port::Port;
 use crate::shared::Shared;
-use crate::stop::Stop;
+use crate::stop::ServeStop;
 use cluster_types::config::Channel;
 use controller_desk::fault::ActError;
 use edges::sink::{Sink, write_all};
@@ -91,18 +91,18 @@ where
     T::Runtime: Copy + Send + Sync + 'static,
 {
     /// Refuses a link: where the history is full the controller is halted.
-    fn refuse(&self, end: AdmitEnd, link: Link<P::In, P::Out>) -> Result<(), Stop<P>>
+    fn refuse(&self, end: AdmitEnd, link: AcceptedLink<P::In, P::Out>) -> Result<(), ServeStop<P>>
         requires { AdmitCause end N.start (known self.now.pool.pass).seen }
         ensures { (before : ℕ) (now : ℕ) → IfErr result (λ stop. StopCause P.faults N.start (known self.now.pool.pass).seen before now stop) }
     {
-        let Link { mut writer, .. } = link;
+        let AcceptedLink { mut writer, .. } = link;
         match end {
             AdmitEnd::NoPass | AdmitEnd::Act(ActError::TooManyConnections) => {
                 tell_busy(self.shared.serving.alloc, &mut writer);
                 Ok(())
             }
             AdmitEnd::Act(ActError::HistoryFull { entries, bytes }) => {
-                Err(Stop::Halted(Halt::HistoryFull { entries, bytes }))
+                Err(ServeStop::Halted(Halt::HistoryFull { entries, bytes }))
             }
             AdmitEnd::Act(_) => Ok(()),
         }
@@ -113,9 +113,9 @@ where
         &mut self,
         spawner: &mut Spawner<H>,
         chooser: &Chooser,
-        link: Link<P::In, P::Out>,
+        link: AcceptedLink<P::In, P::Out>,
         greeted: ShortGreeted,
-    ) -> Result<(), Stop<P>>
+    ) -> Result<(), ServeStop<P>>
         ensures ok { OnOk result (spawner.new.faults ≡ spawner.old.faults) }
         ensures cause { IfErr result (λ stop. StopCause P.faults N.start (known self.new.pool.pass).seen spawner.old.faults spawner.new.faults stop) }
     {

@@ -17,7 +17,7 @@ use history_lock::lock::Pass;
 use link_messages::end::SessionEnd;
 use link_messages::greeting::Greeted;
 use load_schemes::chooser::Chooser;
-use session_threads::connection::Connection;
+use session_threads::connection::ServedConnection;
 use session_threads::context::{LockedOf, PassOf, SessionTypes};
 use session_threads::reading::read_session;
 use session_threads::writing::write_session;
@@ -31,7 +31,7 @@ pub struct ReadingSession<P: Port, T: SessionTypes, N: Naming> {
     pub shared: Arc<Shared<P, T, N>, Global>,
     pub reader: P::In,
     pub greeted: ShortGreeted,
-    pub connection: Connection,
+    pub connection: ServedConnection,
     pub pass: NamedPass<LockedOf<T>, N>,
 }
 
@@ -50,7 +50,7 @@ fn read_link<P: Port + Drop, T: SessionTypes, N: Naming>(
     chooser: &Chooser,
     reader: &mut P::In,
     greeted: Greeted,
-    connection: Connection,
+    connection: ServedConnection,
     pass: &mut PassOf<T>,
 ) -> SessionEnd
     requires since { IsSince N.lock N.start pass.old }

@@ -4,7 +4,7 @@ ghost use Rattle.std.specs.Prelude.{◌≡◌, ◌<◌, length, OnOk, IfErr};
 ghost use Rattle.cluster_defs.specs.Scheduling.{pick};
 ghost use Rattle.controller_threads.specs.Halts.{StopsAtStart};
 
-use crate::stop::Stop;
+use crate::stop::ServeStop;
 use cluster_types::config::Scheme;
 use load_schemes::chooser::Chooser;
 use load_schemes::place::place_of;
@@ -16,14 +16,14 @@ use thread_edges::spawner::{Job, Spawner, StartError};
 pub fn start<P, H: Threads + Drop, J: Job + Drop + Send + 'static>(
     spawner: &mut Spawner<H>,
     job: J,
-) -> Result<(), Stop<P>>
+) -> Result<(), ServeStop<P>>
     ensures ok { OnOk result (spawner.new.faults ≡ spawner.old.faults) }
     ensures err { IfErr result (λ stop. StopsAtStart spawner.old.faults spawner.new.faults stop) }
 {
     match spawner.run_beside(job) {
         Ok(()) => Ok(()),
-        Err(StartError::NotStarted) => Err(Stop::NotStarted),
-        Err(StartError::OutOfMemory) => Err(Stop::OutOfMemory),
+        Err(StartError::NotStarted) => Err(ServeStop::NotStarted),
+        Err(StartError::OutOfMemory) => Err(ServeStop::OutOfMemory),
     }
 }
 
@@ -51,7 +51,7 @@ pub fn start_choosing<P, H: Threads + Drop, J: ChoosingJob + Drop + Send + 'stat
     alloc: Global,
     spawner: &mut Spawner<H>,
     job: J,
-) -> Result<(), Stop<P>>
+) -> Result<(), ServeStop<P>>
     ensures ok { OnOk result (spawner.new.faults ≡ spawner.old.faults) }
     ensures err { IfErr result (λ stop. StopsAtStart spawner.old.faults spawner.new.faults stop) }
 {
@@ -62,7 +62,7 @@ pub fn start_choosing<P, H: Threads + Drop, J: ChoosingJob + Drop + Send + 'stat
             ensures { result ≡ pick scheme loads.now word }
         { place_of(scheme, loads, word) },
     ) else {
-        return Err(Stop::OutOfMemory);
+        return Err(ServeStop::OutOfMemory);
     };
     let chooser = Chooser::new(choose);
     start(spawner, Choosing { job, chooser })

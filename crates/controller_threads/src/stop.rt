@@ -8,7 +8,7 @@ use std::alloc::AllocError;
 
 /// Why no further link is served, where the ports are `P`.
 #[derive(Drop)]
-pub enum Stop<P> {
+pub enum ServeStop<P> {
     /// The desk halts the controller.
     Halted(Halt),
     /// An accept failed on the port of this channel.
@@ -18,13 +18,13 @@ pub enum Stop<P> {
     OutOfMemory,
 }
 
-impl<P> From<AllocError> for Stop<P> {
+impl<P> From<AllocError> for ServeStop<P> {
     ghost use Rattle.std.specs.Prelude.{◌≡◌};
-    ghost use Rattle.controller_threads.specs.declared.stop.Stop.{Stop};
+    ghost use Rattle.controller_threads.specs.declared.stop.ServeStop.{ServeStop};
 
-    ghost from_gives = { λ _ e. e ≡ Stop.OutOfMemory };
+    ghost from_gives = { λ _ e. e ≡ ServeStop.OutOfMemory };
 
     fn from(_: AllocError) -> Self {
-        Stop::OutOfMemory
+        ServeStop::OutOfMemory
     }
 }

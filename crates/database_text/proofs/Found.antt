@@ -13,7 +13,7 @@ use Rattle.edges.specs.Difference.{difference}
 use Rattle.record_codec.specs.Spelling.{spelling, HasRecord}
 use Rattle.record_codec.specs.Records.{spellings}
 use Rattle.record_codec.proofs.Lengths.{length-be32}
-use Rattle.task_journal.specs.declared.gate.Gate.TheVariants.{Open}
+use Rattle.task_journal.specs.declared.gate.GateState.TheVariants.{Open}
 use Rattle.task_journal.specs.Journal.{holding, records_at, gate_in, found_from, head, StandsFor}
 use Rattle.task_journal.proofs.Batches.{records_again, count_fits}
 use Rattle.task_journal.proofs.Crash.{closed_gate, number_is}

@@ -20,7 +20,7 @@ use std::alloc::{AllocError, Global};
 
 /// What is known after a history, and what each of its entries does, in their order.
 #[derive(Drop)]
-pub struct Pass {
+pub struct HistoryNotes {
     /// The data after the newest entry.
     pub state: State,
     /// What each entry does.
@@ -55,7 +55,7 @@ fn take_entry(state: &mut State, entry: &Entry, scratch: &mut Scratch) -> Result
 }
 
 /// Takes the entries of a legal history one after another.
-pub fn pass_over(alloc: Global, entries: &[Entry]) -> Result<Pass, AllocError>
+pub fn pass_over(alloc: Global, entries: &[Entry]) -> Result<HistoryNotes, AllocError>
     requires legal { Legal (reverse entries.now) }
     requires time { All InTime entries.now }
     ensures stands { IfOk result (λ pass. plain pass.state ≡ plain_of (facts (reverse entries.now))) }
@@ -68,5 +68,5 @@ pub fn pass_over(alloc: Global, entries: &[Entry]) -> Result<Pass, AllocError>
         let note = take_entry(&mut state, entry, &mut scratch)?;
         notes.push(note)?;
     }
-    Ok(Pass { state, notes })
+    Ok(HistoryNotes { state, notes })
 }

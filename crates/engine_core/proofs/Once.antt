@@ -13,8 +13,8 @@ use Rattle.arith_eval.specs.Value.{Number, value_of_program}
 use Rattle.engine_core.specs.declared.fault.Fault.{Fault}
 use Rattle.engine_core.specs.declared.fault.Fault.TheVariants.{Syntax, Arithmetic}
 use Rattle.engine_core.specs.declared.evaluation.Shown.{Shown}
-use Rattle.engine_core.specs.declared.kinds.Kind.{Kind}
-use Rattle.engine_core.specs.declared.kinds.Kind.TheVariants.{Execute, Beat, Other}
+use Rattle.engine_core.specs.declared.kinds.RequestKind.{RequestKind}
+use Rattle.engine_core.specs.declared.kinds.RequestKind.TheVariants.{Execute, Beat, Other}
 use Rattle.engine_core.specs.declared.request.Expression.{Expression}
 use Rattle.engine_core.specs.declared.request.ExecuteRequest.{ExecuteRequest}
 use Rattle.engine_core.specs.Evaluation.{IsRun, Gives, GiveAll}
@@ -96,7 +96,7 @@ execution_once (Ok request) before a b after other g h =
     (p.0, session_same after other p.1 (g.0 ∙ sym h.0))
 execution_once (Err fault) before a b after other g h = (g.1 ∙ sym h.1, g.0 ∙ sym h.0)
 
-content_once : (kind : Kind) (msg_type asked : List ℕ) (before : Session) (a b : List ℕ) (after other : Session) → AnswersContent kind msg_type asked before a after → AnswersContent kind msg_type asked before b other → (a ≡ b) × (after ≡ other)
+content_once : (kind : RequestKind) (msg_type asked : List ℕ) (before : Session) (a b : List ℕ) (after other : Session) → AnswersContent kind msg_type asked before a after → AnswersContent kind msg_type asked before b other → (a ≡ b) × (after ≡ other)
 content_once Execute msg_type asked before a b after other g h = execution_once (read_execute asked) before a b after other g h
 content_once Beat msg_type asked before a b after other g h = (g.1 ∙ sym h.1, g.0 ∙ sym h.0)
 content_once Other msg_type asked before a b after other g h = (g.1 ∙ sym h.1, g.0 ∙ sym h.0)

@@ -9,8 +9,8 @@ use Rattle.cluster_defs.specs.Texts.{empty_object, reply_type}
 use Rattle.arith_eval.specs.Names.{Environment}
 use Rattle.engine_core.specs.declared.fault.Fault.{Fault}
 use Rattle.engine_core.specs.declared.evaluation.Shown.{Shown}
-use Rattle.engine_core.specs.declared.kinds.Kind.{Kind}
-use Rattle.engine_core.specs.declared.kinds.Kind.TheVariants.{Execute, Beat, Other}
+use Rattle.engine_core.specs.declared.kinds.RequestKind.{RequestKind}
+use Rattle.engine_core.specs.declared.kinds.RequestKind.TheVariants.{Execute, Beat, Other}
 use Rattle.engine_core.specs.declared.request.ExecuteRequest.{ExecuteRequest}
 use Rattle.engine_core.specs.Faults.{ename, evalue}
 use Rattle.engine_core.specs.Request.{read_execute}
@@ -59,12 +59,12 @@ AnswersExecution (Err fault) before content after =
     (after ≡ before) × (content ≡ failed_content before.count (codes "BadContent") (fault_field (codes "content") fault))
 
 -- what a type of request asks for
-abbrev pub kind_of : List ℕ → Kind
+abbrev pub kind_of : List ℕ → RequestKind
 kind_of msg_type =
     if bytes_eq msg_type (codes "execute_request") then Execute else (if bytes_eq msg_type (codes "beat_request") then Beat else Other)
 
 -- the content of the reply to a request with a content: kind, type, content; an echo to a beat
-abbrev pub AnswersContent : Kind → List ℕ → List ℕ → Session → List ℕ → Session → Type 0
+abbrev pub AnswersContent : RequestKind → List ℕ → List ℕ → Session → List ℕ → Session → Type 0
 AnswersContent Execute msg_type asked before content after = AnswersExecution (read_execute asked) before content after
 AnswersContent Beat msg_type asked before content after = (after ≡ before) × (content ≡ asked)
 AnswersContent Other msg_type asked before content after =

@@ -10,7 +10,7 @@ ghost use Rattle.engine_core.specs.Answer.{counted, Replies, Executes, AnswersEx
 use crate::contents::{executed_content, failed_content, fault_content};
 use crate::evaluation::{evaluate, evaluate_all};
 use crate::fault::Fault;
-use crate::kinds::{Kind, kind_of};
+use crate::kinds::{RequestKind, kind_of};
 use crate::reading::read_execute;
 use crate::request::ExecuteRequest;
 use arith_eval::namespace::Namespace;
@@ -72,9 +72,9 @@ impl Kernel {
         ensures { IfOk result (λ reply. AnswersContent (kind_of msg_type.now) msg_type.now content.now (session self.old) reply (session self.new)) }
     {
         match kind_of(msg_type.as_str()) {
-            Kind::Execute => self.execute(alloc, content),
-            Kind::Beat => Octets::new(alloc, content),
-            Kind::Other => failed_content(alloc, self.count, "NotSupported", msg_type.as_str()),
+            RequestKind::Execute => self.execute(alloc, content),
+            RequestKind::Beat => Octets::new(alloc, content),
+            RequestKind::Other => failed_content(alloc, self.count, "NotSupported", msg_type.as_str()),
         }
     }
 

@@ -14,7 +14,7 @@ use std::alloc::{AllocError, Global};
 
 /// What a request asks an engine for, by its type.
 #[derive(Clone, Copy, Debug, PartialEq, Eq)]
-pub enum Kind {
+pub enum RequestKind {
     /// `execute_request`
     Execute,
     /// `beat_request`
@@ -24,13 +24,13 @@ pub enum Kind {
 }
 
 /// What a type of request asks for.
-pub fn kind_of(msg_type: &str) -> Kind
+pub fn kind_of(msg_type: &str) -> RequestKind
     ensures { result ≡ kind_of msg_type.now }
 {
     match msg_type {
-        "execute_request" => Kind::Execute,
-        "beat_request" => Kind::Beat,
-        _ => Kind::Other,
+        "execute_request" => RequestKind::Execute,
+        "beat_request" => RequestKind::Beat,
+        _ => RequestKind::Other,
     }
 }
 

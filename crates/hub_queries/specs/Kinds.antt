@@ -2,9 +2,9 @@
 use Rattle.std.specs.Prelude.{Bool, not}
 use Rattle.cluster_types.specs.declared.record.Record.{Record}
 use Rattle.cluster_defs.specs.RecordAnswers.{waits_in}
-use Rattle.hub_queries.specs.declared.scan.Kind.{Kind}
-use Rattle.hub_queries.specs.declared.scan.Kind.TheVariants.{Kept, Waiting}
+use Rattle.hub_queries.specs.declared.scan.ListedKind.{ListedKind}
+use Rattle.hub_queries.specs.declared.scan.ListedKind.TheVariants.{Kept, Waiting}
 
-abbrev pub is_kind : Kind → Record → Bool
+abbrev pub is_kind : ListedKind → Record → Bool
 is_kind Kept r = not r.purged
 is_kind Waiting r = waits_in r

@@ -16,7 +16,7 @@ use crate::engines::{LiveEngines, asked, first_missing, numbers_of};
 use crate::lengths::QueueCounts;
 use crate::limits::{plain, refusal};
 use crate::rows::{Row, shown_rows};
-use crate::scan::{Kind, tally_of, waiting};
+use crate::scan::{ListedKind, tally_of, waiting};
 use crate::tally::Tally;
 use cluster_defs::answer::Answer;
 use cluster_types::message::Engines;
@@ -79,7 +79,7 @@ pub fn connection_answer(alloc: Global, live: &LiveEngines) -> Result<Answer, Al
 fn history_text<R: Records>(alloc: Global, table: &R) -> Result<String, AllocError>
     ensures { IfOk result (λ s. string_bytes s ≡ history_content (ids_where (λ r. not r.purged) (R.records table.now))) }
 {
-    let kept = tally_of(alloc, table, Kind::Kept, true)?;
+    let kept = tally_of(alloc, table, ListedKind::Kept, true)?;
     let mut text = String::from_str(alloc, "{\"status\":\"ok\",\"history\":")?;
     kept.push_to(&mut text, alloc)?;
     text.push_str("}")?;

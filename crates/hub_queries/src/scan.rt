@@ -15,7 +15,7 @@ use std::alloc::{AllocError, Global};
 
 /// Which records are listed.
 #[derive(Clone, Copy, Debug, PartialEq, Eq)]
-pub enum Kind {
+pub enum ListedKind {
     /// Those that aren't purged.
     Kept,
     /// Those that are for any engine, unsettled and without a current attempt.
@@ -23,12 +23,12 @@ pub enum Kind {
 }
 
 /// Whether a record is of a kind.
-fn is_kind(kind: Kind, task: &Record) -> bool
+fn is_kind(kind: ListedKind, task: &Record) -> bool
     ensures { result ≡ is_kind kind task.now }
 {
     match kind {
-        Kind::Kept => !task.purged,
-        Kind::Waiting => task.settled.is_none() && !task.running && !task.direct,
+        ListedKind::Kept => !task.purged,
+        ListedKind::Waiting => task.settled.is_none() && !task.running && !task.direct,
     }
 }
 
@@ -36,7 +36,7 @@ fn is_kind(kind: Kind, task: &Record) -> bool
 fn add_kind(
     tally: &mut Tally,
     alloc: Global,
-    kind: Kind,
+    kind: ListedKind,
     task: Option<&Record>,
 ) -> Result<(), AllocError>
     ensures { (verbose : Bool) (ids : List Id) → length ids + 1 < 2 ^ 64 → tally.old ≡ tallied verbose ids → OnOk result (tally.new ≡ tallied verbose (ids ++ id_if (is_kind kind) (option_copied task.entry))) }
@@ -52,7 +52,7 @@ fn add_kind(
 pub fn tally_of<R: Records>(
     alloc: Global,
     table: &R,
-    kind: Kind,
+    kind: ListedKind,
     verbose: bool,
 ) -> Result<Tally, AllocError>
     ensures { IfOk result (λ t. t ≡ tallied verbose (ids_where (λ r. is_kind kind r) (R.records table.now))) }
@@ -70,10 +70,10 @@ pub fn waiting<R: QueueCounts>(alloc: Global, table: &R, verbose: bool) -> Resul
     ensures { IfOk result (λ t. t ≡ tallied verbose (ids_where waits_in (R.records table.now))) }
 {
     if verbose {
-        return tally_of(alloc, table, Kind::Waiting, true);
+        return tally_of(alloc, table, ListedKind::Waiting, true);
     }
     match table.waiting() {
         Some(count) => Ok(Tally::counted(alloc, count)),
-        None => tally_of(alloc, table, Kind::Waiting, false),
+        None => tally_of(alloc, table, ListedKind::Waiting, false),
     }
 }

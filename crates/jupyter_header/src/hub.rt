@@ -16,7 +16,7 @@ use cluster_types::sequence::Sequence;
 use json::{Scratch, Value};
 use cluster_defs::content::HubContent;
 use cluster_defs::fault::ReadError;
-use cluster_defs::hub_request::Request;
+use cluster_defs::hub_request::RequestType;
 use std::alloc::Global;
 
 /// What a question about queues asks for.
@@ -149,32 +149,32 @@ fn pong_content(alloc: Global, value: &Value<'_>) -> Result<HubContent, ReadErro
 }
 
 /// The content of a request that says all by its type.
-fn unread(request: Request) -> Option<HubContent>
+fn unread(request: RequestType) -> Option<HubContent>
     ensures { result ≡ unread request }
 {
     match request {
-        Request::Connection => Some(HubContent::Connection),
-        Request::History => Some(HubContent::History),
-        Request::Shutdown => Some(HubContent::Shutdown),
+        RequestType::Connection => Some(HubContent::Connection),
+        RequestType::History => Some(HubContent::History),
+        RequestType::Shutdown => Some(HubContent::Shutdown),
         _ => None,
     }
 }
 
 /// The content of a request by the object that it is.
-fn read_fields(alloc: Global, request: Request, value: &Value<'_>) -> Result<HubContent, ReadError>
+fn read_fields(alloc: Global, request: RequestType, value: &Value<'_>) -> Result<HubContent, ReadError>
     ensures ok { IfOk result (λ c. content_from request (view value.now) ≡ Ok c) }
     ensures err { IfErr result (λ e. (e ≡ ReadError.OutOfMemory) ⊎ (content_from request (view value.now) ≡ Err e)) }
 {
     match request {
-        Request::Connection => Ok(HubContent::Connection),
-        Request::History => Ok(HubContent::History),
-        Request::Shutdown => Ok(HubContent::Shutdown),
-        Request::Queue => queue_content(alloc, value),
-        Request::Results => result_content(alloc, value),
-        Request::Purge => purge_content(alloc, value),
-        Request::Resubmit => resubmit_content(alloc, value),
-        Request::Registration => join_content(alloc, value),
-        Request::Beat => pong_content(alloc, value),
+        RequestType::Connection => Ok(HubContent::Connection),
+        RequestType::History => Ok(HubContent::History),
+        RequestType::Shutdown => Ok(HubContent::Shutdown),
+        RequestType::Queue => queue_content(alloc, value),
+        RequestType::Results => result_content(alloc, value),
+        RequestType::Purge => purge_content(alloc, value),
+        RequestType::Resubmit => resubmit_content(alloc, value),
+        RequestType::Registration => join_content(alloc, value),
+        RequestType::Beat => pong_content(alloc, value),
     }
 }
 
@@ -184,7 +184,7 @@ fn read_fields(alloc: Global, request: Request, value: &Value<'_>) -> Result<Hub
 #[tactic(auto, unfolding(cluster_defs::specs::Hub::read_content))]
 pub fn read_content(
     alloc: Global,
-    request: Request,
+    request: RequestType,
     content: &[u8],
     scratch: &mut Scratch,
 ) -> Result<HubContent, ReadError>

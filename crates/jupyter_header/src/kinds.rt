@@ -6,7 +6,7 @@ ghost use Rattle.cluster_defs.specs.Hub.{request_of};
 ghost use Rattle.cluster_defs.specs.Texts.{stem_of, reply_type};
 
 use cluster_types::text::Text;
-use cluster_defs::hub_request::Request;
+use cluster_defs::hub_request::RequestType;
 use std::alloc::{AllocError, Global};
 
 /// Whether it ends in `_request`.
@@ -35,27 +35,27 @@ pub fn is_leave(msg_type: &Text) -> bool
 
 /// The request whose content is read that it names.
 #[tactic(auto, unfolding(cluster_defs::specs::Hub::request_of))]
-pub fn request_of(msg_type: &str) -> Option<Request>
+pub fn request_of(msg_type: &str) -> Option<RequestType>
     ensures { result ≡ request_of msg_type.now }
 {
     if msg_type == "connection_request" {
-        Some(Request::Connection)
+        Some(RequestType::Connection)
     } else if msg_type == "queue_request" {
-        Some(Request::Queue)
+        Some(RequestType::Queue)
     } else if msg_type == "result_request" {
-        Some(Request::Results)
+        Some(RequestType::Results)
     } else if msg_type == "history_request" {
-        Some(Request::History)
+        Some(RequestType::History)
     } else if msg_type == "shutdown_request" {
-        Some(Request::Shutdown)
+        Some(RequestType::Shutdown)
     } else if msg_type == "purge_request" {
-        Some(Request::Purge)
+        Some(RequestType::Purge)
     } else if msg_type == "resubmit_request" {
-        Some(Request::Resubmit)
+        Some(RequestType::Resubmit)
     } else if msg_type == "registration_request" {
-        Some(Request::Registration)
+        Some(RequestType::Registration)
     } else if msg_type == "beat_reply" {
-        Some(Request::Beat)
+        Some(RequestType::Beat)
     } else {
         None
     }

@@ -4,8 +4,8 @@ use Rattle.std.specs.Prelude.{OnErr}
 use Rattle.link_commands.specs.Asking.{opened, due_for}
 use Rattle.cluster_types.specs.declared.message.Message.{Message}
 use Rattle.edges.specs.Streams.{Added}
-use Rattle.link_commands.specs.declared.end.SessionEnd.{SessionEnd}
-use Rattle.link_commands.specs.declared.end.SessionEnd.TheVariants.{LinkFault}
+use Rattle.link_commands.specs.declared.end.DialledEnd.{DialledEnd}
+use Rattle.link_commands.specs.declared.end.DialledEnd.TheVariants.{LinkFault}
 use Rattle.link_messages.specs.Written.{AddedFront}
 use Rattle.link_messages.proofs.Fronts.{front_behind}
 use Rattle.zmtp_peer.specs.PeerStream.{Talk, sent, identity}
@@ -22,6 +22,6 @@ pub due_front : (key : List ℕ) (request : Message) (t : Talk) (piece : List �
 due_front key request t piece ready x y z is first more = subst (λ (xs : List ℕ). AddedFront xs x z) (due_is key request t piece ready is) (front_behind (sent t piece) (opened key request ready) x y z first more)
 
 -- a front of octets was written, by a call that has no other fault
-pub written_front : {T : Type 0} (r : Result T SessionEnd) (a b : List ℕ) (x y : Option (List ℕ)) → a ≡ b → OnErr r ((r ≡ Err LinkFault) × AddedFront a x y) → OnErr r (AddedFront b x y)
+pub written_front : {T : Type 0} (r : Result T DialledEnd) (a b : List ℕ) (x y : Option (List ℕ)) → a ≡ b → OnErr r ((r ≡ Err LinkFault) × AddedFront a x y) → OnErr r (AddedFront b x y)
 written_front (Ok t) a b x y is both = tt
 written_front (Err e) a b x y is both = subst (λ (xs : List ℕ). AddedFront xs x y) is both.1

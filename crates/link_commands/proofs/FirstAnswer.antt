@@ -1,8 +1,8 @@
 -- The first answer among messages, and what it ends.
 use Rattle.std.proofs.Common.{◌≡◌, ℕ, ◌+◌, ◌<◌, List, ◌∷◌, length, get_or, drop, Option, Some, None, refl, sym, ap, ◌∙◌}
 use Rattle.std.proofs.lemmas.List.{at_drop_more}
-use Rattle.link_commands.specs.declared.finding.Taken.{Taken}
-use Rattle.link_commands.specs.declared.finding.Taken.TheVariants.{Answer, Fault, Nothing}
+use Rattle.link_commands.specs.declared.finding.Conclusion.{Conclusion}
+use Rattle.link_commands.specs.declared.finding.Conclusion.TheVariants.{Answer, Fault, Nothing}
 use Rattle.link_commands.specs.Asking.{answer_of, or_next, answer_in, answer_by, taken_by}
 use Rattle.cluster_types.specs.declared.message.Message.{Message}
 use Rattle.zmtp_peer.specs.declared.fault.PeerFault.{PeerFault}
@@ -19,22 +19,22 @@ first_is key id messages i frames answer lt at is =
 
 -- WHAT ENDS A SESSION
 
-pub answer_taken : (taken : Taken) (a : Option Message) (f : Option PeerFault) (m : Message) → taken ≡ taken_by a f → taken ≡ Answer m → a ≡ Some m
+pub answer_taken : (taken : Conclusion) (a : Option Message) (f : Option PeerFault) (m : Message) → taken ≡ taken_by a f → taken ≡ Answer m → a ≡ Some m
 answer_taken taken (Some x) f m is end = let same : Answer x ≡ Answer m = sym is ∙ end in cc
 answer_taken taken None (Some p) m is end = let same : Fault p ≡ Answer m = sym is ∙ end in absurd (cc)
 answer_taken taken None None m is end = let same : Nothing ≡ Answer m = sym is ∙ end in absurd (cc)
 
-pub fault_taken : (taken : Taken) (a : Option Message) (f : Option PeerFault) (p : PeerFault) → taken ≡ taken_by a f → taken ≡ Fault p → (a ≡ None) × (f ≡ Some p)
+pub fault_taken : (taken : Conclusion) (a : Option Message) (f : Option PeerFault) (p : PeerFault) → taken ≡ taken_by a f → taken ≡ Fault p → (a ≡ None) × (f ≡ Some p)
 fault_taken taken (Some x) f p is end = let same : Answer x ≡ Fault p = sym is ∙ end in absurd (cc)
 fault_taken taken None (Some q) p is end = let same : Fault q ≡ Fault p = sym is ∙ end in (refl, cc)
 fault_taken taken None None p is end = let same : Nothing ≡ Fault p = sym is ∙ end in absurd (cc)
 
-pub nothing_taken : (taken : Taken) (a : Option Message) (f : Option PeerFault) → taken ≡ taken_by a f → taken ≡ Nothing → (a ≡ None) × (f ≡ None)
+pub nothing_taken : (taken : Conclusion) (a : Option Message) (f : Option PeerFault) → taken ≡ taken_by a f → taken ≡ Nothing → (a ≡ None) × (f ≡ None)
 nothing_taken taken (Some x) f is end = let same : Answer x ≡ Nothing = sym is ∙ end in absurd (cc)
 nothing_taken taken None (Some q) is end = let same : Fault q ≡ Nothing = sym is ∙ end in absurd (cc)
 nothing_taken taken None None is end = (refl, refl)
 
-pub piece_taken : (key : List ℕ) (id : Option (List ℕ)) (t : Talk) (piece : List ℕ) (taken : Taken) (a : Option Message) (f : Option PeerFault) (ms : List (List (List ℕ))) → taken ≡ taken_by a f → a ≡ answer_in key id ms →
+pub piece_taken : (key : List ℕ) (id : Option (List ℕ)) (t : Talk) (piece : List ℕ) (taken : Conclusion) (a : Option Message) (f : Option PeerFault) (ms : List (List (List ℕ))) → taken ≡ taken_by a f → a ≡ answer_in key id ms →
     ms ≡ messages t piece → f ≡ fault_of (talked t piece).phase → taken ≡ taken_by (answer_by key id t piece) (fault_of (talked t piece).phase)
 piece_taken key id t piece taken a f ms is a_is ms_is f_is =
     is ∙ ap (λ (x : Option PeerFault). taken_by a x) f_is

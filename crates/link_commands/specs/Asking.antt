@@ -3,8 +3,8 @@ use Rattle.std.specs.Prelude.{◌≡◌, ℕ, Bool, false, List, [], ◌∷◌, 
 use Rattle.std.specs.Option.{unwrap_or}
 use Rattle.std.specs.Result.{result_ok}
 use Rattle.client_core.specs.Taking.{task_in}
-use Rattle.link_commands.specs.declared.finding.Taken.{Taken}
-use Rattle.link_commands.specs.declared.finding.Taken.TheVariants.{Answer, Fault, Nothing}
+use Rattle.link_commands.specs.declared.finding.Conclusion.{Conclusion}
+use Rattle.link_commands.specs.declared.finding.Conclusion.TheVariants.{Answer, Fault, Nothing}
 use Rattle.cluster_types.specs.declared.message.Message.{Message}
 use Rattle.edges.specs.Streams.{Took, Added}
 use Rattle.link_messages.specs.Message.{signed}
@@ -106,7 +106,7 @@ abbrev pub answer_by : List ℕ → Option (List ℕ) → Talk → List ℕ → 
 answer_by key id t piece = answer_in key id (messages t piece)
 
 -- what ends a session: an answer, else a fault
-abbrev pub taken_by : Option Message → Option PeerFault → Taken
+abbrev pub taken_by : Option Message → Option PeerFault → Conclusion
 taken_by (Some answer) fault = Answer answer
 taken_by None (Some fault) = Fault fault
 taken_by None None = Nothing

@@ -7,7 +7,7 @@ ghost use Rattle.engine_core.specs.State.{standing};
 ghost use Rattle.link_commands.specs.Working.{Hears, WroteAll, WroteSome};
 
 use crate::dialled::{octets_of, write};
-use crate::end::SessionEnd;
+use crate::end::DialledEnd;
 use edges::frames::Frames;
 use edges::sink::Sink;
 use engine_core::engine::Engine;
@@ -45,11 +45,11 @@ pub fn answer_all<K: Sink, C: Clock>(
     clock: &mut C,
     writer: &mut K,
     messages: &[Frames],
-) -> Result<(), SessionEnd>
+) -> Result<(), DialledEnd>
     ensures ok { OnOk result (WroteAll key.now (standing engine.old) messages.now (K.written writer.old) (K.written writer.new) (standing engine.new)) }
     ensures err { OnErr result (WroteSome key.now (standing engine.old) messages.now (K.written writer.old) (K.written writer.new)) }
-    ensures ends { OnErr result ((result ≡ Err SessionEnd.LinkFault) ⊎ (result ≡ Err SessionEnd.OutOfMemory)) }
-    ensures cause { result ≡ Err SessionEnd.LinkFault → Rose (K.faults writer.old) (K.faults writer.new) }
+    ensures ends { OnErr result ((result ≡ Err DialledEnd.LinkFault) ⊎ (result ≡ Err DialledEnd.OutOfMemory)) }
+    ensures cause { result ≡ Err DialledEnd.LinkFault → Rose (K.faults writer.old) (K.faults writer.new) }
     ensures later { K.faults writer.old ≤ K.faults writer.new }
 {
     for frames in messages {

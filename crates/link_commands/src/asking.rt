@@ -10,8 +10,8 @@ ghost use Rattle.zmtp_peer.specs.declared.fault.PeerFault.{PeerFault as Fault};
 ghost use Rattle.zmtp_peer.specs.PeerStream.{talked, fault_of};
 
 use crate::dialled::{PIECE_OCTETS, greet, hear, read, write};
-use crate::end::SessionEnd;
-use crate::finding::{Taken, answer_in, id_in, taken_by};
+use crate::end::DialledEnd;
+use crate::finding::{Conclusion, answer_in, id_in, taken_by};
 use cluster_types::octets::Octets;
 use cluster_types::shared_message::SharedMessage;
 use cluster_types::text::Text;
@@ -40,13 +40,13 @@ fn write_request<K: Sink>(
     request: &SharedMessage,
     key: &Key,
     writer: &mut K,
-) -> Result<(), SessionEnd>
+) -> Result<(), DialledEnd>
     requires short { length request.now.target ≤ 255 }
     requires plain { request.now.target ≢ delimiter }
     ensures ok { OnOk result (Added (request_octets key.now request.now) (K.written writer.old) (K.written writer.new)) }
     ensures err { OnErr result (AddedFront (request_octets key.now request.now) (K.written writer.old) (K.written writer.new)) }
-    ensures ends { OnErr result ((result ≡ Err SessionEnd.LinkFault) ⊎ (result ≡ Err SessionEnd.OutOfMemory)) }
-    ensures cause { result ≡ Err SessionEnd.LinkFault → Rose (K.faults writer.old) (K.faults writer.new) }
+    ensures ends { OnErr result ((result ≡ Err DialledEnd.LinkFault) ⊎ (result ≡ Err DialledEnd.OutOfMemory)) }
+    ensures cause { result ≡ Err DialledEnd.LinkFault → Rose (K.faults writer.old) (K.faults writer.new) }
     ensures later { K.faults writer.old ≤ K.faults writer.new }
 {
     let octets = request_octets(alloc, key, request)?;
@@ -60,13 +60,13 @@ fn open_where<K: Sink>(
     key: &Key,
     writer: &mut K,
     ready: &Option<Octets>,
-) -> Result<(), SessionEnd>
+) -> Result<(), DialledEnd>
     requires short { length request.now.target ≤ 255 }
     requires plain { request.now.target ≢ delimiter }
     ensures ok { OnOk result (Added (opened key.now request.now ready.now) (K.written writer.old) (K.written writer.new)) }
     ensures err { OnErr result (AddedFront (opened key.now request.now ready.now) (K.written writer.old) (K.written writer.new)) }
-    ensures ends { OnErr result ((result ≡ Err SessionEnd.LinkFault) ⊎ (result ≡ Err SessionEnd.OutOfMemory)) }
-    ensures cause { result ≡ Err SessionEnd.LinkFault → Rose (K.faults writer.old) (K.faults writer.new) }
+    ensures ends { OnErr result ((result ≡ Err DialledEnd.LinkFault) ⊎ (result ≡ Err DialledEnd.OutOfMemory)) }
+    ensures cause { result ≡ Err DialledEnd.LinkFault → Rose (K.faults writer.old) (K.faults writer.new) }
     ensures later { K.faults writer.old ≤ K.faults writer.new }
 {
     match ready {
@@ -84,15 +84,15 @@ fn take_piece<K: Sink>(
     key: &Key,
     writer: &mut K,
     piece: &[u8],
-) -> Result<Taken, SessionEnd>
+) -> Result<Conclusion, DialledEnd>
     requires short { length request.now.target ≤ 255 }
     requires plain { request.now.target ≢ delimiter }
     ensures ok { OnOk result (Added (due_for key.now request.now peer.old.talk piece.now) (K.written writer.old) (K.written writer.new)) }
     ensures talk { OnOk result (peer.new.talk ≡ talked peer.old.talk piece.now) }
     ensures taken { IfOk result (λ taken. taken ≡ taken_by (answer_by key.now id.now peer.old.talk piece.now) (fault_of (talked peer.old.talk piece.now).phase)) }
     ensures err { OnErr result (AddedFront (due_for key.now request.now peer.old.talk piece.now) (K.written writer.old) (K.written writer.new)) }
-    ensures ends { OnErr result ((result ≡ Err SessionEnd.LinkFault) ⊎ (result ≡ Err SessionEnd.OutOfMemory)) }
-    ensures cause { result ≡ Err SessionEnd.LinkFault → Rose (K.faults writer.old) (K.faults writer.new) }
+    ensures ends { OnErr result ((result ≡ Err DialledEnd.LinkFault) ⊎ (result ≡ Err DialledEnd.OutOfMemory)) }
+    ensures cause { result ≡ Err DialledEnd.LinkFault → Rose (K.faults writer.old) (K.faults writer.new) }
     ensures later { K.faults writer.old ≤ K.faults writer.new }
 {
     let fed = hear(peer, writer, piece)?;
@@ -110,15 +110,15 @@ fn ask_under<R: Wait, S: Source, K: Sink>(
     key: &Key,
     reader: &mut S,
     writer: &mut K,
-) -> Result<SharedMessage, SessionEnd>
+) -> Result<SharedMessage, DialledEnd>
     requires id { id.now ≡ id_in request.now.header }
     requires short { length request.now.target ≤ 255 }
     requires plain { request.now.target ≢ delimiter }
     ensures answered { IfOk result (λ answer. IsAnswered key.now request.now (S.left reader.old) (S.left reader.new) (K.written writer.old) (K.written writer.new) answer) }
-    ensures ended { result ≡ Err SessionEnd.Ended → IsUnanswered key.now request.now (S.left reader.old) (S.left reader.new) (K.written writer.old) (K.written writer.new) None × IsAtEnd (S.left reader.new) }
-    ensures fault { (f : Fault) → result ≡ Err (SessionEnd.ZmtpFault f) → IsUnanswered key.now request.now (S.left reader.old) (S.left reader.new) (K.written writer.old) (K.written writer.new) (Some f) }
+    ensures ended { result ≡ Err DialledEnd.Ended → IsUnanswered key.now request.now (S.left reader.old) (S.left reader.new) (K.written writer.old) (K.written writer.new) None × IsAtEnd (S.left reader.new) }
+    ensures fault { (f : Fault) → result ≡ Err (DialledEnd.ZmtpFault f) → IsUnanswered key.now request.now (S.left reader.old) (S.left reader.new) (K.written writer.old) (K.written writer.new) (Some f) }
     ensures front { AskedFront key.now request.now (S.left reader.old) (S.left reader.new) (K.written writer.old) (K.written writer.new) }
-    ensures cause { result ≡ Err SessionEnd.LinkFault → Rose (S.faults reader.old) (S.faults reader.new) ⊎ Rose (K.faults writer.old) (K.faults writer.new) }
+    ensures cause { result ≡ Err DialledEnd.LinkFault → Rose (S.faults reader.old) (S.faults reader.new) ⊎ Rose (K.faults writer.old) (K.faults writer.new) }
 {
     let mut peer = greet(alloc, writer)?;
     let mut piece = [0u8; PIECE_OCTETS];
@@ -129,9 +129,9 @@ fn ask_under<R: Wait, S: Source, K: Sink>(
         };
         let taken = take_piece(alloc, &mut peer, request, id, key, writer, &piece[..count])?;
         match taken {
-            Taken::Answer(answer) => return Ok(answer),
-            Taken::Fault(fault) => return Err(SessionEnd::ZmtpFault(fault)),
-            Taken::Nothing => {}
+            Conclusion::Answer(answer) => return Ok(answer),
+            Conclusion::Fault(fault) => return Err(DialledEnd::ZmtpFault(fault)),
+            Conclusion::Nothing => {}
         }
     }
     unreachable!()
@@ -150,14 +150,14 @@ pub fn ask_over<R: Wait, S: Source, K: Sink>(
     key: &Key,
     reader: &mut S,
     writer: &mut K,
-) -> Result<SharedMessage, SessionEnd>
+) -> Result<SharedMessage, DialledEnd>
     requires short { length request.now.target ≤ 255 }
     requires plain { request.now.target ≢ delimiter }
     ensures answered { IfOk result (λ answer. IsAnswered key.now request.now (S.left reader.old) (S.left reader.new) (K.written writer.old) (K.written writer.new) answer) }
-    ensures ended { result ≡ Err SessionEnd.Ended → IsUnanswered key.now request.now (S.left reader.old) (S.left reader.new) (K.written writer.old) (K.written writer.new) None × IsAtEnd (S.left reader.new) }
-    ensures fault { (f : Fault) → result ≡ Err (SessionEnd.ZmtpFault f) → IsUnanswered key.now request.now (S.left reader.old) (S.left reader.new) (K.written writer.old) (K.written writer.new) (Some f) }
+    ensures ended { result ≡ Err DialledEnd.Ended → IsUnanswered key.now request.now (S.left reader.old) (S.left reader.new) (K.written writer.old) (K.written writer.new) None × IsAtEnd (S.left reader.new) }
+    ensures fault { (f : Fault) → result ≡ Err (DialledEnd.ZmtpFault f) → IsUnanswered key.now request.now (S.left reader.old) (S.left reader.new) (K.written writer.old) (K.written writer.new) (Some f) }
     ensures front { AskedFront key.now request.now (S.left reader.old) (S.left reader.new) (K.written writer.old) (K.written writer.new) }
-    ensures cause { result ≡ Err SessionEnd.LinkFault → Rose (S.faults reader.old) (S.faults reader.new) ⊎ Rose (K.faults writer.old) (K.faults writer.new) }
+    ensures cause { result ≡ Err DialledEnd.LinkFault → Rose (S.faults reader.old) (S.faults reader.new) ⊎ Rose (K.faults writer.old) (K.faults writer.new) }
 {
     let id = id_in(alloc, request.header())?;
     ask_under(rt, alloc, request, &id, key, reader, writer)

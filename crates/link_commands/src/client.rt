@@ -9,7 +9,7 @@ ghost use Rattle.link_commands.specs.Links.{IsDialled};
 
 use crate::actions::{channel_for, message_for};
 use crate::asking::ask_over;
-use crate::end::SessionEnd;
+use crate::end::DialledEnd;
 use crate::random::drawn;
 use crate::status::is_ok;
 use cluster_types::shared_message::SharedMessage;
@@ -124,16 +124,16 @@ pub fn run_client<R: Wait, N: Dialer, C: Clock, W: Words, K: Sink>(
     };
     let answer = match ask_over(rt, alloc, &request, key, &mut reader, &mut writer) {
         Ok(answer) => answer,
-        Err(SessionEnd::Ended) => return ClientEnd::Unanswered { reader, writer },
-        Err(SessionEnd::LinkFault) => return ClientEnd::LinkFault { reader, writer },
-        Err(SessionEnd::ZmtpFault(fault)) => {
+        Err(DialledEnd::Ended) => return ClientEnd::Unanswered { reader, writer },
+        Err(DialledEnd::LinkFault) => return ClientEnd::LinkFault { reader, writer },
+        Err(DialledEnd::ZmtpFault(fault)) => {
             return ClientEnd::ZmtpFault {
                 fault,
                 reader,
                 writer,
             };
         }
-        Err(SessionEnd::OutOfMemory) => return ClientEnd::OutOfMemory,
+        Err(DialledEnd::OutOfMemory) => return ClientEnd::OutOfMemory,
     };
     match show(alloc, &answer, output) {
         Ok(ok) => ClientEnd::Answered { ok, reader, writer },

@@ -7,7 +7,7 @@ use zmtp_peer::fault::PeerFault;
 
 /// How a session ended.
 #[derive(Clone, Copy, Debug, PartialEq, Eq)]
-pub enum SessionEnd {
+pub enum DialledEnd {
     /// The controller's stream was read to its end.
     Ended,
     /// A read or a write failed.
@@ -17,13 +17,13 @@ pub enum SessionEnd {
     OutOfMemory,
 }
 
-impl From<AllocError> for SessionEnd {
+impl From<AllocError> for DialledEnd {
     ghost use Rattle.std.specs.Prelude.{◌≡◌};
-    ghost use Rattle.link_commands.specs.declared.end.SessionEnd.{SessionEnd};
+    ghost use Rattle.link_commands.specs.declared.end.DialledEnd.{DialledEnd};
 
-    ghost from_gives = { λ _ e. e ≡ SessionEnd.OutOfMemory };
+    ghost from_gives = { λ _ e. e ≡ DialledEnd.OutOfMemory };
 
-    fn from(_error: AllocError) -> SessionEnd {
-        SessionEnd::OutOfMemory
+    fn from(_error: AllocError) -> DialledEnd {
+        DialledEnd::OutOfMemory
     }
 }

@@ -6,7 +6,7 @@ ghost use Rattle.engine_core.specs.State.{is_uuid};
 ghost use Rattle.link_commands.specs.EngineEnds.{EngineEnds};
 ghost use Rattle.link_commands.specs.Links.{IsDialled};
 
-use crate::end::SessionEnd;
+use crate::end::DialledEnd;
 use crate::working::serve_engine;
 use engine_core::engine::Engine;
 use engine_core::error::EngineError;
@@ -67,13 +67,13 @@ pub fn run_engine<R: Wait, N: Dialer, C: Clock>(
         Accepted::End => unreachable!(),
     };
     match serve_engine(rt, alloc, &mut engine, key, &mut reader, &mut writer, clock) {
-        SessionEnd::Ended => EngineEnd::Done { reader, writer },
-        SessionEnd::LinkFault => EngineEnd::LinkFault { reader, writer },
-        SessionEnd::ZmtpFault(fault) => EngineEnd::ZmtpFault {
+        DialledEnd::Ended => EngineEnd::Done { reader, writer },
+        DialledEnd::LinkFault => EngineEnd::LinkFault { reader, writer },
+        DialledEnd::ZmtpFault(fault) => EngineEnd::ZmtpFault {
             fault,
             reader,
             writer,
         },
-        SessionEnd::OutOfMemory => EngineEnd::OutOfMemory,
+        DialledEnd::OutOfMemory => EngineEnd::OutOfMemory,
     }
 }

@@ -17,21 +17,21 @@ use zmtp_peer::fault::PeerFault;
 
 /// What a piece of a stream gives of what ends a session.
 #[derive(Debug, Drop)]
-pub enum Taken {
+pub enum Conclusion {
     Answer(SharedMessage),
     Fault(PeerFault),
     Nothing,
 }
 
 /// The answer, else the fault.
-pub fn taken_by(answer: Option<SharedMessage>, fault: Option<PeerFault>) -> Taken
+pub fn taken_by(answer: Option<SharedMessage>, fault: Option<PeerFault>) -> Conclusion
     ensures { result ≡ taken_by answer fault }
 {
     match answer {
-        Some(message) => Taken::Answer(message),
+        Some(message) => Conclusion::Answer(message),
         None => match fault {
-            Some(fault) => Taken::Fault(fault),
-            None => Taken::Nothing,
+            Some(fault) => Conclusion::Fault(fault),
+            None => Conclusion::Nothing,
         },
     }
 }

@@ -11,7 +11,7 @@ ghost use Rattle.link_commands.specs.Working.{IsJoin, Opens, IsWhole, IsFront, W
 
 use crate::answering::answer_all;
 use crate::dialled::{PIECE_OCTETS, greet, hear, octets_of, read, write};
-use crate::end::SessionEnd;
+use crate::end::DialledEnd;
 use cluster_types::octets::Octets;
 use edges::sink::Sink;
 use edges::source::Source;
@@ -30,11 +30,11 @@ fn join<K: Sink, C: Clock>(
     key: &Key,
     clock: &mut C,
     writer: &mut K,
-) -> Result<(), SessionEnd>
+) -> Result<(), DialledEnd>
     ensures ok { OnOk result ((octets : List ℕ) × IsJoin key.now engine.now.uuid octets × Added octets (K.written writer.old) (K.written writer.new)) }
     ensures err { OnErr result ((octets : List ℕ) × IsJoin key.now engine.now.uuid octets × AddedFront octets (K.written writer.old) (K.written writer.new)) }
-    ensures ends { OnErr result ((result ≡ Err SessionEnd.LinkFault) ⊎ (result ≡ Err SessionEnd.OutOfMemory)) }
-    ensures cause { result ≡ Err SessionEnd.LinkFault → Rose (K.faults writer.old) (K.faults writer.new) }
+    ensures ends { OnErr result ((result ≡ Err DialledEnd.LinkFault) ⊎ (result ≡ Err DialledEnd.OutOfMemory)) }
+    ensures cause { result ≡ Err DialledEnd.LinkFault → Rose (K.faults writer.old) (K.faults writer.new) }
     ensures later { K.faults writer.old ≤ K.faults writer.new }
 {
     let moment = clock.now().millis;
@@ -50,11 +50,11 @@ fn join_where<K: Sink, C: Clock>(
     clock: &mut C,
     writer: &mut K,
     ready: &Option<Octets>,
-) -> Result<(), SessionEnd>
+) -> Result<(), DialledEnd>
     ensures ok { OnOk result ((octets : List ℕ) × Opens key.now engine.now.uuid ready.now octets × Added octets (K.written writer.old) (K.written writer.new)) }
     ensures err { OnErr result ((octets : List ℕ) × Opens key.now engine.now.uuid ready.now octets × AddedFront octets (K.written writer.old) (K.written writer.new)) }
-    ensures ends { OnErr result ((result ≡ Err SessionEnd.LinkFault) ⊎ (result ≡ Err SessionEnd.OutOfMemory)) }
-    ensures cause { result ≡ Err SessionEnd.LinkFault → Rose (K.faults writer.old) (K.faults writer.new) }
+    ensures ends { OnErr result ((result ≡ Err DialledEnd.LinkFault) ⊎ (result ≡ Err DialledEnd.OutOfMemory)) }
+    ensures cause { result ≡ Err DialledEnd.LinkFault → Rose (K.faults writer.old) (K.faults writer.new) }
     ensures later { K.faults writer.old ≤ K.faults writer.new }
 {
     match ready {
@@ -72,13 +72,13 @@ fn take_piece<K: Sink, C: Clock>(
     clock: &mut C,
     writer: &mut K,
     piece: &[u8],
-) -> Result<Option<PeerFault>, SessionEnd>
+) -> Result<Option<PeerFault>, DialledEnd>
     ensures ok { OnOk result (WrotePiece key.now (standing engine.old) peer.old.talk piece.now (K.written writer.old) (K.written writer.new) (standing engine.new)) }
     ensures talk { OnOk result (peer.new.talk ≡ talked peer.old.talk piece.now) }
     ensures fault { IfOk result (λ fault. fault ≡ fault_of (talked peer.old.talk piece.now).phase) }
     ensures err { OnErr result (WroteOfPiece key.now (standing engine.old) peer.old.talk piece.now (K.written writer.old) (K.written writer.new)) }
-    ensures ends { OnErr result ((result ≡ Err SessionEnd.LinkFault) ⊎ (result ≡ Err SessionEnd.OutOfMemory)) }
-    ensures cause { result ≡ Err SessionEnd.LinkFault → Rose (K.faults writer.old) (K.faults writer.new) }
+    ensures ends { OnErr result ((result ≡ Err DialledEnd.LinkFault) ⊎ (result ≡ Err DialledEnd.OutOfMemory)) }
+    ensures cause { result ≡ Err DialledEnd.LinkFault → Rose (K.faults writer.old) (K.faults writer.new) }
     ensures later { K.faults writer.old ≤ K.faults writer.new }
 {
     let fed = hear(peer, writer, piece)?;
@@ -101,11 +101,11 @@ pub fn serve_engine<R: Wait, S: Source, K: Sink, C: Clock>(
     reader: &mut S,
     writer: &mut K,
     clock: &mut C,
-) -> SessionEnd
-    ensures ended { result ≡ SessionEnd.Ended → IsWhole key.now (standing engine.old) (S.left reader.old) (S.left reader.new) (K.written writer.old) (K.written writer.new) (standing engine.new) None × IsAtEnd (S.left reader.new) }
-    ensures fault { (f : Fault) → result ≡ SessionEnd.ZmtpFault f → IsWhole key.now (standing engine.old) (S.left reader.old) (S.left reader.new) (K.written writer.old) (K.written writer.new) (standing engine.new) (Some f) }
+) -> DialledEnd
+    ensures ended { result ≡ DialledEnd.Ended → IsWhole key.now (standing engine.old) (S.left reader.old) (S.left reader.new) (K.written writer.old) (K.written writer.new) (standing engine.new) None × IsAtEnd (S.left reader.new) }
+    ensures fault { (f : Fault) → result ≡ DialledEnd.ZmtpFault f → IsWhole key.now (standing engine.old) (S.left reader.old) (S.left reader.new) (K.written writer.old) (K.written writer.new) (standing engine.new) (Some f) }
     ensures front { IsFront key.now (standing engine.old) (S.left reader.old) (S.left reader.new) (K.written writer.old) (K.written writer.new) }
-    ensures cause { result ≡ SessionEnd.LinkFault → Rose (S.faults reader.old) (S.faults reader.new) ⊎ Rose (K.faults writer.old) (K.faults writer.new) }
+    ensures cause { result ≡ DialledEnd.LinkFault → Rose (S.faults reader.old) (S.faults reader.new) ⊎ Rose (K.faults writer.old) (K.faults writer.new) }
 {
     let mut peer = match greet(alloc, writer) {
         Ok(peer) => peer,
@@ -127,7 +127,7 @@ pub fn serve_engine<R: Wait, S: Source, K: Sink, C: Clock>(
             &piece[..count],
         ) {
             Ok(None) => {}
-            Ok(Some(fault)) => return SessionEnd::ZmtpFault(fault),
+            Ok(Some(fault)) => return DialledEnd::ZmtpFault(fault),
             Err(end) => return end,
         }
     }

@@ -7,7 +7,7 @@ use cluster_types::shared_message::SharedMessage;
 use edges::memory::{MemSink, MemSource};
 use hmac_sign::Key;
 use link_commands::asking::ask_over;
-use link_commands::end::SessionEnd;
+use link_commands::end::DialledEnd;
 use link_commands::status::is_ok;
 use std::alloc::Global;
 use std::process::Abort;
@@ -72,7 +72,7 @@ fn asked<R: Wait + Abort>(
     octets: &[u8],
     read: &[u64],
     write: &[u64],
-) -> (Result<bool, SessionEnd>, bool, usize) {
+) -> (Result<bool, DialledEnd>, bool, usize) {
     let request = request(rt, alloc);
     let key = Key::new(alloc, b"k").expect(rt, "a key");
     let mut reader = MemSource::new(alloc, octets, read).expect(rt, "memory is ample");
@@ -86,7 +86,7 @@ fn asked<R: Wait + Abort>(
     (end, due.starts_with(written), written.len())
 }
 
-const LINK_FAULT: Result<bool, SessionEnd> = Err(SessionEnd::LinkFault);
+const LINK_FAULT: Result<bool, DialledEnd> = Err(DialledEnd::LinkFault);
 
 #[test]
 fn a_request_is_answered(rt: HostRuntime) {
@@ -95,18 +95,18 @@ fn a_request_is_answered(rt: HostRuntime) {
     let unanswered = joined(&rt, alloc, &[OWN, OTHER, FORGED]);
     let bad = joined(&rt, alloc, &[OWN, b"\x08", ANSWER]);
     let bad_behind = joined(&rt, alloc, &[OWN, ANSWER, b"\x08"]);
-    let bad_flags = SessionEnd::ZmtpFault(PeerFault::Frame(FrameFault::BadFlags(94)));
+    let bad_flags = DialledEnd::ZmtpFault(PeerFault::Frame(FrameFault::BadFlags(94)));
     // The writes are the greeting, READY and the request.
     let cases: [(
         &[u8],
         &[u64],
         &[u64],
-        (Result<bool, SessionEnd>, bool, usize),
+        (Result<bool, DialledEnd>, bool, usize),
     ); 8] = [
         (&whole, &[], &[], (Ok(true), true, 228)),
         (&bad_behind, &[], &[], (Ok(true), true, 228)),
-        (&unanswered, &[], &[], (Err(SessionEnd::Ended), true, 228)),
-        (&OWN[..64], &[], &[], (Err(SessionEnd::Ended), true, 94)),
+        (&unanswered, &[], &[], (Err(DialledEnd::Ended), true, 228)),
+        (&OWN[..64], &[], &[], (Err(DialledEnd::Ended), true, 94)),
         (&bad, &[], &[], (Err(bad_flags), true, 228)),
         (&whole, &[1], &[], (LINK_FAULT, true, 64)),
         (&whole, &[], &[1], (LINK_FAULT, true, 0)),

@@ -3,7 +3,7 @@
 use edges::memory::{MemSink, MemSource};
 use engine_core::engine::Engine;
 use hmac_sign::Key;
-use link_commands::end::SessionEnd;
+use link_commands::end::DialledEnd;
 use link_commands::working::serve_engine;
 use std::alloc::Global;
 use std::process::Abort;
@@ -61,7 +61,7 @@ fn served<R: Wait + Abort>(
     octets: &[u8],
     read: &[u64],
     write: &[u64],
-) -> (SessionEnd, bool, usize) {
+) -> (DialledEnd, bool, usize) {
     let mut engine = Engine::new(alloc, "e0").expect(rt, "an engine");
     let key = Key::new(alloc, b"k").expect(rt, "a key");
     let mut reader = MemSource::new(alloc, octets, read).expect(rt, "memory is ample");
@@ -81,7 +81,7 @@ fn served<R: Wait + Abort>(
     (end, due.starts_with(written), written.len())
 }
 
-const LINK_FAULT: SessionEnd = SessionEnd::LinkFault;
+const LINK_FAULT: DialledEnd = DialledEnd::LinkFault;
 
 #[test]
 fn a_session_is_served(rt: HostRuntime) {
@@ -89,15 +89,15 @@ fn a_session_is_served(rt: HostRuntime) {
     let whole = joined(&rt, alloc, &[OWN, FIRST, FORGED, OTHER, SECOND]);
     let bad = joined(&rt, alloc, &[OWN, FIRST, b"\x08", SECOND]);
     // The writes are the greeting, READY, the registration and the two replies.
-    let cases: [(&[u8], &[u64], &[u64], (SessionEnd, bool, usize)); 7] = [
-        (&whole, &[], &[], (SessionEnd::Ended, true, 980)),
-        (&OWN[..64], &[], &[], (SessionEnd::Ended, true, 94)),
+    let cases: [(&[u8], &[u64], &[u64], (DialledEnd, bool, usize)); 7] = [
+        (&whole, &[], &[], (DialledEnd::Ended, true, 980)),
+        (&OWN[..64], &[], &[], (DialledEnd::Ended, true, 94)),
         (
             &bad,
             &[],
             &[],
             (
-                SessionEnd::ZmtpFault(PeerFault::Frame(FrameFault::BadFlags(244))),
+                DialledEnd::ZmtpFault(PeerFault::Frame(FrameFault::BadFlags(244))),
                 true,
                 654,
             ),

@@ -14,7 +14,7 @@ use std::alloc::Global;
 use std::process::Abort;
 use tape::reader::TapeReader;
 use tape::record::TapeRecord;
-use tape_drive::drive::{Drive, Stop};
+use tape_drive::drive::{Drive, TapeStop};
 use tape_drive::fault::DriveError;
 use task_journal::fault::OpenFault;
 use task_journal::opening::Refused;
@@ -321,7 +321,7 @@ fn joins<R: Abort>(rt: &R, alloc: Global, chooser: &Chooser, key: &Key) -> bool 
 }
 
 /// The error of the first record of a tape that isn't served, what stops the tape, and how many octets are sent.
-type End = (Option<DriveError>, Option<Stop>, usize);
+type End = (Option<DriveError>, Option<TapeStop>, usize);
 
 /// How a tape ends under a limit of entries.
 fn end_of<R: Abort>(
@@ -565,7 +565,7 @@ fn rules(rt: HostRuntime) {
     for (kind, behind, place) in RULES {
         let tape = twice(&rt, alloc, *kind, behind);
         let end = end_of(&rt, alloc, &chooser, &key, 1000, tape.as_slice());
-        assert_eq!(rt; end, (None, place.map(Stop::BadTape), 0));
+        assert_eq!(rt; end, (None, place.map(TapeStop::BadTape), 0));
     }
 }
 
@@ -575,7 +575,7 @@ fn a_full_history(rt: HostRuntime) {
     let alloc = rt.alloc();
     let chooser = new_chooser(&rt, alloc);
     let key = Key::new(alloc, b"k").expect(&rt, "a key");
-    let full = Some(Stop::HistoryFull(HistorySize {
+    let full = Some(TapeStop::HistoryFull(HistorySize {
         entries: 3,
         bytes: 51,
     }));

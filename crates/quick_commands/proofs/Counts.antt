@@ -4,7 +4,7 @@ use Rattle.std.specs.Prelude.{count_by}
 use Rattle.std.proofs.lemmas.List.{length-reverse, reverse-append}
 use Rattle.std.proofs.lemmas.List.Sums.{sum_by-append, sum_by-cons}
 use Rattle.cluster_types.specs.declared.entry.Entry.{Entry}
-use Rattle.quick_commands.specs.declared.summing.Kind.TheVariants.{Hand, Completed, Failed}
+use Rattle.quick_commands.specs.declared.summing.CountedKind.TheVariants.{Hand, Completed, Failed}
 use Rattle.quick_commands.specs.Summaries.{is_of, sums_up}
 
 count_reversed : {X : Type 0} (p : X → Bool) (xs : List X) → count_by p (reverse xs) ≡ count_by p xs

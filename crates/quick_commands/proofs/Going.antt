@@ -12,8 +12,8 @@ use Rattle.tape.specs.Spelling.{all_spelled}
 use Rattle.tape.proofs.Chunk.{after_append, records_append, stays}
 use Rattle.tape_drive.specs.Drive.{Stand, served, served_from, outs, outs_from_stand, outputs, stand_at, first_of, drive_stand, drive_output, drive_stop}
 use Rattle.tape_drive.specs.Served.{Comes}
-use Rattle.tape_drive.specs.declared.drive.Stop.{Stop}
-use Rattle.tape_drive.specs.declared.drive.Stop.TheVariants.{BadTape, HistoryFull}
+use Rattle.tape_drive.specs.declared.drive.TapeStop.{TapeStop}
+use Rattle.tape_drive.specs.declared.drive.TapeStop.TheVariants.{BadTape, HistoryFull}
 use Rattle.command_words.specs.declared.ending.Ending.{Ending}
 use Rattle.command_words.specs.declared.ending.Ending.TheVariants as endings
 use Rattle.quick_commands.specs.Replays.{IsServed}
@@ -123,17 +123,17 @@ going_bad {tape = tape} g bad =
     over_where g s.list (ap fault s.tape)
 
 -- a drive that has stopped stays where it is, and sends nothing more
-served_off : (key : List ℕ) (stand : Stand) (r : TapeRecord) (stop : Stop) → stand.stop ≡ Some stop → served key stand r ≡ stand
+served_off : (key : List ℕ) (stand : Stand) (r : TapeRecord) (stop : TapeStop) → stand.stop ≡ Some stop → served key stand r ≡ stand
 served_off key stand r stop off = ap (served_from key stand r) off
 
-outs_off : (key : List ℕ) (stand : Stand) (r : TapeRecord) (stop : Stop) → stand.stop ≡ Some stop → outs key stand r ≡ []
+outs_off : (key : List ℕ) (stand : Stand) (r : TapeRecord) (stop : TapeStop) → stand.stop ≡ Some stop → outs key stand r ≡ []
 outs_off key stand r stop off = ap (outs_from_stand key stand r) off
 
-stopped_stays : (key : List ℕ) (stand : Stand) (rs : List TapeRecord) (stop : Stop) → stand.stop ≡ Some stop → stand_at key stand rs ≡ stand
+stopped_stays : (key : List ℕ) (stand : Stand) (rs : List TapeRecord) (stop : TapeStop) → stand.stop ≡ Some stop → stand_at key stand rs ≡ stand
 stopped_stays key stand [] stop off = refl
 stopped_stays key stand (r ∷ rs) stop off = ap (λ (s : Stand). stand_at key s rs) (served_off key stand r stop off) ∙ stopped_stays key stand rs stop off
 
-stopped_silent : (key : List ℕ) (stand : Stand) (rs : List TapeRecord) (stop : Stop) → stand.stop ≡ Some stop → outputs key stand rs ≡ []
+stopped_silent : (key : List ℕ) (stand : Stand) (rs : List TapeRecord) (stop : TapeStop) → stand.stop ≡ Some stop → outputs key stand rs ≡ []
 stopped_silent key stand [] stop off = refl
 stopped_silent key stand (r ∷ rs) stop off =
     ap (λ (xs : List TapeRecord). xs ++ outputs key (served key stand r) rs) (outs_off key stand r stop off)
@@ -145,7 +145,7 @@ pub record Stopped (key : List ℕ) (begin : Stand) (octets : List ℕ) (before 
   pub added : Added (drive_output key begin octets) before now
 
 pub going_stopped : {key : List ℕ} {begin : Stand} {octets : List ℕ} {before now left : Option (List ℕ)} {tape : Tape} {stand : Stand} → Going key begin octets before now left tape stand
-    → (stop : Stop) → stand.stop ≡ Some stop → Stopped key begin octets before now stand
+    → (stop : TapeStop) → stand.stop ≡ Some stop → Stopped key begin octets before now stand
 going_stopped {key = key} {begin = begin} {octets = octets} {before = before} {now = now} {tape = tape} {stand = stand} g stop off =
     let rest = records tape g.more in
     let whole : drive_stand key begin octets ≡ stand_at key stand (records tape g.more) = ap (stand_at key begin) g.list_is ∙ stand_append key begin g.done (records tape g.more) ∙ ap (λ (k : Stand). stand_at key k (records tape g.more)) (sym g.stand_is) in
@@ -159,19 +159,19 @@ going_stopped {key = key} {begin = begin} {octets = octets} {before = before} {n
     }
 
 pub ends_stopped : {key : List ℕ} {begin : Stand} {octets : List ℕ} {before now : Option (List ℕ)} {stand : Stand} → Stopped key begin octets before now stand
-    → (stop : Stop) → stand.stop ≡ Some stop → (end : Ending) → end ≡ ending_at stop → Ended end (drive_output key begin octets) (drive_stop key begin octets) before now
+    → (stop : TapeStop) → stand.stop ≡ Some stop → (end : Ending) → end ≡ ending_at stop → Ended end (drive_output key begin octets) (drive_stop key begin octets) before now
 ends_stopped {key = key} {begin = begin} {octets = octets} {before = before} {now = now} {stand = stand} g stop off end is =
-    let told : drive_stop key begin octets ≡ Some stop = ap (λ (o : Option Stop). first_of o (option_map BadTape (fault (tape_after blank octets)))) (ap (λ (s : Stand). s.stop) (sym g.stand_is) ∙ off) in
+    let told : drive_stop key begin octets ≡ Some stop = ap (λ (o : Option TapeStop). first_of o (option_map BadTape (fault (tape_after blank octets)))) (ap (λ (s : Stand). s.stop) (sym g.stand_is) ∙ off) in
     subst (λ (e : Ending). Ended e (drive_output key begin octets) (drive_stop key begin octets) before now) (sym is) (by stop told g.added)
   where
-    by : (stop : Stop) → drive_stop key begin octets ≡ Some stop → Added (drive_output key begin octets) before now → Ended (ending_at stop) (drive_output key begin octets) (drive_stop key begin octets) before now
+    by : (stop : TapeStop) → drive_stop key begin octets ≡ Some stop → Added (drive_output key begin octets) before now → Ended (ending_at stop) (drive_output key begin octets) (drive_stop key begin octets) before now
     by (BadTape place) told added = (added, told)
     by (HistoryFull size) told added = (added, told)
 
 stop_over : {key : List ℕ} {begin : Stand} {octets : List ℕ} {before now : Option (List ℕ)} {tape : Tape} {stand : Stand} → Over key begin octets before now tape stand
     → stand.stop ≡ None → drive_stop key begin octets ≡ option_map BadTape (fault tape)
 stop_over {key = key} {begin = begin} {octets = octets} {stand = stand} o goes =
-    ap (λ (p : Option Stop). first_of p (option_map BadTape (fault (tape_after blank octets)))) (ap (λ (s : Stand). s.stop) (sym o.stand_is) ∙ goes) ∙ ap (option_map BadTape) o.place
+    ap (λ (p : Option TapeStop). first_of p (option_map BadTape (fault (tape_after blank octets)))) (ap (λ (s : Stand). s.stop) (sym o.stand_is) ∙ goes) ∙ ap (option_map BadTape) o.place
 
 -- no whole record stands at a place
 pub ends_bad : {key : List ℕ} {begin : Stand} {octets : List ℕ} {before now : Option (List ℕ)} {tape : Tape} {stand : Stand} → Over key begin octets before now tape stand
@@ -193,10 +193,10 @@ pub never_failed : {T : Type 0} (r : Result T ServeError) → ((e : ServeError) 
 never_failed (Ok x) not = refl
 never_failed (Err e) not = absurd (not e refl)
 
-pub whole_at : (stop : Stop) (e : Ending) (P : Type 0) → e ≡ ending_at stop → P → IsWhole e P
+pub whole_at : (stop : TapeStop) (e : Ending) (P : Type 0) → e ≡ ending_at stop → P → IsWhole e P
 whole_at stop e P is p = subst (λ (d : Ending). IsWhole d P) (sym is) (by stop)
   where
-    by : (stop : Stop) → IsWhole (ending_at stop) P
+    by : (stop : TapeStop) → IsWhole (ending_at stop) P
     by (BadTape place) = p
     by (HistoryFull size) = p
 

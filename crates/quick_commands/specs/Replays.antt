@@ -17,8 +17,8 @@ use Rattle.task_journal.specs.Settled.{Unharmed, Spared}
 use Rattle.tape.specs.declared.record.TapeRecord.{TapeRecord}
 use Rattle.tape.specs.Spelling.{all_spelled}
 use Rattle.tape.specs.Tape.{blank, records}
-use Rattle.tape_drive.specs.declared.drive.Stop.{Stop}
-use Rattle.tape_drive.specs.declared.drive.Stop.TheVariants as stops
+use Rattle.tape_drive.specs.declared.drive.TapeStop.{TapeStop}
+use Rattle.tape_drive.specs.declared.drive.TapeStop.TheVariants as stops
 use Rattle.tape_drive.specs.Drive.{Stand, start, stand_at, outputs, drive_stand, drive_output, drive_stop}
 use Rattle.tape_drive.specs.Served.{Comes, HoldsSome}
 use Rattle.database_text.specs.Texts.{WroteFront, Told}
@@ -48,7 +48,7 @@ pub record IsServed (key : List ℕ) (s : Stand) (list : List TapeRecord) (befor
 
 -- all was served up to this stop, or to the end where there is none: what it sends was written, and a crash leaves what is
 -- kept of its history
-pub record IsReplayed (tells : Type 0) (key : List ℕ) (s : Stand) (octets : List ℕ) (before now : Option (List ℕ)) (image : List ℕ → Type 0) (stop : Option Stop) : Type 0 where
+pub record IsReplayed (tells : Type 0) (key : List ℕ) (s : Stand) (octets : List ℕ) (before now : Option (List ℕ)) (image : List ℕ → Type 0) (stop : Option TapeStop) : Type 0 where
   pub added : Added (drive_output key s octets) before now
   pub stop_is : drive_stop key s octets ≡ stop
   pub keeps : tells → (c : List ℕ) → image c → StandsFor c (written (drive_stand key s octets).history)

@@ -5,12 +5,12 @@ use Rattle.cluster_types.specs.declared.entry.Entry.TheVariants as entries
 use Rattle.cluster_types.specs.declared.verdict.Verdict.TheVariants as verdicts
 use Rattle.cluster_defs.specs.Histories.{History}
 use Rattle.quick_commands.specs.declared.summary.Summary.{Summary}
-use Rattle.quick_commands.specs.declared.summing.Kind.{Kind}
-use Rattle.quick_commands.specs.declared.summing.Kind.TheVariants.{Hand, Completed, Failed}
+use Rattle.quick_commands.specs.declared.summing.CountedKind.{CountedKind}
+use Rattle.quick_commands.specs.declared.summing.CountedKind.TheVariants.{Hand, Completed, Failed}
 use Rattle.quick_commands.specs.Work.{Work}
 
 -- an entry hands a task out, completes one, or fails one
-abbrev pub is_of : Kind → Entry → Bool
+abbrev pub is_of : CountedKind → Entry → Bool
 is_of Hand (entries.Hand id engine) = true
 is_of Completed (entries.Settle id verdicts.Completed cause) = true
 is_of Failed (entries.Settle id verdicts.Failed cause) = true

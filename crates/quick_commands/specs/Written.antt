@@ -7,15 +7,15 @@ use Rattle.command_words.specs.declared.ending.Ending.{Ending}
 use Rattle.command_words.specs.declared.ending.Ending.TheVariants.{Done, Usage, DiskFault, BadTape, Damaged, OutOfMemory, HistoryFull, Different}
 use Rattle.task_journal.specs.declared.fault.OpenFault.{OpenFault}
 use Rattle.task_journal.specs.declared.fault.OpenFault.TheVariants as faults
-use Rattle.tape_drive.specs.declared.drive.Stop.{Stop}
-use Rattle.tape_drive.specs.declared.drive.Stop.TheVariants as stops
+use Rattle.tape_drive.specs.declared.drive.TapeStop.{TapeStop}
+use Rattle.tape_drive.specs.declared.drive.TapeStop.TheVariants as stops
 
 -- a text was written, or a front of it where the count of the sink's faults rose
 abbrev pub Said : List ℕ → (before now : Option (List ℕ)) → (faults later : ℕ) → Type 0
 Said text before now faults later = Added text before now ⊎ (WroteFront text before now × Rose faults later)
 
 -- where the input was served to its end or up to what stops it, all of the output was written
-abbrev pub Ended : Ending → (output : List ℕ) → (stop : Option Stop) → (before now : Option (List ℕ)) → Type 0
+abbrev pub Ended : Ending → (output : List ℕ) → (stop : Option TapeStop) → (before now : Option (List ℕ)) → Type 0
 Ended Done output stop before now = Added output before now × (stop ≡ None)
 Ended (BadTape place) output stop before now = Added output before now × (stop ≡ Some (stops.BadTape place))
 Ended (HistoryFull entries bytes) output stop before now =
@@ -23,7 +23,7 @@ Ended (HistoryFull entries bytes) output stop before now =
 Ended _ output stop before now = Unit {0}
 
 -- how the program ends at what stops a tape
-abbrev pub ending_at : Stop → Ending
+abbrev pub ending_at : TapeStop → Ending
 ending_at (stops.BadTape place) = BadTape place
 ending_at (stops.HistoryFull size) = HistoryFull size.entries size.bytes
 

@@ -26,7 +26,7 @@ use load_schemes::chooser::Chooser;
 use std::alloc::{AllocError, Global};
 use tape::reader::TapeReader;
 use tape::record::TapeRecord;
-use tape_drive::drive::{Drive, Stop};
+use tape_drive::drive::{Drive, TapeStop};
 use tape_drive::fault::DriveError;
 use task_journal::opening::Refused;
 
@@ -127,12 +127,12 @@ fn serve_records<D: Disk, K: Sink>(
 }
 
 /// How the program ends where the tape is stopped so.
-fn ending_at(stop: Stop) -> Ending
+fn ending_at(stop: TapeStop) -> Ending
     ensures { result ≡ ending_at stop }
 {
     match stop {
-        Stop::BadTape(place) => Ending::BadTape(place),
-        Stop::HistoryFull(HistorySize { entries, bytes }) => {
+        TapeStop::BadTape(place) => Ending::BadTape(place),
+        TapeStop::HistoryFull(HistorySize { entries, bytes }) => {
             Ending::HistoryFull { entries, bytes }
         }
     }

@@ -10,7 +10,7 @@ use cluster_types::verdict::Verdict;
 
 /// What entries are counted by.
 #[derive(Clone, Copy, Debug)]
-pub enum Kind {
+pub enum CountedKind {
     /// A task is handed out.
     Hand,
     /// A task completes.
@@ -20,20 +20,20 @@ pub enum Kind {
 }
 
 /// Whether an entry is of a kind.
-fn is_of(kind: Kind, entry: &Entry) -> bool
+fn is_of(kind: CountedKind, entry: &Entry) -> bool
     ensures { result ≡ is_of kind entry.now }
 {
     match (kind, entry) {
-        (Kind::Hand, Entry::Hand { .. }) => true,
+        (CountedKind::Hand, Entry::Hand { .. }) => true,
         (
-            Kind::Completed,
+            CountedKind::Completed,
             Entry::Settle {
                 verdict: Verdict::Completed,
                 ..
             },
         ) => true,
         (
-            Kind::Failed,
+            CountedKind::Failed,
             Entry::Settle {
                 verdict: Verdict::Failed,
                 ..
@@ -44,7 +44,7 @@ fn is_of(kind: Kind, entry: &Entry) -> bool
 }
 
 /// How many entries are of a kind.
-fn count_of(kind: Kind, entries: &[Entry]) -> u64
+fn count_of(kind: CountedKind, entries: &[Entry]) -> u64
     ensures { result ≡ count_by (is_of kind) entries.now }
 {
     let mut count = 0u64;
@@ -62,9 +62,9 @@ pub fn summed_up(tasks: u32, entries: &[Entry], sum: i64) -> Summary
 {
     Summary {
         tasks: u64::from(tasks),
-        completed: count_of(Kind::Completed, entries),
-        failed: count_of(Kind::Failed, entries),
-        hands: count_of(Kind::Hand, entries),
+        completed: count_of(CountedKind::Completed, entries),
+        failed: count_of(CountedKind::Failed, entries),
+        hands: count_of(CountedKind::Hand, entries),
         entries: entries.len() as u64,
         sum,
     }

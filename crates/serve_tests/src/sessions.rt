@@ -12,7 +12,7 @@ use history_lock::lock::Pass;
 use link_messages::end::SessionEnd;
 use link_messages::greeting::{Greeted, greet};
 use session_threads::admission::{AdmitEnd, Admitted, PassPool, SessionPasses, admit};
-use session_threads::connection::Connection;
+use session_threads::connection::ServedConnection;
 use session_threads::context::{SessionContext, TypesOf};
 use session_threads::reading::read_session;
 use session_threads::writing::write_session;
@@ -86,7 +86,7 @@ fn served<R: Wait + Abort + Drop>(rt: &R, alloc: Global, octets: &[u8]) -> MemSi
         mut reading,
         mut writing,
     } = passes;
-    let connection = Connection { number, channel };
+    let connection = ServedConnection { number, channel };
     let end = read_session(
         &context,
         &chooser,

@@ -4,7 +4,7 @@ use cluster_types::config::Channel;
 
 /// A connection: its number, and what it is for.
 #[derive(Clone, Copy, Debug, PartialEq, Eq)]
-pub struct Connection {
+pub struct ServedConnection {
     pub number: u32,
     pub channel: Channel,
 }

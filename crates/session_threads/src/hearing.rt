@@ -11,7 +11,7 @@ ghost use Rattle.session_threads.specs.Reading.{Entered, EnteredFront};
 ghost use Rattle.link_messages.specs.Message.{signed};
 ghost use Rattle.jupyter_parts.specs.Signed.{read_parts};
 
-use crate::connection::Connection;
+use crate::connection::ServedConnection;
 use crate::context::{PassOf, SessionContext, SessionTypes};
 use controller_desk::acted::Acted;
 use controller_desk::fault::ActError;
@@ -41,7 +41,7 @@ fn hear<T: SessionTypes>(
     context: &SessionContext<T>,
     chooser: &Chooser,
     pass: &mut PassOf<T>,
-    connection: Connection,
+    connection: ServedConnection,
     frames: &Frames,
 ) -> Result<(), SessionEnd>
     requires idle { IsIdle (lock_id context.now.desk.now.lock) pass.old }
@@ -75,7 +75,7 @@ fn hear_each<T: SessionTypes>(
     context: &SessionContext<T>,
     chooser: &Chooser,
     pass: &mut PassOf<T>,
-    connection: Connection,
+    connection: ServedConnection,
     messages: &[Frames],
 ) -> Result<(), SessionEnd>
     requires idle { IsIdle (lock_id context.now.desk.now.lock) pass.old }
@@ -99,7 +99,7 @@ pub fn hear_all<T: SessionTypes>(
     context: &SessionContext<T>,
     chooser: &Chooser,
     pass: &mut PassOf<T>,
-    connection: Connection,
+    connection: ServedConnection,
     messages: &[Frames],
 ) -> Result<(), SessionEnd>
     requires idle { IsIdle (lock_id context.now.desk.now.lock) pass.old }

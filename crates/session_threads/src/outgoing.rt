@@ -32,7 +32,7 @@ pub enum BatchEnd {
 
 /// Outs that are written at once.
 #[derive(Drop)]
-pub struct Batch {
+pub struct OutBatch {
     pub octets: Vec<u8>,
     pub outs: usize,
     pub end: BatchEnd,
@@ -52,7 +52,7 @@ pub fn take_batch<T: SessionTypes>(
     context: &SessionContext<T>,
     pass: &mut PassOf<T>,
     conn: u32,
-) -> Result<Batch, AllocError>
+) -> Result<OutBatch, AllocError>
     requires idle { IsIdle (lock_id context.now.desk.now.lock) pass.old }
     ensures idle { IsIdle (lock_id context.now.desk.now.lock) pass.new }
     ensures room { room_of pass.new ≡ room_of pass.old }
@@ -66,14 +66,14 @@ pub fn take_batch<T: SessionTypes>(
         match context.desk.take_out(context.rt, pass, conn) {
             Taken::Out(out) => put_out(context.alloc, context.key, out, &mut octets)?,
             Taken::NothingYet => {
-                return Ok(Batch {
+                return Ok(OutBatch {
                     octets,
                     outs,
                     end: BatchEnd::NothingYet,
                 });
             }
             Taken::Closed => {
-                return Ok(Batch {
+                return Ok(OutBatch {
                     octets,
                     outs,
                     end: BatchEnd::Closed,
@@ -81,14 +81,14 @@ pub fn take_batch<T: SessionTypes>(
             }
         }
         if octets.len() >= BATCH_OCTETS {
-            return Ok(Batch {
+            return Ok(OutBatch {
                 octets,
                 outs: outs + 1,
                 end: BatchEnd::Full,
             });
         }
     }
-    Ok(Batch {
+    Ok(OutBatch {
         octets,
         outs: BATCH_OUTS,
         end: BatchEnd::Full,

@@ -13,7 +13,7 @@ ghost use Rattle.controller_desk.specs.declared.fault.ActError.{ActError as Refu
 ghost use Rattle.controller_desk.specs.Contents.{Rests};
 ghost use Rattle.session_threads.specs.Reading.{Entered, EnteredFront, TakesDown, HeardFront, HeardWith, ReadsFront, ReadsWhole};
 
-use crate::connection::Connection;
+use crate::connection::ServedConnection;
 use crate::context::{PassOf, SessionContext, SessionTypes};
 use crate::hearing::{end_of, hear_all};
 use controller_desk::fault::ActError;
@@ -35,7 +35,7 @@ fn take_piece<T: SessionTypes>(
     chooser: &Chooser,
     peer: &mut Peer,
     pass: &mut PassOf<T>,
-    connection: Connection,
+    connection: ServedConnection,
     piece: &[u8],
 ) -> Result<Option<PeerFault>, SessionEnd>
     requires idle { IsIdle (lock_id context.now.desk.now.lock) pass.old }
@@ -61,7 +61,7 @@ fn read_on<T: SessionTypes, S: Source>(
     reader: &mut S,
     mut peer: Peer,
     pass: &mut PassOf<T>,
-    connection: Connection,
+    connection: ServedConnection,
 ) -> SessionEnd
     requires idle { IsIdle (lock_id context.now.desk.now.lock) pass.old }
     requires faultless { fault_of peer.talk.phase ≡ None }
@@ -104,7 +104,7 @@ fn hear_stream<T: SessionTypes, S: Source>(
     reader: &mut S,
     greeted: Greeted,
     pass: &mut PassOf<T>,
-    connection: Connection,
+    connection: ServedConnection,
 ) -> SessionEnd
     requires idle { IsIdle (lock_id context.now.desk.now.lock) pass.old }
     requires short { All IsShortMessage greeted.early }
@@ -199,7 +199,7 @@ pub fn read_session<T: SessionTypes, S: Source>(
     reader: &mut S,
     greeted: Greeted,
     pass: &mut PassOf<T>,
-    connection: Connection,
+    connection: ServedConnection,
 ) -> SessionEnd
     requires idle { IsIdle (lock_id context.now.desk.now.lock) pass.old }
     requires short { All IsShortMessage greeted.early }

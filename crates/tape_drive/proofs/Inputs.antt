@@ -14,7 +14,7 @@ use Rattle.zmtp_peer.specs.declared.fault.PeerFault.{PeerFault}
 use Rattle.tape.specs.declared.record.TapeRecord.{TapeRecord}
 use Rattle.tape.specs.declared.record.TapeKind.{TapeKind}
 use Rattle.tape.specs.declared.record.TapeKind.TheVariants.{Up, Piece, Down, Beat, Time, Message as MessageKind}
-use Rattle.tape_drive.specs.declared.drive.Stop.{Stop}
+use Rattle.tape_drive.specs.declared.drive.TapeStop.{TapeStop}
 use Rattle.tape_drive.specs.Drive.{Stand}
 use Rattle.link_messages.specs.Message.{signed}
 use Rattle.tape_drive.specs.Inputs.{in_of, up_where, down_where, stream_inputs, kind_inputs, inputs_of}
@@ -61,7 +61,7 @@ kind_none key links moment word (Down conn) = (refl, tt)
 kind_none key links moment word Beat = (refl, tt)
 kind_none key links moment word Time = (refl, tt)
 
-where_none : (stop : Option Stop) (fault : Option ℕ) (inputs : List InputType) → NoOpens inputs → NoOpens (inputs_where stop fault inputs)
+where_none : (stop : Option TapeStop) (fault : Option ℕ) (inputs : List InputType) → NoOpens inputs → NoOpens (inputs_where stop fault inputs)
 where_none None None inputs none = none
 where_none None (Some place) inputs none = tt
 where_none (Some stop) fault inputs none = tt

@@ -15,7 +15,7 @@ use Rattle.tape_drive.specs.Rules.{stop_of}
 use Rattle.tape_drive.specs.Steps.{may_come, stepped, fitting, stepped_all}
 use Rattle.tape_drive.specs.Links.{links_at}
 use Rattle.tape_drive.specs.Sends.{steps_send, sent_at}
-use Rattle.tape_drive.specs.declared.drive.Stop.{Stop}
+use Rattle.tape_drive.specs.declared.drive.TapeStop.{TapeStop}
 use Rattle.tape_drive.specs.Drive.{Stand, inputs_made, served_as, served_from, served, outs_as, outs_from_stand, stand_at}
 use Rattle.tape_drive.specs.Lawful.{Rests, Unheard}
 
@@ -46,7 +46,7 @@ served_as_rests : (key : List ℕ) (s : Stand) (r : TapeRecord) (stop : Option �
 served_as_rests key s r None rests = stepped_all_rests s.history (inputs_made key s r) rests
 served_as_rests key s r (Some place) rests = rests
 
-served_from_rests : (key : List ℕ) (s : Stand) (r : TapeRecord) (stop : Option Stop) → Rests s.history → Rests (served_from key s r stop).history
+served_from_rests : (key : List ℕ) (s : Stand) (r : TapeRecord) (stop : Option TapeStop) → Rests s.history → Rests (served_from key s r stop).history
 served_from_rests key s r None rests = served_as_rests key s r (stop_of s.links s.least s.at r) rests
 served_from_rests key s r (Some stop) rests = rests
 
@@ -75,7 +75,7 @@ unsigned_record key s moment word conn frames fault is = from s.stop
     )
     then_as (Some place) = (refl, refl)
 
-    from : (o : Option Stop) → ((served_from key s r o).history ≡ s.history) × (outs_from_stand key s r o ≡ [])
+    from : (o : Option TapeStop) → ((served_from key s r o).history ≡ s.history) × (outs_from_stand key s r o ≡ [])
     from None = then_as (stop_of s.links s.least s.at r)
     from (Some stop) = (refl, refl)
 

@@ -5,7 +5,7 @@ use Rattle.cluster_types.specs.declared.entry.Input.{Input as InputType}
 use Rattle.cluster_defs.specs.Histories.{History}
 use Rattle.tape.specs.declared.record.TapeRecord.{TapeRecord}
 use Rattle.tape.specs.declared.record.TapeKind.{TapeKind}
-use Rattle.tape_drive.specs.declared.drive.Stop.{Stop}
+use Rattle.tape_drive.specs.declared.drive.TapeStop.{TapeStop}
 use Rattle.tape_drive.specs.Drive.{Stand, outs_as, outs_from_stand, outs as answers}
 use Rattle.tape_drive.specs.Links.{Link, links_at}
 use Rattle.tape_drive.specs.Rules.{stop_of}
@@ -25,7 +25,7 @@ pub frames_are : (key : List ℕ) (s : Stand) (r : TapeRecord) →
     answers key s r ≡ map (sent_at r.moment) (record_streams s r ++ map (out_sent key (links_at s.links r.kind)) (record_outs key s r))
 frames_are key s r = from s.stop
   where
-    from : (stop : Option Stop) → outs_from_stand key s r stop ≡ map (sent_at r.moment) (where_served stop (stop_of s.links s.least s.at r) (stream_sends s.links r.kind) ++ map (out_sent key (links_at s.links r.kind)) (steps_outs s.history (fitting s.limits s.history (inputs_where stop (stop_of s.links s.least s.at r) (inputs_of key s.links r)))))
+    from : (stop : Option TapeStop) → outs_from_stand key s r stop ≡ map (sent_at r.moment) (where_served stop (stop_of s.links s.least s.at r) (stream_sends s.links r.kind) ++ map (out_sent key (links_at s.links r.kind)) (steps_outs s.history (fitting s.limits s.history (inputs_where stop (stop_of s.links s.least s.at r) (inputs_of key s.links r)))))
     from None = by (stop_of s.links s.least s.at r)
       where
         by : (place : Option ℕ) → outs_as key s r place ≡ map (sent_at r.moment) (where_served None place (stream_sends s.links r.kind) ++ map (out_sent key (links_at s.links r.kind)) (steps_outs s.history (fitting s.limits s.history (inputs_where None place (inputs_of key s.links r)))))

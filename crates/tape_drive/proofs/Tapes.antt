@@ -4,7 +4,7 @@ use Rattle.cluster_defs.specs.Histories.{History}
 use Rattle.cluster_defs.specs.Lives.{World}
 use Rattle.cluster_store.specs.Worlds.{world_after}
 use Rattle.tape.specs.declared.record.TapeRecord.{TapeRecord}
-use Rattle.tape_drive.specs.declared.drive.Stop.{Stop}
+use Rattle.tape_drive.specs.declared.drive.TapeStop.{TapeStop}
 use Rattle.tape_drive.specs.Drive.{Stand, served, served_as, served_from, stand_at}
 use Rattle.tape_drive.specs.Inputs.{inputs_of}
 use Rattle.tape_drive.specs.Rules.{stop_of}
@@ -23,7 +23,7 @@ served_is key s r = from s.stop
     by None = refl
     by (Some place) = refl
 
-    from : (stop : Option Stop) → (served_from key s r stop).history ≡ stepped_all s.history (fitting s.limits s.history (inputs_where stop (stop_of s.links s.least s.at r) (inputs_of key s.links r)))
+    from : (stop : Option TapeStop) → (served_from key s r stop).history ≡ stepped_all s.history (fitting s.limits s.history (inputs_where stop (stop_of s.links s.least s.at r) (inputs_of key s.links r)))
     from None = by (stop_of s.links s.least s.at r)
     from (Some stop) = refl
 

@@ -6,8 +6,8 @@ use Rattle.cluster_types.specs.declared.entry.Input.{Input as InputType}
 use Rattle.cluster_types.specs.declared.entry.Input.TheVariants.{Open}
 use Rattle.cluster_defs.specs.Histories.{History, decide_all}
 use Rattle.cluster_core.specs.declared.size.HistorySize.{HistorySize}
-use Rattle.tape_drive.specs.declared.drive.Stop.{Stop}
-use Rattle.tape_drive.specs.declared.drive.Stop.TheVariants.{BadTape, HistoryFull}
+use Rattle.tape_drive.specs.declared.drive.TapeStop.{TapeStop}
+use Rattle.tape_drive.specs.declared.drive.TapeStop.TheVariants.{BadTape, HistoryFull}
 use Rattle.tape.specs.declared.record.TapeRecord.{TapeRecord}
 use Rattle.tape.specs.Spelling.{spelled, all_spelled}
 use Rattle.tape.specs.Tape.{blank, tape_after, records, fault}
@@ -26,7 +26,7 @@ pub record Stand : Type 0 where
   pub links : List Link
   pub least : ℕ
   pub at : ℕ
-  pub stop : Option Stop
+  pub stop : Option TapeStop
 
 -- no record came
 abbrev pub started_as : History → HistorySize → Stand
@@ -60,7 +60,7 @@ abbrev pub served_as : List ℕ → Stand → TapeRecord → Option ℕ → Stan
 served_as key s r None = goes_on key s r
 served_as key s r (Some place) = halts s place
 
-abbrev pub served_from : List ℕ → Stand → TapeRecord → Option Stop → Stand
+abbrev pub served_from : List ℕ → Stand → TapeRecord → Option TapeStop → Stand
 served_from key s r None = served_as key s r (stop_of s.links s.least s.at r)
 served_from key s r (Some stop) = s
 
@@ -79,7 +79,7 @@ abbrev pub outs_as : List ℕ → Stand → TapeRecord → Option ℕ → List T
 outs_as key s r None = sends key s r
 outs_as key s r (Some place) = []
 
-abbrev pub outs_from_stand : List ℕ → Stand → TapeRecord → Option Stop → List TapeRecord
+abbrev pub outs_from_stand : List ℕ → Stand → TapeRecord → Option TapeStop → List TapeRecord
 outs_from_stand key s r None = outs_as key s r (stop_of s.links s.least s.at r)
 outs_from_stand key s r (Some stop) = []
 
@@ -104,10 +104,10 @@ drive_stand key s octets = stand_at key s (records blank octets)
 abbrev pub drive_output : List ℕ → Stand → List ℕ → List ℕ
 drive_output key s octets = all_spelled (outputs key s (records blank octets))
 
-abbrev pub first_of : Option Stop → Option Stop → Option Stop
+abbrev pub first_of : Option TapeStop → Option TapeStop → Option TapeStop
 first_of (Some stop) other = Some stop
 first_of None other = other
 
 -- what stops a tape: the first record that breaks a rule or step that passes a limit, or else what is no whole record
-abbrev pub drive_stop : List ℕ → Stand → List ℕ → Option Stop
+abbrev pub drive_stop : List ℕ → Stand → List ℕ → Option TapeStop
 drive_stop key s octets = first_of (drive_stand key s octets).stop (option_map BadTape (fault (tape_after blank octets)))

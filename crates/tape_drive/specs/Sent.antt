@@ -9,7 +9,7 @@ use Rattle.cluster_defs.specs.Lives.{World, Move, Sending, is_open, sendings_to}
 use Rattle.cluster_store.specs.Worlds.{MayGo, world_after}
 use Rattle.tape.specs.declared.record.TapeRecord.{TapeRecord}
 use Rattle.tape.specs.declared.record.TapeKind.{TapeKind}
-use Rattle.tape_drive.specs.declared.drive.Stop.{Stop}
+use Rattle.tape_drive.specs.declared.drive.TapeStop.{TapeStop}
 use Rattle.tape_drive.specs.Drive.{Stand, served, outs, stand_at}
 use Rattle.tape_drive.specs.Links.{links_at}
 use Rattle.tape_drive.specs.Rules.{stop_of}
@@ -33,7 +33,7 @@ tape_outs key s [] = []
 tape_outs key s (r ∷ rs) = record_outs key s r ++ tape_outs key (served key s r) rs
 
 -- what is sent for a record that is served, and nothing where the tape is stopped before it or by it
-abbrev pub where_served : Option Stop → Option ℕ → List TapeKind → List TapeKind
+abbrev pub where_served : Option TapeStop → Option ℕ → List TapeKind → List TapeKind
 where_served None None kinds = kinds
 where_served None (Some place) kinds = []
 where_served (Some stop) fault kinds = []

@@ -9,7 +9,7 @@ use Rattle.tape.specs.declared.record.TapeRecord.{TapeRecord}
 use Rattle.disk_model.specs.Crashes.{LeavesOnly}
 use Rattle.tape_drive.specs.declared.fault.DriveError.{DriveError}
 use Rattle.tape_drive.specs.declared.fault.DriveError.TheVariants.{Reopen, DiskFault, OutOfMemory}
-use Rattle.tape_drive.specs.declared.drive.Stop.{Stop}
+use Rattle.tape_drive.specs.declared.drive.TapeStop.{TapeStop}
 use Rattle.tape_drive.specs.Inputs.{inputs_of}
 use Rattle.tape_drive.specs.Rules.{stop_of}
 use Rattle.tape_drive.specs.Steps.{stepped, overfull}
@@ -28,7 +28,7 @@ IsOnWay limits history (input ∷ inputs) h =
     (h ≡ history) ⊎ ((overfull limits history input ≡ None) × IsOnWay limits (stepped history input) inputs h)
 
 -- the inputs of a record that is served, and none where the tape is stopped before it or by it
-abbrev pub inputs_where : Option Stop → Option ℕ → List InputType → List InputType
+abbrev pub inputs_where : Option TapeStop → Option ℕ → List InputType → List InputType
 inputs_where None None inputs = inputs
 inputs_where None (Some place) inputs = []
 inputs_where (Some stop) fault inputs = []

@@ -17,12 +17,12 @@ ghost use Rattle.tape_drive.specs.Rules.{stop_of};
 ghost use Rattle.tape_drive.specs.Inputs.{inputs_of};
 ghost use Rattle.tape_drive.specs.Steps.{stepped, stepped_all, overfull, unless_full, fitting, full_at, history_behind, step_outs, made, AreTaken};
 ghost use Rattle.tape_drive.specs.Sends.{step_sends, steps_send, sent_at};
-ghost use Rattle.tape_drive.specs.declared.drive.Stop.TheVariants.{HistoryFull};
+ghost use Rattle.tape_drive.specs.declared.drive.TapeStop.TheVariants.{HistoryFull};
 ghost use Rattle.tape_drive.specs.Drive.{Stand, started_as, goes_on, sends, halts, served, outs};
 ghost use Rattle.tape_drive.specs.Served.{DriveView, HoldsSome, IsOnWay, IsTouched, is_failed, inputs_taken};
 
 use crate::fault::DriveError;
-use crate::links::Link;
+use crate::links::TapeLink;
 use crate::records::{leave, take_record};
 use crate::rules::{least_after, stop_of};
 use crate::sends::put_outs;
@@ -43,7 +43,7 @@ use task_journal::opening::Refused;
 
 /// What stops a tape before its end.
 #[derive(Clone, Copy, Debug, PartialEq, Eq)]
-pub enum Stop {
+pub enum TapeStop {
     /// A record breaks a rule, or no whole record stands, at this place.
     BadTape(u64),
     /// A step would pass a limit; the history would have this size.
@@ -51,11 +51,11 @@ pub enum Stop {
 }
 
 /// What stops a tape where a step would pass a limit.
-fn stop_at(full: Option<HistorySize>) -> Option<Stop>
+fn stop_at(full: Option<HistorySize>) -> Option<TapeStop>
     ensures { result ≡ option_map HistoryFull full }
 {
     match full {
-        Some(size) => Some(Stop::HistoryFull(size)),
+        Some(size) => Some(TapeStop::HistoryFull(size)),
         None => None,
     }
 }
@@ -64,10 +64,10 @@ fn stop_at(full: Option<HistorySize>) -> Option<Stop>
 #[derive(Drop)]
 pub struct Drive<D: Disk> {
     store: Store<D>,
-    links: Vec<Link>,
+    links: Vec<TapeLink>,
     least: u64,
     at: u64,
-    stop: Option<Stop>,
+    stop: Option<TapeStop>,
 }
 
 impl<D: Disk> Model for Drive<D> {
@@ -122,7 +122,7 @@ impl<D: Disk> Drive<D> {
     }
 
     /// What stops the tape: nothing is served from there on.
-    pub fn stop(&self) -> Option<Stop>
+    pub fn stop(&self) -> Option<TapeStop>
         ensures { result ≡ self.now.stand.stop }
     {
         self.stop
@@ -290,7 +290,7 @@ impl<D: Disk> Drive<D> {
             return Ok(());
         }
         if let Some(place) = self.fault_of(item) {
-            self.stop = Some(Stop::BadTape(place));
+            self.stop = Some(TapeStop::BadTape(place));
             return Ok(());
         }
         let before = into.len();

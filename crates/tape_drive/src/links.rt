@@ -14,13 +14,13 @@ use zmtp_peer::phase::PeerFed;
 
 /// A connection that is up. A bare one has no peer.
 #[derive(Drop)]
-pub struct Link {
+pub struct TapeLink {
     conn: u32,
     channel: Channel,
     peer: Option<Peer>,
 }
 
-impl Model for Link {
+impl Model for TapeLink {
     ghost use Rattle.std.specs.Prelude.{option_map};
     ghost use Rattle.tape_drive.specs.Links.{Link as Known};
 
@@ -29,19 +29,19 @@ impl Model for Link {
     ghost view = { λ l. record { conn = l.conn; channel = l.channel; talk = option_map (λ p. p.talk) l.peer } };
 }
 
-impl Link {
+impl TapeLink {
     /// A connection on which nothing came. It takes no memory.
-    pub fn new(alloc: Global, conn: u32, channel: Channel, bare: bool) -> Link
+    pub fn new(alloc: Global, conn: u32, channel: Channel, bare: bool) -> TapeLink
         ensures { result ≡ new_link conn channel bare }
     {
         if bare {
-            return Link {
+            return TapeLink {
                 conn,
                 channel,
                 peer: None,
             };
         }
-        Link {
+        TapeLink {
             conn,
             channel,
             peer: Some(Peer::new(alloc)),
@@ -84,21 +84,21 @@ impl Link {
 }
 
 /// The link of a number.
-fn link_on(links: &[Link], conn: u32) -> Option<&Link>
+fn link_on(links: &[TapeLink], conn: u32) -> Option<&TapeLink>
     ensures { option_copied result ≡ link_on links.now conn }
 {
     links.iter().find(|l| l.has_number(conn))
 }
 
 /// Whether a connection is up.
-pub fn is_up(links: &[Link], conn: u32) -> bool
+pub fn is_up(links: &[TapeLink], conn: u32) -> bool
     ensures { result ≡ is_some (link_on links.now conn) }
 {
     link_on(links, conn).is_some()
 }
 
 /// Whether a bare connection is up.
-pub fn is_bare(links: &[Link], conn: u32) -> bool
+pub fn is_bare(links: &[TapeLink], conn: u32) -> bool
     ensures { result ≡ is_bare (link_on links.now conn) }
 {
     match link_on(links, conn) {
@@ -108,7 +108,7 @@ pub fn is_bare(links: &[Link], conn: u32) -> bool
 }
 
 /// Whether a connection that speaks ZMTP is up.
-pub fn is_zmtp(links: &[Link], conn: u32) -> bool
+pub fn is_zmtp(links: &[TapeLink], conn: u32) -> bool
     ensures { result ≡ is_zmtp (link_on links.now conn) }
 {
     match link_on(links, conn) {
@@ -118,7 +118,7 @@ pub fn is_zmtp(links: &[Link], conn: u32) -> bool
 }
 
 /// The place of the link of a number.
-fn place_of(links: &[Link], conn: u32) -> Option<usize>
+fn place_of(links: &[TapeLink], conn: u32) -> Option<usize>
     ensures place { result ≡ place_from 0 conn links.now }
     ensures within { IfSome result (λ p. p < length links.now) }
 {
@@ -132,7 +132,7 @@ fn place_of(links: &[Link], conn: u32) -> Option<usize>
 
 /// Takes octets on the link of a number, and says what they give where it speaks ZMTP.
 pub fn hear_on(
-    links: &mut [Link],
+    links: &mut [TapeLink],
     conn: u32,
     octets: &[u8],
 ) -> Result<Option<(Channel, PeerFed)>, AllocError>
@@ -152,7 +152,7 @@ pub fn hear_on(
 }
 
 /// Takes off the link of a number.
-pub fn drop_link(links: &mut Vec<Link>, conn: u32)
+pub fn drop_link(links: &mut Vec<TapeLink>, conn: u32)
     ensures { links.new.items ≡ filter (λ l. not (l.conn == conn)) links.old.items }
 {
     links.retain(|l| !l.has_number(conn));

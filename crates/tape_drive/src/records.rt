@@ -10,7 +10,7 @@ ghost use Rattle.tape_drive.specs.Inputs.{kind_inputs, inputs_of, stream_inputs}
 ghost use Rattle.tape_drive.specs.Sends.{stream_sends, sent_at, given_sendings};
 
 use crate::inputs::{Origin, add_down, add_in, add_stream, add_up};
-use crate::links::{Link, drop_link, hear_on};
+use crate::links::{TapeLink, drop_link, hear_on};
 use crate::sends::{put_piece, put_sendings};
 use cluster_types::config::Channel;
 use cluster_types::entry::Input;
@@ -23,7 +23,7 @@ use zmtp_peer::phase::PeerFed;
 
 /// Brings a connection up: a bare one is an input at once, one that speaks ZMTP is greeted.
 fn take_up(
-    links: &mut Vec<Link>,
+    links: &mut Vec<TapeLink>,
     inputs: &mut Vec<Input>,
     into: &mut Vec<u8>,
     from: Origin,
@@ -36,7 +36,7 @@ fn take_up(
     ensures octets { OnOk result (into.new.items ≡ into.old.items ++ all_spelled (map (sent_at from.moment) (stream_sends links.old.items (TapeKind.Up from.conn channel bare identity.now)))) }
     ensures err { OnErr result (into.new.items ≡ into.old.items) }
 {
-    links.push(Link::new(*links.allocator(), from.conn, channel, bare))?;
+    links.push(TapeLink::new(*links.allocator(), from.conn, channel, bare))?;
     if bare {
         add_up(inputs, from, channel, identity)?;
     } else {
@@ -68,7 +68,7 @@ fn take_given(
 
 /// Takes octets of a stream.
 fn take_piece(
-    links: &mut [Link],
+    links: &mut [TapeLink],
     inputs: &mut Vec<Input>,
     into: &mut Vec<u8>,
     key: &Key,
@@ -90,7 +90,7 @@ fn take_piece(
 
 /// Takes a record: the links are those while it is served, its inputs are added, and what its stream sends is appended.
 pub fn take_record(
-    links: &mut Vec<Link>,
+    links: &mut Vec<TapeLink>,
     inputs: &mut Vec<Input>,
     into: &mut Vec<u8>,
     key: &Key,
@@ -149,7 +149,7 @@ pub fn take_record(
 }
 
 /// Takes off the link that a record ends.
-pub fn leave(links: &mut Vec<Link>, kind: &TapeKind)
+pub fn leave(links: &mut Vec<TapeLink>, kind: &TapeKind)
     ensures { links.new.items ≡ links_left links.old.items kind.now }
 {
     if let TapeKind::Down { conn } = kind {

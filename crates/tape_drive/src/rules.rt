@@ -6,7 +6,7 @@ ghost use Rattle.cluster_types.specs.Limits.{body_limit, tape_limit};
 ghost use Rattle.tape.specs.Spelling.{spelled};
 ghost use Rattle.tape_drive.specs.Rules.{may_come_up, may_be_called, is_piece, is_in_limits, kind_follows, follows, least_after, stop_of};
 
-use crate::links::{Link, is_bare, is_up, is_zmtp};
+use crate::links::{TapeLink, is_bare, is_up, is_zmtp};
 use crate::sizes::size_of;
 use cluster_types::limits::{BODY_OCTETS, LAST_MOMENT, MESSAGE_OCTETS, TAPE_OCTETS};
 use edges::frames::Frames;
@@ -19,7 +19,7 @@ const MOST_CONNECTIONS: usize = 1024;
 const MOST_IN_PIECE: usize = 1_048_576;
 
 /// Whether a connection may come up beside these, where `least` is the least number that it may have.
-fn may_come_up(links: &[Link], least: u64, conn: u32) -> bool
+fn may_come_up(links: &[TapeLink], least: u64, conn: u32) -> bool
     ensures { result ≡ may_come_up links.now least conn }
 {
     least <= u64::from(conn) && links.len() < MOST_CONNECTIONS
@@ -69,7 +69,7 @@ fn is_in_limits(frames: &Frames) -> bool
 }
 
 /// Whether what a record tells may come.
-fn kind_follows(links: &[Link], least: u64, kind: &TapeKind) -> bool
+fn kind_follows(links: &[TapeLink], least: u64, kind: &TapeKind) -> bool
     ensures { result ≡ kind_follows links.now least kind.now }
 {
     match kind {
@@ -88,7 +88,7 @@ fn kind_follows(links: &[Link], least: u64, kind: &TapeKind) -> bool
 }
 
 /// Whether a record may stand behind those before it.
-fn follows(links: &[Link], least: u64, item: &TapeRecord) -> bool
+fn follows(links: &[TapeLink], least: u64, item: &TapeRecord) -> bool
     ensures { result ≡ follows links.now least item.now }
 {
     item.moment <= LAST_MOMENT && kind_follows(links, least, &item.kind)
@@ -117,7 +117,7 @@ fn ends_in_time(at: u64, item: &TapeRecord) -> bool
 }
 
 /// The place of the fault of a record that begins at a place, where it has one.
-pub fn stop_of(links: &[Link], least: u64, at: u64, item: &TapeRecord) -> Option<u64>
+pub fn stop_of(links: &[TapeLink], least: u64, at: u64, item: &TapeRecord) -> Option<u64>
     ensures { result ≡ stop_of links.now least at item.now }
 {
     if !follows(links, least, item) {

@@ -10,7 +10,7 @@ ghost use Rattle.tape.specs.Spelling.{Fits, KindFits, FitsBlob, spelled, all_spe
 ghost use Rattle.tape_drive.specs.Links.{link_on, is_zmtp};
 ghost use Rattle.tape_drive.specs.Sends.{where_any, sendings, frames_sent, out_sent, by_connection, sent_at};
 
-use crate::links::{Link, is_zmtp};
+use crate::links::{TapeLink, is_zmtp};
 use crate::order::{conn_of, sort_by_connection};
 use cluster_types::limits::{FIELD_OCTETS, LAST_MOMENT, MOST_FRAMES};
 use cluster_types::octets::Octets;
@@ -184,7 +184,7 @@ fn frames_sent(alloc: Global, zmtp: bool, conn: u32, frames: Frames) -> Result<T
 fn put_out(
     into: &mut Vec<u8>,
     key: &Key,
-    links: &[Link],
+    links: &[TapeLink],
     moment: u64,
     out: Out,
 ) -> Result<(), AllocError>
@@ -202,7 +202,7 @@ fn put_out(
 fn put_each(
     into: &mut Vec<u8>,
     key: &Key,
-    links: &[Link],
+    links: &[TapeLink],
     moment: u64,
     outs: Vec<Out>,
 ) -> Result<(), AllocError>
@@ -219,7 +219,7 @@ fn put_each(
 pub fn put_outs(
     into: &mut Vec<u8>,
     key: &Key,
-    links: &[Link],
+    links: &[TapeLink],
     moment: u64,
     outs: Outs,
 ) -> Result<(), AllocError>

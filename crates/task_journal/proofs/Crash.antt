@@ -12,7 +12,7 @@ use Rattle.record_codec.proofs.Lengths.{length-be32}
 use Rattle.disk_model.specs.Crashes.{Torn, Written, Follows, Only}
 use Rattle.task_journal.specs.declared.fault.OpenFault.{OpenFault}
 use Rattle.task_journal.specs.declared.found.Found.{Found}
-use Rattle.task_journal.specs.declared.gate.Gate.TheVariants.{Open}
+use Rattle.task_journal.specs.declared.gate.GateState.TheVariants.{Open}
 use Rattle.task_journal.specs.Batch.{batch_octets, IsBatch}
 use Rattle.edges.specs.Difference.{difference}
 use Rattle.task_journal.specs.Journal.{holding, records_at, gate_in, found_from, head, headed, journal, StandsFor, last_of, place_in}

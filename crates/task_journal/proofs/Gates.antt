@@ -5,8 +5,8 @@ use Rattle.std.specs.Int.{w32, from_be_bytes}
 use Rattle.std.proofs.lemmas.Bool.{cases_lt, ltb-false, lt-ltb, le-ltb}
 use Rattle.std.proofs.lemmas.List.{length-take, drop-drop, drop_all, drop_more, drop-take, take-take, take_min}
 use Rattle.task_journal.specs.declared.fault.OpenFault.TheVariants.{Damaged}
-use Rattle.task_journal.specs.declared.gate.Gate.{Gate}
-use Rattle.task_journal.specs.declared.gate.Gate.TheVariants.{Missing, Closed, Short, Open}
+use Rattle.task_journal.specs.declared.gate.GateState.{GateState}
+use Rattle.task_journal.specs.declared.gate.GateState.TheVariants.{Missing, Closed, Short, Open}
 use Rattle.task_journal.specs.Journal.{◌>>=◌, with_front, records_at, gate_in, from_gate, found_from}
 use Rattle.task_journal.specs.Window.{span}
 
@@ -47,11 +47,11 @@ module _ (size gate : ℕ) (disk : List ℕ) (is : size ≡ length disk) (lt : g
   long : length (drop (gate + 1) disk) ≡ size - (gate + 1)
   long = omega (arith, length-drop (gate + 1) disk, is)
 
-  stepped : (g : Gate) → gate_in (drop gate disk) ≡ g → found_from size 0 (drop gate disk) ≡ from_gate g size (drop (gate + 1) disk) (λ skip. found_from size skip (drop (gate + 1) disk))
+  stepped : (g : GateState) → gate_in (drop gate disk) ≡ g → found_from size 0 (drop gate disk) ≡ from_gate g size (drop (gate + 1) disk) (λ skip. found_from size skip (drop (gate + 1) disk))
   unfolding found_from
   stepped g e =
       let here : gate_in (get_or disk gate 0 ∷ drop (gate + 1) disk) ≡ g = ap gate_in (sym at_gate) ∙ e in
-      ap (λ (z : List ℕ). found_from size 0 z) at_gate ∙ ap (λ (h : Gate). from_gate h size (drop (gate + 1) disk) (λ skip. found_from size skip (drop (gate + 1) disk))) here
+      ap (λ (z : List ℕ). found_from size 0 z) at_gate ∙ ap (λ (h : GateState). from_gate h size (drop (gate + 1) disk) (λ skip. found_from size skip (drop (gate + 1) disk))) here
 
   pub step_missing : gate_in (drop gate disk) ≡ Missing → found_from size 0 (drop gate disk) ≡ Err (Damaged size)
   step_missing e = stepped Missing e

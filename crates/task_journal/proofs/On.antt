@@ -9,8 +9,8 @@ use Rattle.record_codec.specs.Reading.{entry_at}
 use Rattle.task_journal.specs.declared.fault.OpenFault.{OpenFault}
 use Rattle.task_journal.specs.declared.fault.OpenFault.TheVariants.{NotAJournal, Damaged, DiskFault, OutOfMemory}
 use Rattle.task_journal.specs.declared.found.Found.{Found}
-use Rattle.task_journal.specs.declared.gate.Gate.{Gate}
-use Rattle.task_journal.specs.declared.gate.Gate.TheVariants.{Missing, Closed, Short, Open}
+use Rattle.task_journal.specs.declared.gate.GateState.{GateState}
+use Rattle.task_journal.specs.declared.gate.GateState.TheVariants.{Missing, Closed, Short, Open}
 use Rattle.edges.specs.Difference.{difference}
 use Rattle.task_journal.specs.Journal.{◌>>=◌, nothing, holding, behind, with_front, one, record_of, record_at, records_at, gate_in, from_gate, found_from, head, journal, last_of, Fails}
 use Rattle.task_journal.specs.Window.{HasHead}
@@ -105,7 +105,7 @@ on_open total x len count octets found again gate e =
     body_alike a b d n le xs parts =
         ap (λ (z : List ℕ). take n (drop 9 z)) parts ∙ ap (take n) (drop-append-le 9 a b (omega (arith, le))) ∙ front_alike n (drop 9 a) b d (omega (arith, length-drop 9 a, le)) ∙ ap (take n) (sym (drop-append-le 9 a d (omega (arith, le))))
 
-on_gate : (g : Gate) (total x : ℕ) (octets : List ℕ) (found : Found) → ((skip : ℕ) (f : Found) → found_from total skip octets ≡ Ok f → On total skip octets f) → gate_in (x ∷ octets) ≡ g
+on_gate : (g : GateState) (total x : ℕ) (octets : List ℕ) (found : Found) → ((skip : ℕ) (f : Found) → found_from total skip octets ≡ Ok f → On total skip octets f) → gate_in (x ∷ octets) ≡ g
     → from_gate g total octets (λ skip. found_from total skip octets) ≡ Ok found → On total 0 (x ∷ octets) found
 on_gate Missing total x octets found again gate e = absurd cc
 on_gate Short total x octets found again gate e = absurd cc

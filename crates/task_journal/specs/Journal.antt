@@ -7,8 +7,8 @@ use Rattle.record_codec.specs.Reading.{entry_at}
 use Rattle.task_journal.specs.declared.fault.OpenFault.{OpenFault}
 use Rattle.task_journal.specs.declared.fault.OpenFault.TheVariants.{NotAJournal, Damaged, DiskFault, OutOfMemory}
 use Rattle.task_journal.specs.declared.found.Found.{Found}
-use Rattle.task_journal.specs.declared.gate.Gate.{Gate}
-use Rattle.task_journal.specs.declared.gate.Gate.TheVariants.{Missing, Closed, Short, Open}
+use Rattle.task_journal.specs.declared.gate.GateState.{GateState}
+use Rattle.task_journal.specs.declared.gate.GateState.TheVariants.{Missing, Closed, Short, Open}
 use Rattle.edges.specs.Difference.{difference}
 
 infixl 10 ◌>>=◌
@@ -46,7 +46,7 @@ records_at (suc n) end octets = do
   with_front (one first.0 (end - length octets)) (records_at n end first.1)
 
 -- what the octets from a gate on begin with
-abbrev pub gate_in : List ℕ → Gate
+abbrev pub gate_in : List ℕ → GateState
 gate_in [] = Missing
 gate_in (gate ∷ octets) =
     if gate == 167 then (if nat_lt (length octets) 9 then Short else Open (from_be_bytes w32 (take 4 (drop 1 octets))) (from_be_bytes w32 (take 4 (drop 5 octets))))
@@ -54,7 +54,7 @@ gate_in (gate ∷ octets) =
 
 -- What is found from a gate on, where these octets stand behind it: behind an open one a pad, a length, a number, so
 -- many octets which are exactly that many records, and the next gate.
-abbrev pub from_gate : Gate → ℕ → List ℕ → (ℕ → Result Found OpenFault) → Result Found OpenFault
+abbrev pub from_gate : GateState → ℕ → List ℕ → (ℕ → Result Found OpenFault) → Result Found OpenFault
 from_gate Missing total octets next = Err (Damaged total)
 from_gate Closed total octets next = Ok (record { entries = []; places = (total - length octets - 1) ∷ [] })
 from_gate Short total octets next = Err (Damaged (total - length octets - 1))

@@ -9,7 +9,7 @@ ghost use Rattle.task_journal.specs.Cursor.{Standing, IsOn, bound, Opens, Reache
 
 use crate::disk_calls::size_of;
 use crate::fault::OpenFault;
-use crate::gate::{Gate, gate_at};
+use crate::gate::{GateState, gate_at};
 use crate::head::check_head;
 use crate::window::{Window, next_record};
 use cluster_types::entry::Entry;
@@ -53,10 +53,10 @@ fn open_gate<D: Disk>(
     window.restart(gate);
     window.read_more(disk, (size - gate).min(10) as usize)?;
     match gate_at(window.octets()) {
-        Gate::Missing => Err(OpenFault::Damaged(size)),
-        Gate::Closed => Ok(None),
-        Gate::Short => Err(OpenFault::Damaged(gate)),
-        Gate::Open { len, count } => {
+        GateState::Missing => Err(OpenFault::Damaged(size)),
+        GateState::Closed => Ok(None),
+        GateState::Short => Err(OpenFault::Damaged(gate)),
+        GateState::Open { len, count } => {
             let from = gate.saturating_add(10);
             let next = from.saturating_add(u64::from(len));
             Ok(Some(Opened {

@@ -5,7 +5,7 @@ ghost use Rattle.task_journal.specs.Journal.{gate_in};
 
 /// What stands at a gate.
 #[derive(Clone, Copy, Debug, PartialEq, Eq)]
-pub enum Gate {
+pub enum GateState {
     /// The disk ends before it.
     Missing,
     Closed,
@@ -16,20 +16,20 @@ pub enum Gate {
 }
 
 /// The gate at the front of octets.
-pub fn gate_at(octets: &[u8]) -> Gate
+pub fn gate_at(octets: &[u8]) -> GateState
     ensures { result ≡ gate_in octets.now }
 {
     match octets {
-        [] => Gate::Missing,
+        [] => GateState::Missing,
         [0xa7, rest @ ..] => {
             if rest.len() < 9 {
-                return Gate::Short;
+                return GateState::Short;
             }
-            Gate::Open {
+            GateState::Open {
                 len: u32::from_be_bytes([rest[1], rest[2], rest[3], rest[4]]),
                 count: u32::from_be_bytes([rest[5], rest[6], rest[7], rest[8]]),
             }
         }
-        [_, ..] => Gate::Closed,
+        [_, ..] => GateState::Closed,
     }
 }

@@ -15,7 +15,7 @@ use jupyter_header::write::{made_header, resubmit_header};
 use cluster_defs::content::{HubContent, ReplyMeta, SubmitMeta};
 use cluster_defs::fault::ReadError;
 use cluster_defs::header::Header;
-use cluster_defs::hub_request::Request;
+use cluster_defs::hub_request::RequestType;
 use std::alloc::Global;
 use std::process::Abort;
 
@@ -331,7 +331,7 @@ fn reads_replies(rt: HostRuntime) {
 /// What is read of the content of a request to the hub.
 fn content_of(
     alloc: Global,
-    request: Request,
+    request: RequestType,
     text: &str,
     scratch: &mut Scratch,
 ) -> Result<HubContent, ReadError> {
@@ -339,7 +339,7 @@ fn content_of(
 }
 
 /// The request that a type stands for.
-fn request_named<R: Abort>(rt: &R, msg_type: &str) -> Request {
+fn request_named<R: Abort>(rt: &R, msg_type: &str) -> RequestType {
     request_of(msg_type).expect(rt, "a request")
 }
 
@@ -423,11 +423,11 @@ fn reads_requests(rt: HostRuntime) {
     assert!(rt; is_asked(&purge, "purge"));
     for (request, text, wanted) in [
         (
-            Request::Queue,
+            RequestType::Queue,
             "{\"targets\":[4294967295],\"verbose\":true}",
             "queue",
         ),
-        (Request::Beat, "{\"beat\":18446744073709551615}", "pong"),
+        (RequestType::Beat, "{\"beat\":18446744073709551615}", "pong"),
     ] {
         let content = content_of(alloc, request, text, &mut scratch).expect(&rt, "a content");
         assert!(rt; is_asked(&content, wanted), "at {wanted}");

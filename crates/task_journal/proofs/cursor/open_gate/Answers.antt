@@ -1,5 +1,5 @@
 use Rattle.std.proofs.Common.{◌≡◌, ◌≤◌, ◌+◌, min, drop, refl, sym, ap, ◌∙◌, arith, ℕ, List}
-use Rattle.task_journal.specs.declared.gate.Gate.TheVariants.{Open}
+use Rattle.task_journal.specs.declared.gate.GateState.TheVariants.{Open}
 use Rattle.task_journal.specs.Window.{span}
 use Rattle.task_journal.specs.Journal.{gate_in, found_from}
 use Rattle.task_journal.specs.Cursor.{batch_then}
