@@ -170,7 +170,6 @@ impl Known {
     /// Takes an entry that may stand next, and gives what it sends.
     pub fn take_told(
         &mut self,
-        alloc: Global,
         entry: &Entry,
         meaning: &Meaning,
     ) -> Result<TakenEntry, AllocError>
@@ -184,7 +183,7 @@ impl Known {
         ensures place { OnOk result (self.new.place ≡ entry_place entry.now self.old.place) }
     {
         let place = next_place(self.place, entry)?;
-        let taken = take_entry(alloc, place, &mut self.state, entry, meaning)?;
+        let taken = take_entry(place, &mut self.state, entry, meaning)?;
         self.place = place;
         Ok(taken)
     }
@@ -199,7 +198,7 @@ impl Known {
         ensures place { OnOk result (self.new.place ≡ entry_place decision.now self.old.place) }
     {
         let none = Meaning::none(alloc)?;
-        self.take_told(alloc, decision, &none)
+        self.take_told(decision, &none)
     }
 
     /// Takes an entry with what it means.

@@ -242,15 +242,7 @@ impl Core {
     {
         let known = self.take_known()?;
         let stopping = self.stopping();
-        let plan = Plan::work_out(
-            self.allocator(),
-            self.history(),
-            known,
-            input,
-            meaning,
-            stopping,
-            chooser,
-        )?;
+        let plan = Plan::work_out(self.history(), known, input, meaning, stopping, chooser)?;
         self.reserve(plan.steps())?;
         Ok(plan)
     }

@@ -132,7 +132,7 @@ fn take_input(
     ensures place { OnOk result (known.new.place ≡ entry_place (Entry.Input input.now) known.old.place) }
 {
     let entry = Entry::Input(input.clone()?);
-    let taken = known.take_told(alloc, &entry, meaning)?;
+    let taken = known.take_told(&entry, meaning)?;
     let kept = kept_one(alloc, taken.is_kept, entry)?;
     Ok(Sent {
         outs: taken.outs,
@@ -286,7 +286,6 @@ impl Plan {
     /// Works a step out. `history` is the history before it, `meaning` that of its input, `was_stopping` whether a
     /// shutdown was asked.
     pub(crate) fn work_out(
-        alloc: Global,
         history: &[Entry],
         known: Known,
         input: Input,
@@ -304,6 +303,7 @@ impl Plan {
         ensures grown { IfOk result (λ p. IsGrown (reverse history.now) p) }
         ensures all { IfOk result (λ p. planned (reverse history.now) p ≡ decide_all (Entry.Input input ∷ reverse history.now)) }
     {
+        let alloc = known.state.allocator();
         let mut plan = Plan::begin(alloc, known, input, meaning, was_stopping)?;
         decide(alloc, history, &mut plan, chooser)?;
         Ok(plan)

@@ -15,7 +15,7 @@ use cluster_types::entry::Entry;
 use cluster_types::out::Out;
 use entry_outs::entries::outs;
 use entry_outs::rulings::ruling;
-use std::alloc::{AllocError, Global};
+use std::alloc::AllocError;
 
 /// What an entry sent, and whether a crash leaves it.
 #[derive(Drop)]
@@ -27,7 +27,6 @@ pub struct TakenEntry {
 /// Takes an entry that may stand next, once what it comes to was worked out and what it sends. `place` is its place after the
 /// last Open.
 pub fn take_entry(
-    alloc: Global,
     place: u64,
     state: &mut State,
     entry: &Entry,
@@ -43,7 +42,7 @@ pub fn take_entry(
 {
     let Meaning { event, msg_type } = meaning;
     let ruling = ruling(state, entry, event)?;
-    let outs = outs(alloc, place, state, entry, event, msg_type, &ruling)?.into_vec();
+    let outs = outs(place, state, entry, event, msg_type, &ruling)?.into_vec();
     let is_kept = state.take(entry, event, ruling)?;
     Ok(TakenEntry { outs, is_kept })
 }

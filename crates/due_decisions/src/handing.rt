@@ -255,7 +255,6 @@ fn takes_any(table: &Table, task: &Task) -> bool
 
 /// The engine that is picked of those where a task may run.
 fn engine_for(
-    alloc: Global,
     table: &Table,
     rooms: &[Room],
     chooser: &Chooser,
@@ -265,6 +264,7 @@ fn engine_for(
 ) -> Result<Option<u32>, AllocError>
     ensures { IfOk result (λ n. n ≡ picked scheme word (rooms_for table.now rooms.now task.now)) }
 {
+    let alloc = table.allocator();
     if takes_any(table, task) {
         picked(alloc, chooser, scheme, word, rooms)
     } else {
@@ -275,7 +275,6 @@ fn engine_for(
 
 /// The hand-out of a task to the engine that is picked of those where it may run.
 fn hand_of(
-    alloc: Global,
     table: &Table,
     rooms: &[Room],
     chooser: &Chooser,
@@ -285,7 +284,7 @@ fn hand_of(
 ) -> Result<Option<Entry>, AllocError>
     ensures { IfOk result (λ d. d ≡ hand_of table.now rooms.now scheme word task.now) }
 {
-    match engine_for(alloc, table, rooms, chooser, scheme, word, task)? {
+    match engine_for(table, rooms, chooser, scheme, word, task)? {
         Some(engine) => Ok(Some(Entry::Hand {
             id: task.id().clone()?,
             engine,
@@ -306,7 +305,7 @@ pub fn hand_due(
     ensures { IfOk result (λ d. d ≡ hand_in tasks.now rooms.now scheme word) }
 {
     match waiting_task(alloc, tasks, rooms)? {
-        Some(task) => hand_of(alloc, tasks.table(), rooms, chooser, scheme, word, task),
+        Some(task) => hand_of(tasks.table(), rooms, chooser, scheme, word, task),
         None => Ok(None),
     }
 }

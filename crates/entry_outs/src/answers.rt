@@ -5,6 +5,7 @@ ghost use Rattle.cluster_defs.specs.Outs.{answer_out};
 
 use crate::beats::answer_id;
 use cluster_defs::answer::Answer;
+use cluster_types::config::Channel;
 use cluster_types::octets::Octets;
 use cluster_types::out::{Out, Outs};
 use cluster_types::text::Text;
@@ -21,6 +22,13 @@ pub struct Slip {
     pub conn: u32,
     /// In milliseconds.
     pub moment: u64,
+}
+
+/// Where the answer to a message goes, and the channel that the message came on.
+#[derive(Clone, Copy, Debug, PartialEq, Eq)]
+pub struct Asked {
+    pub slip: Slip,
+    pub channel: Channel,
 }
 
 /// An answer in a message of a type, under the header of the message that it answers.

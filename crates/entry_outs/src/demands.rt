@@ -121,7 +121,6 @@ fn refused_outs(
 /// What a request for a task sends, direct or not: its refusal, or the outcome where it comes again.
 #[tactic(auto, using(crate::proofs::Telling::again_unpurged, crate::proofs::Telling::again_sends, crate::proofs::Telling::refused_sends))]
 pub fn demand_outs(
-    alloc: Global,
     slip: Slip,
     state: &State,
     direct: bool,
@@ -133,6 +132,7 @@ pub fn demand_outs(
     requires accepted { acceptance ≡ acceptance_of (facts_in (plain state.now)) (record { direct = direct; submission = submission.now }) message.now }
     ensures { IfOk result (λ outs. outs ≡ demand_sends slip (facts_in (plain state.now)) (record { direct = direct; submission = submission.now }) message.now) }
 {
+    let alloc = state.allocator();
     if is_again(acceptance) {
         let outcome = outcome_of(state, &submission.id)?;
         let outs = pass_to(alloc, Some(slip.conn), outcome)?;

@@ -14,7 +14,7 @@ ghost use Rattle.cluster_state.specs.Stands.{plain};
 ghost use Rattle.entry_outs.specs.Asked.{type_on, told_type};
 ghost use Rattle.entry_outs.specs.Reached.{Reached, IsNext};
 
-use crate::answers::Slip;
+use crate::answers::{Asked, Slip};
 use crate::beats::beat_outs;
 use crate::messages::event_outs;
 use crate::passes::{hand_outs, settle_outs};
@@ -26,12 +26,11 @@ use cluster_types::event::Event;
 use cluster_types::out::Outs;
 use cluster_types::shared_message::SharedMessage;
 use cluster_types::text::Text;
-use std::alloc::{AllocError, Global};
+use std::alloc::AllocError;
 use task_table::attempts::one_more;
 
 /// What a message sends, where its answer goes as the slip says.
 fn message_outs(
-    alloc: Global,
     slip: Slip,
     state: &State,
     message: &SharedMessage,
@@ -45,26 +44,28 @@ fn message_outs(
     requires ruled { (e : EventType) → event.now ≡ Some e → IsTold (facts_in (plain state.now)) slip.conn message.now e ruling.now }
     ensures { IfOk result (λ outs. outs ≡ message_outs slip.place (facts_in (plain state.now)) slip.conn slip.moment message.now (connection_on state.now.connections.items slip.conn) event.now) }
 {
+    let alloc = state.allocator();
     let Some(connection) = connection_on(&state.connections, slip.conn) else {
         return Ok(Outs::new(alloc));
     };
     let Some(event) = event else {
         return Ok(Outs::new(alloc));
     };
-    let channel = connection.channel;
-    let outs = event_outs(
-        alloc, slip, state, channel, message, event, msg_type, ruling,
-    )?;
+    let asked = Asked {
+        slip,
+        channel: connection.channel,
+    };
+    let outs = event_outs(asked, state, message, event, msg_type, ruling)?;
     Ok(outs)
 }
 
 /// What a beat sends.
-fn beat_round(alloc: Global, place: u64, state: &State, moment: u64) -> Result<Outs, AllocError>
+fn beat_round(place: u64, state: &State, moment: u64) -> Result<Outs, AllocError>
     ensures { IfOk result (λ outs. outs ≡ map (beat_out state.now.opens place moment (state.now.beats + 1)) state.now.engines) }
 {
     let beat = one_more(state.beats)?;
     let outs = beat_outs(
-        alloc,
+        state.allocator(),
         state.opens,
         place,
         moment,
@@ -76,7 +77,6 @@ fn beat_round(alloc: Global, place: u64, state: &State, moment: u64) -> Result<O
 
 /// What an input sends.
 fn input_outs(
-    alloc: Global,
     place: u64,
     state: &State,
     input: &Input,
@@ -90,7 +90,7 @@ fn input_outs(
     ensures { IfOk result (λ outs. outs ≡ outs_as place (facts_in (plain state.now)) (Entry.Input input.now) event.now) }
 {
     match input {
-        Input::Beat { moment, word: _ } => beat_round(alloc, place, state, *moment),
+        Input::Beat { moment, word: _ } => beat_round(place, state, *moment),
         Input::In {
             conn,
             moment,
@@ -103,17 +103,16 @@ fn input_outs(
                 conn: *conn,
                 moment: *moment,
             };
-            let outs = message_outs(alloc, slip, state, message, event, msg_type, ruling)?;
+            let outs = message_outs(slip, state, message, event, msg_type, ruling)?;
             Ok(outs)
         }
-        _ => Ok(Outs::new(alloc)),
+        _ => Ok(Outs::new(state.allocator())),
     }
 }
 
 /// What an entry that may stand next sends.
 #[tactic(auto, using(crate::proofs::Telling::reached))]
 fn entry_outs(
-    alloc: Global,
     place: u64,
     state: &State,
     entry: &Entry,
@@ -128,14 +127,14 @@ fn entry_outs(
     ensures { IfOk result (λ outs. outs ≡ outs_as place (facts_in (plain state.now)) entry.now event.now) }
 {
     match entry {
-        Entry::Input(input) => input_outs(alloc, place, state, input, event, msg_type, ruling),
-        Entry::Hand { id, engine } => hand_outs(alloc, state, id, *engine),
+        Entry::Input(input) => input_outs(place, state, input, event, msg_type, ruling),
+        Entry::Hand { id, engine } => hand_outs(state.allocator(), state, id, *engine),
         Entry::Settle {
             id,
             verdict: _,
             cause: _,
-        } => settle_outs(alloc, state, id, ruling.settle()),
-        Entry::Lose { engine: _ } => Ok(Outs::new(alloc)),
+        } => settle_outs(state.allocator(), state, id, ruling.settle()),
+        Entry::Lose { engine: _ } => Ok(Outs::new(state.allocator())),
     }
 }
 
@@ -143,7 +142,6 @@ fn entry_outs(
 /// the moment of its last input is one before the year 10000. `event` is what the message of an input means, where it
 /// isn't junk, and `msg_type` is then the message's type, and empty otherwise.
 pub fn outs(
-    alloc: Global,
     place: u64,
     state: &State,
     entry: &Entry,
@@ -158,6 +156,6 @@ pub fn outs(
     ensures state { IfOk result (λ outs. outs ≡ outs_as place (facts_in (plain state.now)) entry.now event.now) }
     ensures history { IfOk result (λ outs. (history : History) → Legal history → plain state.now ≡ plain_of (facts history) → outs ≡ outs_as place (facts history) entry.now event.now) }
 {
-    let sent = entry_outs(alloc, place, state, entry, event, msg_type, ruling)?;
+    let sent = entry_outs(place, state, entry, event, msg_type, ruling)?;
     Ok(sent)
 }

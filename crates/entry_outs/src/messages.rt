@@ -14,7 +14,7 @@ ghost use Rattle.resubmission.specs.Purging.{purging_of};
 ghost use Rattle.entry_outs.specs.Reached.{Reached};
 ghost use Rattle.entry_outs.specs.Sends.{event_sends};
 
-use crate::answers::{Slip, answered};
+use crate::answers::{Asked, Slip, answered};
 use crate::demands::demand_outs;
 use crate::questions::query_outs;
 use cluster_defs::answer::Answer;
@@ -144,38 +144,34 @@ fn leave_outs(
 
 fn purge_outs(
     alloc: Global,
-    slip: Slip,
-    channel: Channel,
+    asked: Asked,
     plan: &PurgePlan,
     message: &SharedMessage,
 ) -> Result<Outs, AllocError>
-    ensures { IfOk result (λ outs. outs ≡ answer_out slip.opens slip.place slip.conn slip.moment (codes "purge_reply") message.now.header (Some (limited channel (purge_answer (purging_of plan.now))))) }
+    ensures { IfOk result (λ outs. outs ≡ answer_out asked.slip.opens asked.slip.place asked.slip.conn asked.slip.moment (codes "purge_reply") message.now.header (Some (limited asked.channel (purge_answer (purging_of plan.now))))) }
 {
-    let answer = purge_answer(alloc, channel, plan)?;
-    answered_as(alloc, slip, "purge_reply", message, answer)
+    let answer = purge_answer(alloc, asked.channel, plan)?;
+    answered_as(alloc, asked.slip, "purge_reply", message, answer)
 }
 
 fn resubmit_outs(
     alloc: Global,
-    slip: Slip,
-    channel: Channel,
+    asked: Asked,
     planned: &Result<Renamed, ResubmitRefusal>,
     message: &SharedMessage,
 ) -> Result<Outs, AllocError>
     requires { planned.now ≢ Err ResubmitRefusal.OutOfMemory }
-    ensures { (what : Resubmitting) → IsResubmit what (RulingType.Resubmit planned.now) → IfOk result (λ outs. outs ≡ answer_out slip.opens slip.place slip.conn slip.moment (codes "resubmit_reply") message.now.header (Some (limited channel (resubmit_answer what)))) }
+    ensures { (what : Resubmitting) → IsResubmit what (RulingType.Resubmit planned.now) → IfOk result (λ outs. outs ≡ answer_out asked.slip.opens asked.slip.place asked.slip.conn asked.slip.moment (codes "resubmit_reply") message.now.header (Some (limited asked.channel (resubmit_answer what)))) }
 {
-    let answer = resubmit_answer(alloc, channel, planned)?;
-    answered_as(alloc, slip, "resubmit_reply", message, answer)
+    let answer = resubmit_answer(alloc, asked.channel, planned)?;
+    answered_as(alloc, asked.slip, "resubmit_reply", message, answer)
 }
 
 /// What a message of a type with a meaning sends, which comes to this: its answer, or the outcome that it asks for again.
 #[tactic(auto, using(cluster_state::proofs::Rulings::purge_there, cluster_state::proofs::Rulings::resubmit_there, cluster_state::proofs::Rulings::purge_is, crate::proofs::Telling::resubmit_had, crate::proofs::Telling::resubmit_kept))]
 pub fn event_outs(
-    alloc: Global,
-    slip: Slip,
+    asked: Asked,
     state: &State,
-    channel: Channel,
     message: &SharedMessage,
     event: &Event,
     msg_type: &Text,
@@ -183,43 +179,29 @@ pub fn event_outs(
 ) -> Result<Outs, AllocError>
     requires reached { Reached (plain state.now) }
     requires kind { msg_type.now ≡ message_type message.now }
-    requires ruled { IsTold (facts_in (plain state.now)) slip.conn message.now event.now ruling.now }
-    ensures { IfOk result (λ outs. outs ≡ event_sends slip (facts_in (plain state.now)) channel message.now event.now) }
+    requires ruled { IsTold (facts_in (plain state.now)) asked.slip.conn message.now event.now ruling.now }
+    ensures { IfOk result (λ outs. outs ≡ event_sends asked.slip (facts_in (plain state.now)) asked.channel message.now event.now) }
 {
+    let alloc = state.allocator();
+    let slip = asked.slip;
     match event {
         Event::Submit(submission) => {
-            demand_outs(
-                alloc,
-                slip,
-                state,
-                false,
-                submission,
-                message,
-                ruling.demand(),
-            )
+            demand_outs(slip, state, false, submission, message, ruling.demand())
         }
         Event::Direct(submission) => {
-            demand_outs(
-                alloc,
-                slip,
-                state,
-                true,
-                submission,
-                message,
-                ruling.demand(),
-            )
+            demand_outs(slip, state, true, submission, message, ruling.demand())
         }
         Event::Join { uuid: _ } => {
             join_outs(alloc, slip, state.next_engine, ruling.join(), message)
         }
         Event::Leave => leave_outs(alloc, slip, ruling.leave(), message),
         Event::Purge { all: _, ids: _ } => {
-            purge_outs(alloc, slip, channel, ruling.purge(), message)
+            purge_outs(alloc, asked, ruling.purge(), message)
         }
         Event::Resubmit { ids: _ } => {
-            resubmit_outs(alloc, slip, channel, ruling.resubmit(), message)
+            resubmit_outs(alloc, asked, ruling.resubmit(), message)
         }
-        Event::Ask(query) => query_outs(alloc, slip, state, channel, query, message, msg_type),
+        Event::Ask(query) => query_outs(asked, state, query, message, msg_type),
         Event::Pong { beat: _ } => Ok(Outs::new(alloc)),
         Event::Reply {
             task: _,

@@ -9,7 +9,7 @@ ghost use Rattle.cluster_state.specs.Stands.{plain};
 ghost use Rattle.entry_outs.specs.Asked.{asked_live};
 ghost use Rattle.entry_outs.specs.Reached.{Reached};
 
-use crate::answers::{Slip, answered};
+use crate::answers::{Asked, answered};
 use crate::demands::submit_refused;
 use crate::rows::Rows;
 use cluster_defs::answer::Answer;
@@ -104,20 +104,19 @@ fn query_answer(
 
 /// What a question in a message of a type sends: its answer.
 pub fn query_outs(
-    alloc: Global,
-    slip: Slip,
+    asked: Asked,
     state: &State,
-    channel: Channel,
     query: &Query,
     message: &SharedMessage,
     msg_type: &Text,
 ) -> Result<Outs, AllocError>
     requires reached { Reached (plain state.now) }
     requires kind { msg_type.now ≡ message_type message.now }
-    ensures { IfOk result (λ outs. outs ≡ answer_out slip.opens slip.place slip.conn slip.moment (query_type channel query.now (message_type message.now)) message.now.header (Some (answer (facts_in (plain state.now)) channel query.now (message_type message.now)))) }
+    ensures { IfOk result (λ outs. outs ≡ answer_out asked.slip.opens asked.slip.place asked.slip.conn asked.slip.moment (query_type asked.channel query.now (message_type message.now)) message.now.header (Some (answer (facts_in (plain state.now)) asked.channel query.now (message_type message.now)))) }
 {
-    let kind = query_type(alloc, channel, query, msg_type)?;
-    let answer = query_answer(alloc, state, channel, query, msg_type)?;
-    let outs = answered(alloc, slip, kind, message.header(), Some(answer))?;
+    let alloc = state.allocator();
+    let kind = query_type(alloc, asked.channel, query, msg_type)?;
+    let answer = query_answer(alloc, state, asked.channel, query, msg_type)?;
+    let outs = answered(alloc, asked.slip, kind, message.header(), Some(answer))?;
     Ok(outs)
 }

@@ -92,6 +92,13 @@ fn hand_in(
     Ok(())
 }
 
+/// How a task is settled, and the outcome that is kept for it.
+#[derive(Drop)]
+struct Settlement {
+    settled: Settled,
+    outcome: Option<SharedMessage>,
+}
+
 /// Settles the task of an id, with the places of all tasks that wait for it: what is due of these may change. Its own place
 /// is touched twice, and so is each of those.
 fn settle_in<L: Ledger>(
@@ -100,14 +107,13 @@ fn settle_in<L: Ledger>(
     id: &Text,
     place: usize,
     waiting: &[usize],
-    settled: Settled,
-    outcome: Option<SharedMessage>,
+    settlement: Settlement,
     steps: &mut Steps<L>,
 ) -> Result<(), AllocError>
     requires marked { Marked table.old marks.old }
     requires place { place_in id.now table.old ≡ Some place }
     requires waiting { Awaited id.now table.old waiting.now }
-    ensures ok { OnOk result (table.new ≡ at_place (settled_with settled outcome) place table.old) }
+    ensures ok { OnOk result (table.new ≡ at_place (settled_with settlement.settled settlement.outcome) place table.old) }
     ensures requests { map asking table.new ≡ map asking table.old }
     ensures marked { Marked table.new marks.new }
     ensures cost { steps.new ≤ steps.old + 2 * (1 + length waiting.now) }
@@ -115,7 +121,7 @@ fn settle_in<L: Ledger>(
     steps.tick();
     mark(marks, place)?;
     wake_all(marks, waiting, steps)?;
-    table.settle_at(place, settled, outcome);
+    table.settle_at(place, settlement.settled, settlement.outcome);
     steps.tick();
     tidy(table, marks, place);
     tidy_waiting_all(table, marks, waiting, steps);
@@ -422,8 +428,7 @@ impl Tasks {
                 id,
                 place,
                 waiting,
-                settled,
-                outcome,
+                Settlement { settled, outcome },
                 steps,
             )?;
             follow(
