@@ -5,11 +5,11 @@ ghost use Rattle.std.specs.Result.{result_ok};
 ghost use Rattle.cluster_defs.specs.Reply.{read_task, read_status};
 ghost use Rattle.client_core.specs.Taking.{type_in, task_in};
 
+use cluster_defs::fault::ReadError;
 use cluster_types::text::Text;
 use json::Scratch;
 use jupyter_header::header::read_header;
 use jupyter_header::reply::read_reply;
-use cluster_defs::fault::ReadError;
 use std::alloc::{AllocError, Global};
 
 /// A parent header that reads, whatever it names.

@@ -4,9 +4,9 @@ ghost use Rattle.std.specs.Prelude.{◌≡◌};
 ghost use Rattle.client_core.specs.Limits.{are_ids, is_dependency, is_within_limits, is_engine};
 ghost use Rattle.cluster_defs.specs.Fields.{is_id};
 
+use cluster_defs::content::SubmitMeta;
 use cluster_types::event::Dep;
 use cluster_types::message::Ids;
-use cluster_defs::content::SubmitMeta;
 
 /// The greatest number of octets of an id.
 const MOST_OCTETS: usize = 255;

@@ -3,10 +3,10 @@
 ghost use Rattle.std.specs.Prelude.{◌≡◌, IfOk, string_bytes};
 ghost use Rattle.client_core.specs.Messages.{flag_text, dependency_text, submit_metadata, execute_content};
 
+use cluster_defs::content::SubmitMeta;
 use cluster_types::event::Dep;
 use jupyter_header::contents::texts_list;
 use jupyter_header::write::quoted;
-use cluster_defs::content::SubmitMeta;
 use std::alloc::{AllocError, Global};
 
 /// The content of a request to run code.

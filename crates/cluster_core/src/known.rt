@@ -168,11 +168,7 @@ impl Known {
     }
 
     /// Takes an entry that may stand next, and gives what it sends.
-    pub fn take_told(
-        &mut self,
-        entry: &Entry,
-        meaning: &Meaning,
-    ) -> Result<TakenEntry, AllocError>
+    pub fn take_told(&mut self, entry: &Entry, meaning: &Meaning) -> Result<TakenEntry, AllocError>
         requires next { IsNext (plain self.old.state) entry.now }
         requires kind { meaning.now.msg_type ≡ told_type meaning.now.event (type_on entry.now) }
         requires time { InTime entry.now }

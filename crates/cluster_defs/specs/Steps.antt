@@ -8,6 +8,7 @@ use Rattle.cluster_types.specs.declared.event.Event.TheVariants.{Reply}
 use Rattle.cluster_types.specs.declared.entry.Input.TheVariants.{Open, Up, Down, In, Beat, Time}
 use Rattle.cluster_types.specs.declared.entry.Entry.{Entry}
 use Rattle.cluster_types.specs.declared.entry.Entry.TheVariants.{Input, Hand, Settle, Lose}
+use Rattle.cluster_types.specs.Chance.{next_word}
 use Rattle.cluster_defs.specs.Inputs.{moment_of, word_of}
 use Rattle.cluster_defs.specs.declared.connection.Connection.{Connection}
 use Rattle.cluster_defs.specs.declared.engine.Engine.{Engine}
@@ -67,10 +68,6 @@ abbrev pub moment_after : Facts → Entry → Option Event → ℕ
 moment_after f (Input (In conn moment word message)) event = if changes f conn message event then moment else f.moment
 moment_after f (Input input) event = moment_of input
 moment_after f _ event = f.moment
-
--- one word after another: Knuth's MMIX generator, modulo 2 ^ 64
-unfoldable pub next_word : ℕ → ℕ
-next_word word = (word * 6364136223846793005 + 1442695040888963407) % 18446744073709551616
 
 -- the word of the first Hand after an input is the input's, each further one the next; after an Open it is 0
 abbrev pub word_after : Facts → Entry → Option Event → ℕ

@@ -7,7 +7,7 @@ use Rattle.cluster_types.specs.declared.entry.Entry.TheVariants.{Input, Hand}
 use Rattle.cluster_defs.specs.Inputs.{moment_of, word_of}
 use Rattle.cluster_defs.specs.Engines.{joined}
 use Rattle.cluster_defs.specs.Facts.{Facts, event_in, is_direct_id}
-use Rattle.cluster_defs.specs.Steps.{next_word}
+use Rattle.cluster_types.specs.Chance.{next_word}
 use Rattle.cluster_defs.specs.Histories.{History, facts}
 
 abbrev pub joins_as : ℕ → Option (List ℕ) → ℕ → Bool

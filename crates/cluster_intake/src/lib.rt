@@ -14,6 +14,10 @@ ghost use Rattle.cluster_defs.specs.Submit.{read_submit};
 pub mod fault;
 pub mod understood;
 
+use cluster_defs::content::{HubContent, SubmitMeta};
+use cluster_defs::fault::{Field, ReadError};
+use cluster_defs::header::Header;
+use cluster_defs::hub_request::RequestType;
 use cluster_types::config::Channel;
 use cluster_types::event::{Event, Query, Reason, Submission};
 use cluster_types::sequence::Sequence;
@@ -26,10 +30,6 @@ use jupyter_header::hub::read_content;
 use jupyter_header::kinds::{is_leave, is_reply, is_request, request_of};
 use jupyter_header::reply::read_reply;
 use jupyter_header::submit::{plain_dependency, read_submit};
-use cluster_defs::content::{HubContent, SubmitMeta};
-use cluster_defs::fault::{Field, ReadError};
-use cluster_defs::header::Header;
-use cluster_defs::hub_request::RequestType;
 use std::alloc::{AllocError, Global};
 use understood::Understood;
 

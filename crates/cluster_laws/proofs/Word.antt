@@ -7,7 +7,8 @@ use Rattle.cluster_types.specs.declared.entry.Entry.{Entry}
 use Rattle.cluster_types.specs.declared.entry.Entry.TheVariants.{Input, Hand, Settle, Lose}
 use Rattle.cluster_defs.specs.Words.{Id}
 use Rattle.cluster_defs.specs.Facts.{event_on}
-use Rattle.cluster_defs.specs.Steps.{changes, next_word}
+use Rattle.cluster_defs.specs.Steps.{changes}
+use Rattle.cluster_types.specs.Chance.{next_word}
 use Rattle.cluster_defs.specs.Scheduling.{due}
 use Rattle.cluster_defs.specs.Histories.{History, facts, Legal}
 use Rattle.cluster_defs.specs.Uses.{newest_word, newest_moment}

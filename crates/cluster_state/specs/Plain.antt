@@ -25,7 +25,8 @@ use Rattle.cluster_defs.specs.Facts.{Facts, is_settled, is_direct_id}
 use Rattle.cluster_types.specs.Limits.{last_moment}
 use Rattle.cluster_defs.specs.Acceptance.{Demand, accepted, request_made}
 use Rattle.cluster_defs.specs.Purges.{Copy, purged_by, copied_by, resubmitted}
-use Rattle.cluster_defs.specs.Steps.{changes, moved, next_word}
+use Rattle.cluster_defs.specs.Steps.{changes, moved}
+use Rattle.cluster_types.specs.Chance.{next_word}
 use Rattle.cluster_defs.specs.Outcomes.{made_outcome}
 use Rattle.cluster_defs.specs.TaskRecords.{record_of}
 use Rattle.task_table.specs.Seen.{Seen, begun as begun_task, handed_to, ended_on, lost_all, replied_with, settled_with, purged_out, seen_in, changed, on_unsettled}

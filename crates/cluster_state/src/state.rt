@@ -4,7 +4,7 @@ ghost use Rattle.std.specs.Prelude.{◌≡◌, ◌==◌, ◌≤◌, ◌+◌, ◌
 ghost use Rattle.cluster_types.specs.Limits.{most_engines};
 ghost use Rattle.cluster_defs.specs.Facts.{nothing_yet};
 ghost use Rattle.cluster_defs.specs.Engines.{engine_on, with_mark, with_engine};
-ghost use Rattle.cluster_defs.specs.Steps.{next_word};
+ghost use Rattle.cluster_types.specs.Chance.{next_word};
 ghost use Rattle.cluster_defs.specs.Connections.{without_connection};
 ghost use Rattle.cluster_state.specs.Plain.{plain_of, opened, input_at, came_up, went_down, engine_ended, beaten, passed, handed_out, settled_out, joined_by, echoed_by};
 ghost use Rattle.cluster_state.specs.Stands.{plain};
@@ -14,6 +14,7 @@ use crate::outcomes::outcome_for;
 use cluster_defs::connection::Connection;
 use cluster_defs::engine::Engine;
 use cluster_defs::settled::Settled;
+use cluster_types::chance::next_word;
 use cluster_types::config::{Channel, Scheme};
 use cluster_types::octets::Octets;
 use cluster_types::text::Text;
@@ -78,15 +79,6 @@ impl Drop for State {
         drop(by_use);
         drop(tasks);
     }
-}
-
-/// The word after a word (Knuth's MMIX generator, modulo 2 ^ 64).
-#[tactic(auto, unfolding(cluster_defs::specs::Steps::next_word))]
-fn next_word(word: u64) -> u64
-    ensures { result ≡ next_word word }
-{
-    word.wrapping_mul(6_364_136_223_846_793_005)
-        .wrapping_add(1_442_695_040_888_963_407)
 }
 
 fn drop_connection(live: &mut Vec<Connection>, conn: u32)

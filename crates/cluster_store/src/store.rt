@@ -23,6 +23,8 @@ ghost use Rattle.cluster_core.specs.Size.{size_since, is_past};
 ghost use Rattle.cluster_store.specs.Stores.{StoreView, Becomes, told, up_to, IsRefused, IsTaken, IsLeft, HasServed, WhyUnserved, IsRefusedFor, answer, is_live, next_to, told_by, fulls_by, written};
 
 use crate::fault::{ServeError, StepError};
+use crate::queues::Queues;
+use crate::taken::Taken;
 use cluster_core::machine::{Core, Made};
 use cluster_core::meaning::Meaning;
 use cluster_core::plan::Plan;
@@ -33,8 +35,6 @@ use cluster_types::event::Event;
 use cluster_types::out::Outs;
 use disk_model::disk::Disk;
 use load_schemes::chooser::Chooser;
-use crate::queues::Queues;
-use crate::taken::Taken;
 use std::alloc::AllocError;
 use std::marker::Model;
 use task_journal::batch::Batch;

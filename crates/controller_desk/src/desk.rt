@@ -19,12 +19,12 @@ use crate::lent::{
 use crate::locked::Locked;
 use crate::reading::Reading;
 use cluster_store::store::Store;
+use cluster_store::taken::Taken;
 use cluster_types::config::Channel;
 use cluster_types::entry::Input;
 use disk_model::disk::Disk;
 use history_lock::lock::{HistoryLock, NoPass, Pass};
 use load_schemes::chooser::Chooser;
-use cluster_store::taken::Taken;
 use std::alloc::{AllocError, Global};
 use std::sync::Wait;
 use task_journal::fault::AppendFault;

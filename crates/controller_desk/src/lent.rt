@@ -21,6 +21,7 @@ use cluster_core::meaning::Meaning;
 use cluster_intake::understood::Understood;
 use cluster_store::fault::StepError;
 use cluster_store::store::Store;
+use cluster_store::taken::Taken;
 use cluster_types::config::Channel;
 use cluster_types::entry::Input;
 use cluster_types::octets::Octets;
@@ -28,7 +29,6 @@ use cluster_types::shared_message::SharedMessage;
 use disk_model::disk::Disk;
 use link_messages::identity::identity_or_number;
 use load_schemes::chooser::Chooser;
-use cluster_store::taken::Taken;
 use std::alloc::{AllocError, Global};
 use task_journal::fault::AppendFault;
 

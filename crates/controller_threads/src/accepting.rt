@@ -1,6 +1,6 @@
 //! The acceptors.
 
-use crate::handed::{Handed, AcceptedLink, failed_port};
+use crate::handed::{AcceptedLink, Handed, failed_port};
 use crate::naming::Naming;
 use crate::port::Port;
 use crate::ports::ended_port;

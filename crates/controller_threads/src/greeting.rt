@@ -1,6 +1,6 @@
 //! The greetings.
 
-use crate::handed::{Handed, AcceptedLink, ShortGreeted};
+use crate::handed::{AcceptedLink, Handed, ShortGreeted};
 use crate::naming::Naming;
 use crate::port::Port;
 use crate::shared::Shared;

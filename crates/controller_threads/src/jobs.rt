@@ -122,7 +122,10 @@ where
     }
 
     /// Starts the workers, each with a pass.
-    fn start_workers<H: Threads + Drop>(&mut self, spawner: &mut Spawner<H>) -> Result<(), ServeStop<P>>
+    fn start_workers<H: Threads + Drop>(
+        &mut self,
+        spawner: &mut Spawner<H>,
+    ) -> Result<(), ServeStop<P>>
         requires { 3 ≤ room_of self.old.pool.pass }
         ensures ok { OnOk result (spawner.new.faults ≡ spawner.old.faults) }
         ensures err { IfErr result (λ stop. StopsAtStart spawner.old.faults spawner.new.faults stop) }

@@ -5,9 +5,8 @@ use Rattle.std.proofs.lemmas.Grind.{flat_map-append}
 use Rattle.cluster_types.specs.declared.entry.Entry.{Entry}
 use Rattle.database_text.specs.Lines.{line, text}
 use Rattle.std.specs.Result.{OnErr}
-use Rattle.edges.specs.Streams.{Added}
+use Rattle.edges.specs.Streams.{Added, AddedFront}
 use Rattle.database_text.specs.Sent.{SentSome}
-use Rattle.database_text.specs.Texts.{WroteFront}
 use Rattle.edges.proofs.Additions.{added_both}
 
 -- of a whole, a part was written, and the rest is still to come
@@ -16,17 +15,17 @@ pub record Sent (whole : List ℕ) (before now : Option (List ℕ)) (rest : List
   pub parts : whole ≡ front ++ rest
   pub added : Added front before now
 
-pub front_take : (whole : List ℕ) (n : ℕ) (u v : Option (List ℕ)) → Added (take n whole) u v → WroteFront whole u v
+pub front_take : (whole : List ℕ) (n : ℕ) (u v : Option (List ℕ)) → Added (take n whole) u v → AddedFront whole u v
 front_take whole n u v p = record { front = take n whole; rest = drop n whole; parts = sym (take-append-drop n whole); added = p }
 
-pub front_none : (whole : List ℕ) (w : Option (List ℕ)) → WroteFront whole w w
+pub front_none : (whole : List ℕ) (w : Option (List ℕ)) → AddedFront whole w w
 front_none whole None = record { front = []; rest = whole; parts = refl; added = refl }
 front_none whole (Some xs) = record { front = []; rest = whole; parts = refl; added = ap Some (sym (append-nil xs)) }
 
-pub front_all : (whole : List ℕ) (u v : Option (List ℕ)) → Added whole u v → WroteFront whole u v
+pub front_all : (whole : List ℕ) (u v : Option (List ℕ)) → Added whole u v → AddedFront whole u v
 front_all whole u v p = record { front = whole; rest = []; parts = sym (append-nil whole); added = p }
 
-pub front_some : (whole : List ℕ) (u v : Option (List ℕ)) → SentSome whole u v → WroteFront whole u v
+pub front_some : (whole : List ℕ) (u v : Option (List ℕ)) → SentSome whole u v → AddedFront whole u v
 front_some whole u v p = record { front = p.1.front; rest = p.0; parts = p.1.parts; added = p.1.added }
 
 -- a piece more, and all of it
@@ -39,7 +38,7 @@ sent_more {u = u} {v = v} s piece more w is p =
     }
 
 -- a piece more, of which a front was written
-pub sent_front : {whole : List ℕ} {u v : Option (List ℕ)} {rest : List ℕ} → Sent whole u v rest → (piece more : List ℕ) (w : Option (List ℕ)) → rest ≡ piece ++ more → WroteFront piece v w → WroteFront whole u w
+pub sent_front : {whole : List ℕ} {u v : Option (List ℕ)} {rest : List ℕ} → Sent whole u v rest → (piece more : List ℕ) (w : Option (List ℕ)) → rest ≡ piece ++ more → AddedFront piece v w → AddedFront whole u w
 sent_front {u = u} {v = v} s piece more w is p =
     record {
       front = s.front ++ p.front;
@@ -57,7 +56,7 @@ sent_none (Some xs) = record { front = []; parts = refl; added = ap Some (sym (a
 pub sent_all : {whole : List ℕ} {u v : Option (List ℕ)} → Sent whole u v [] → Added whole u v
 sent_all {u = u} {v = v} s = subst (λ (xs : List ℕ). Added xs u v) (sym (s.parts ∙ append-nil s.front)) s.added
 
-pub sent_wrote : {whole : List ℕ} {u v : Option (List ℕ)} {rest : List ℕ} → Sent whole u v rest → WroteFront whole u v
+pub sent_wrote : {whole : List ℕ} {u v : Option (List ℕ)} {rest : List ℕ} → Sent whole u v rest → AddedFront whole u v
 sent_wrote {rest = rest} s = record { front = s.front; rest = rest; parts = s.parts; added = s.added }
 
 -- the line of one entry more is still to come
@@ -70,5 +69,5 @@ sent_line list u v lines s entry more is = record {
 }
 
 -- a front of a part is one of the whole
-pub front_on : {part : List ℕ} {u v : Option (List ℕ)} → WroteFront part u v → (more : List ℕ) → WroteFront (part ++ more) u v
+pub front_on : {part : List ℕ} {u v : Option (List ℕ)} → AddedFront part u v → (more : List ℕ) → AddedFront (part ++ more) u v
 front_on p more = record { front = p.front; rest = p.rest ++ more; parts = ap (λ (xs : List ℕ). xs ++ more) p.parts ∙ append_assoc p.front p.rest more; added = p.added }

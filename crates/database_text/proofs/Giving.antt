@@ -12,10 +12,9 @@ use Rattle.task_journal.specs.Journal.{StandsFor, Fails, behind, with_front, one
 use Rattle.task_journal.specs.Cursor.{Standing, IsOn, Advances, to_come}
 use Rattle.task_journal.proofs.Loops.{regroup, none_before, fails_along}
 use Rattle.task_journal.proofs.Finding.{bind_fails}
-use Rattle.database_text.specs.Texts.{WroteFront}
+use Rattle.edges.specs.Streams.{AddedFront, Added}
 use Rattle.database_text.specs.Given.{Gave, HasEnded, OfText}
 use Rattle.database_text.proofs.Standing.{found_is}
-use Rattle.edges.specs.Streams.{Added}
 use Rattle.database_text.proofs.Fronts.{Sent, front_on, sent_none, sent_all, sent_more, sent_front, sent_line, sent_wrote}
 use Rattle.cluster_store.proofs.Opens.{same_stands}
 
@@ -73,11 +72,11 @@ of_whole {content = content} {list = list} g ended P is =
     ((list, is), λ told whole stands. subst (λ (xs : List Entry). P (text xs)) (same_stands content list whole (gave_all g ended told) stands) is)
 
 -- a front of the lines that came is one of all lines
-pub front_part : {tells : Type 0} {content : List ℕ} {at : Standing} {list : List Entry} → Gave tells content (journal content) at list → (u v : Option (List ℕ)) → WroteFront (text list) u v → tells → (whole : List Entry) → StandsFor content whole
-    → WroteFront (text whole) u v
+pub front_part : {tells : Type 0} {content : List ℕ} {at : Standing} {list : List Entry} → Gave tells content (journal content) at list → (u v : Option (List ℕ)) → AddedFront (text list) u v → tells → (whole : List Entry) → StandsFor content whole
+    → AddedFront (text whole) u v
 front_part {list = list} g u v p told whole stands =
     let part = gave_part g told whole stands in
-    subst (λ (xs : List ℕ). WroteFront xs u v) (sym (ap text part.1 ∙ flat_map-append line list part.0)) (front_on p (text part.0))
+    subst (λ (xs : List ℕ). AddedFront xs u v) (sym (ap text part.1 ∙ flat_map-append line list part.0)) (front_on p (text part.0))
 
 -- of the text of the entries that came, a part was written, and these lines are still to be written
 pub record Halfway (tells : Type 0) (content : List ℕ) (at : Standing) (before now : Option (List ℕ)) (lines : List ℕ) : Type 0 where
@@ -107,12 +106,12 @@ pub halfway_put : {tells : Type 0} {content : List ℕ} {at : Standing} {u v : O
 halfway_put h front more w is p = record { list = h.list; gave = h.gave; sent = sent_more h.sent front more w is p }
 
 -- what was written is a front of the whole text
-pub halfway_front : {tells : Type 0} {content : List ℕ} {at : Standing} {u v : Option (List ℕ)} {lines : List ℕ} → Halfway tells content at u v lines → tells → (whole : List Entry) → StandsFor content whole → WroteFront (text whole) u v
+pub halfway_front : {tells : Type 0} {content : List ℕ} {at : Standing} {u v : Option (List ℕ)} {lines : List ℕ} → Halfway tells content at u v lines → tells → (whole : List Entry) → StandsFor content whole → AddedFront (text whole) u v
 halfway_front {u = u} {v = v} h told whole stands = front_part h.gave u v (sent_wrote h.sent) told whole stands
 
 -- and so it is with a front of the lines behind it
-pub halfway_broken : {tells : Type 0} {content : List ℕ} {at : Standing} {u v : Option (List ℕ)} {lines : List ℕ} → Halfway tells content at u v lines → (w : Option (List ℕ)) → WroteFront lines v w → tells → (whole : List Entry) → StandsFor content whole
-    → WroteFront (text whole) u w
+pub halfway_broken : {tells : Type 0} {content : List ℕ} {at : Standing} {u v : Option (List ℕ)} {lines : List ℕ} → Halfway tells content at u v lines → (w : Option (List ℕ)) → AddedFront lines v w → tells → (whole : List Entry) → StandsFor content whole
+    → AddedFront (text whole) u w
 halfway_broken {u = u} {lines = lines} h w p told whole stands = front_part h.gave u w (sent_front h.sent lines [] w (sym (append-nil lines)) p) told whole stands
 
 -- all lines were written

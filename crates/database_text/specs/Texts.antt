@@ -17,13 +17,6 @@ IsDamaged octets place = (journal octets ≡ Err (NotAJournal place)) ⊎ (journ
 abbrev pub IsRefusal : Ending → Type 0
 IsRefusal ending = ((place : ℕ) × (ending ≡ endings.Damaged place)) ⊎ (ending ≡ endings.DiskFault) ⊎ (ending ≡ endings.OutOfMemory)
 
--- a front of these octets was written
-pub record WroteFront (octets : List ℕ) (before now : Option (List ℕ)) : Type 0 where
-  pub front : List ℕ
-  pub rest : List ℕ
-  pub parts : octets ≡ front ++ rest
-  pub added : Added front before now
-
 -- a fact of what a source had left, where it tells
 abbrev pub Told : Option (List ℕ) → (List ℕ → Type 0) → Type 0
 Told left P = (octets : List ℕ) → left ≡ Some octets → P octets

@@ -10,7 +10,7 @@ ghost use Rattle.task_journal.specs.Journal.{StandsFor, Fails, journal};
 ghost use Rattle.task_journal.specs.Reads.{OnlyReads};
 ghost use Rattle.database_text.specs.Texts.{IsDamaged, IsRefusal, Told, DiffersAt, DiffersFrom};
 ghost use Rattle.database_text.specs.Given.{Gave, HasEnded, OfText};
-ghost use Rattle.database_text.specs.Compared.{IsAhead, turns};
+ghost use Rattle.database_text.specs.Compared.{HasPrinted, IsAhead, turns};
 
 use crate::comparison::Comparison;
 use crate::database::{add_line, ending_at, whole_on};
@@ -63,7 +63,7 @@ fn print<D: Disk>(
 ) -> Result<Printed, OpenFault>
     requires on { D.tells → IsOn cursor.old (D.content disk.old) }
     requires some { 0 < wanted }
-    ensures printed { IfOk result (λ p. (list : List EntryType) × Gave D.tells (D.content disk.old) (to_come cursor.old (D.content disk.old)) cursor.new list × (comparison.new ≡ record comparison.old { printed = comparison.old.printed ++ text list }) × (length (text list) + p.missing ≡ wanted + p.ahead)) }
+    ensures printed { IfOk result (λ p. (list : List EntryType) × Gave D.tells (D.content disk.old) (to_come cursor.old (D.content disk.old)) cursor.new list × HasPrinted comparison.old comparison.new list × (length (text list) + p.missing ≡ wanted + p.ahead)) }
     ensures all { IfOk result (λ p. (p.missing ≡ 0) ⊎ ((p.ahead ≡ 0) × (D.tells → HasEnded (D.content disk.old) cursor.new))) }
     ensures falls { IfOk result (λ p. p.missing ≡ 0 → bound cursor.new < bound cursor.old) }
     ensures small { IfOk result (λ p. p.ahead < 2 ^ 64) }

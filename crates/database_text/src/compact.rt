@@ -5,11 +5,11 @@ ghost use Rattle.cluster_types.specs.Causes.{Rose};
 ghost use Rattle.cluster_types.specs.declared.entry.Entry.{Entry as EntryType};
 ghost use Rattle.cluster_store.specs.Openings.{IsFit};
 ghost use Rattle.database_text.specs.Compact.{compacted};
-ghost use Rattle.edges.specs.Streams.{Added};
+ghost use Rattle.edges.specs.Streams.{Added, AddedFront};
 ghost use Rattle.record_codec.specs.Spelling.{HasRecord};
 ghost use Rattle.task_journal.specs.Journal.{StandsFor};
 ghost use Rattle.task_journal.specs.Reads.{OnlyReads};
-ghost use Rattle.database_text.specs.Texts.{IsRefusal, WroteFront};
+ghost use Rattle.database_text.specs.Texts.{IsRefusal};
 ghost use Rattle.database_text.specs.Compacted.{thin_list, compact_octets, HoldsNoFit, IsUnfitAt, IsCompacted};
 
 use crate::database::list_on;
@@ -38,7 +38,7 @@ fn write<K: Sink>(alloc: Global, entries: &[Entry], output: &mut K) -> Ending
     requires { All HasRecord entries.now }
     ensures done { result ≡ Ending.Done → Added (compacted entries.now) (K.written output.old) (K.written output.new) }
     ensures stands { result ≡ Ending.Done → StandsFor (compacted entries.now) entries.now }
-    ensures front { WroteFront (compacted entries.now) (K.written output.old) (K.written output.new) }
+    ensures front { AddedFront (compacted entries.now) (K.written output.old) (K.written output.new) }
     ensures write_fault { result ≡ Ending.WriteFault → Rose (K.faults output.old) (K.faults output.new) }
     ensures endings { (result ≡ Ending.Done) ⊎ (result ≡ Ending.WriteFault) ⊎ (result ≡ Ending.OutOfMemory) }
 {
@@ -57,7 +57,7 @@ fn write_thin<K: Sink>(alloc: Global, entries: &Entries, output: &mut K) -> Endi
     requires has { All HasRecord entries.now }
     ensures done { result ≡ Ending.Done → Added (compact_octets entries.now) (K.written output.old) (K.written output.new) }
     ensures stands { result ≡ Ending.Done → StandsFor (compact_octets entries.now) (thin_list entries.now) }
-    ensures front { WroteFront (compact_octets entries.now) (K.written output.old) (K.written output.new) }
+    ensures front { AddedFront (compact_octets entries.now) (K.written output.old) (K.written output.new) }
     ensures write_fault { result ≡ Ending.WriteFault → Rose (K.faults output.old) (K.faults output.new) }
     ensures endings { (result ≡ Ending.Done) ⊎ (result ≡ Ending.WriteFault) ⊎ (result ≡ Ending.OutOfMemory) }
 {
@@ -81,7 +81,7 @@ pub fn compact<D: Disk, K: Sink>(
     // At Done the whole journal was written, and it stands for the list without what purges let go. At any other end a
     // front of it was written.
     ensures done { result ≡ Ending.Done → IsCompacted D.tells (D.content disk.old) (K.written output.old) (K.written output.new) }
-    ensures front { D.tells → (list : List EntryType) → StandsFor (D.content disk.old) list → WroteFront (compact_octets list) (K.written output.old) (K.written output.new) }
+    ensures front { D.tells → (list : List EntryType) → StandsFor (D.content disk.old) list → AddedFront (compact_octets list) (K.written output.old) (K.written output.new) }
 
     // A disk that is refused is so at that place, unless a call of it failed or memory ran out. Nothing was written.
     ensures damaged { D.tells → (place : ℕ) → result ≡ Ending.Damaged place → IsUnfitAt (D.content disk.old) place }

@@ -3,12 +3,12 @@
 ghost use Rattle.std.specs.Prelude.{◌≡◌, ◌≤◌, ◌⊎◌, ◌++◌, ℕ, List, Err, OnOk, OnErr};
 ghost use Rattle.cluster_types.specs.Causes.{Rose};
 ghost use Rattle.cluster_types.specs.declared.entry.Entry.{Entry as EntryType};
-ghost use Rattle.edges.specs.Streams.{Added};
+ghost use Rattle.edges.specs.Streams.{Added, AddedFront};
 ghost use Rattle.database_text.specs.Lines.{line, text};
 ghost use Rattle.task_journal.specs.declared.fault.OpenFault.{OpenFault as FaultType};
 ghost use Rattle.task_journal.specs.Journal.{StandsFor, Fails, journal};
 ghost use Rattle.task_journal.specs.Reads.{OnlyReads};
-ghost use Rattle.database_text.specs.Texts.{IsDamaged, IsRefusal, WroteFront};
+ghost use Rattle.database_text.specs.Texts.{IsDamaged, IsRefusal};
 
 use crate::database::{add_line, ending_at, whole_on};
 use command_words::ending::Ending;
@@ -66,7 +66,7 @@ impl From<WriteFailed> for PrintError {
 /// Writes all of these octets, or a front of them.
 fn put<K: Sink>(output: &mut K, octets: &[u8]) -> Result<(), WriteFailed>
     ensures ok { OnOk result (Added octets.now (K.written output.old) (K.written output.new)) }
-    ensures err { OnErr result (WroteFront octets.now (K.written output.old) (K.written output.new)) }
+    ensures err { OnErr result (AddedFront octets.now (K.written output.old) (K.written output.new)) }
     ensures cause { OnErr result (Rose (K.faults output.old) (K.faults output.new)) }
     ensures later { K.faults output.old ≤ K.faults output.new }
 {
@@ -76,7 +76,7 @@ fn put<K: Sink>(output: &mut K, octets: &[u8]) -> Result<(), WriteFailed>
 /// Writes lines and takes them out, once they have enough octets.
 fn put_full<K: Sink>(output: &mut K, pending: &mut Vec<u8>) -> Result<(), WriteFailed>
     ensures ok { OnOk result ((front : List ℕ) × (pending.old.items ≡ front ++ pending.new.items) × Added front (K.written output.old) (K.written output.new)) }
-    ensures err { OnErr result (WroteFront pending.old.items (K.written output.old) (K.written output.new)) }
+    ensures err { OnErr result (AddedFront pending.old.items (K.written output.old) (K.written output.new)) }
     ensures cause { OnErr result (Rose (K.faults output.old) (K.faults output.new)) }
     ensures later { K.faults output.old ≤ K.faults output.new }
 {
@@ -95,7 +95,7 @@ fn put_entry<K: Sink>(
     placed: Placed,
 ) -> Result<(), PrintError>
     ensures ok { OnOk result ((front : List ℕ) × (pending.old.items ++ line placed.entry ≡ front ++ pending.new.items) × Added front (K.written output.old) (K.written output.new)) }
-    ensures err { OnErr result (WroteFront (pending.old.items ++ line placed.entry) (K.written output.old) (K.written output.new)) }
+    ensures err { OnErr result (AddedFront (pending.old.items ++ line placed.entry) (K.written output.old) (K.written output.new)) }
     ensures fault { (fault : FaultType) → result ≡ Err (PrintError.Unread fault) → fault ≡ OpenFault.OutOfMemory }
     ensures cause { result ≡ Err PrintError.WriteFailed → Rose (K.faults output.old) (K.faults output.new) }
     ensures later { K.faults output.old ≤ K.faults output.new }
@@ -113,7 +113,7 @@ fn put_lines<D: Disk, K: Sink>(
     output: &mut K,
 ) -> Result<(), PrintError>
     ensures ok { OnOk result ((list : List EntryType) × (D.tells → StandsFor (D.content disk.old) list) × Added (text list) (K.written output.old) (K.written output.new)) }
-    ensures front { D.tells → (list : List EntryType) → StandsFor (D.content disk.old) list → WroteFront (text list) (K.written output.old) (K.written output.new) }
+    ensures front { D.tells → (list : List EntryType) → StandsFor (D.content disk.old) list → AddedFront (text list) (K.written output.old) (K.written output.new) }
     ensures fault { D.tells → (fault : FaultType) → result ≡ Err (PrintError.Unread fault) → Fails fault (journal (D.content disk.old)) }
     ensures disk_cause { result ≡ Err (PrintError.Unread OpenFault.DiskFault) → Rose (D.faults disk.old) (D.faults disk.new) }
     ensures write_cause { result ≡ Err PrintError.WriteFailed → Rose (K.faults output.old) (K.faults output.new) }
@@ -131,7 +131,7 @@ fn put_lines<D: Disk, K: Sink>(
 /// Writes the lines of the entries of a disk, and says how that ended.
 fn print<D: Disk, K: Sink>(alloc: Global, disk: &mut D, output: &mut K) -> Ending
     ensures done { result ≡ Ending.Done → (list : List EntryType) × (D.tells → StandsFor (D.content disk.old) list) × Added (text list) (K.written output.old) (K.written output.new) }
-    ensures front { D.tells → (list : List EntryType) → StandsFor (D.content disk.old) list → WroteFront (text list) (K.written output.old) (K.written output.new) }
+    ensures front { D.tells → (list : List EntryType) → StandsFor (D.content disk.old) list → AddedFront (text list) (K.written output.old) (K.written output.new) }
     ensures damaged { D.tells → (place : ℕ) → result ≡ Ending.Damaged place → IsDamaged (D.content disk.old) place }
     ensures disk_fault { result ≡ Ending.DiskFault → Rose (D.faults disk.old) (D.faults disk.new) }
     ensures write_fault { result ≡ Ending.WriteFault → Rose (K.faults output.old) (K.faults output.new) }
@@ -157,7 +157,7 @@ fn print<D: Disk, K: Sink>(alloc: Global, disk: &mut D, output: &mut K) -> Endin
 pub fn dump<D: Disk, K: Sink>(alloc: Global, disk: &mut D, output: &mut K) -> Ending
     // At Done all of the text was written, and at any other end a front of it.
     ensures done { result ≡ Ending.Done → (list : List EntryType) × (D.tells → StandsFor (D.content disk.old) list) × Added (text list) (K.written output.old) (K.written output.new) }
-    ensures front { D.tells → (list : List EntryType) → StandsFor (D.content disk.old) list → WroteFront (text list) (K.written output.old) (K.written output.new) }
+    ensures front { D.tells → (list : List EntryType) → StandsFor (D.content disk.old) list → AddedFront (text list) (K.written output.old) (K.written output.new) }
 
     // A disk that is refused is damaged at that place, unless a call of it failed or memory ran out. Nothing was written.
     ensures damaged { D.tells → (place : ℕ) → result ≡ Ending.Damaged place → IsDamaged (D.content disk.old) place }

@@ -9,8 +9,8 @@ use cluster_types::config::{Channel, Scheme};
 use cluster_types::entry::{Entry, Input};
 use cluster_types::octets::Octets;
 use cluster_types::shared_message::SharedMessage;
-use itoa::Buffer;
 use edges::writing::put_both;
+use itoa::Buffer;
 use std::alloc::AllocError;
 
 /// The name of a channel.

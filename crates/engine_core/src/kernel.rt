@@ -14,9 +14,9 @@ use crate::kinds::{RequestKind, kind_of};
 use crate::reading::read_execute;
 use crate::request::ExecuteRequest;
 use arith_eval::namespace::Namespace;
+use cluster_defs::fault::{Field, ReadError};
 use cluster_types::octets::Octets;
 use cluster_types::text::Text;
-use cluster_defs::fault::{Field, ReadError};
 use std::alloc::{AllocError, Global};
 
 /// The names that requests share, and how many requests were counted.
@@ -74,7 +74,12 @@ impl Kernel {
         match kind_of(msg_type.as_str()) {
             RequestKind::Execute => self.execute(alloc, content),
             RequestKind::Beat => Octets::new(alloc, content),
-            RequestKind::Other => failed_content(alloc, self.count, "NotSupported", msg_type.as_str()),
+            RequestKind::Other => failed_content(
+                alloc,
+                self.count,
+                "NotSupported",
+                msg_type.as_str(),
+            ),
         }
     }
 

@@ -4,12 +4,12 @@ ghost use Rattle.std.specs.Prelude.{◌≡◌, Ok, IfOk};
 ghost use Rattle.cluster_defs.specs.Header.{read_header};
 ghost use Rattle.engine_core.specs.Answer.{kind_of, request_in};
 
+use cluster_defs::fault::ReadError;
+use cluster_defs::header::Header;
 use cluster_types::text::Text;
 use json::Scratch;
 use jupyter_header::header::read_header;
 use jupyter_header::kinds::is_request;
-use cluster_defs::fault::ReadError;
-use cluster_defs::header::Header;
 use std::alloc::{AllocError, Global};
 
 /// What a request asks an engine for, by its type.

@@ -8,9 +8,9 @@ ghost use Rattle.cluster_defs.specs.Fields.{flag_from};
 ghost use Rattle.engine_core.specs.Request.{code_from, expression_in, expressions_of, expressions_in, expressions_from, read_execute};
 
 use crate::request::{ExecuteRequest, Expression};
+use cluster_defs::fault::ReadError;
 use cluster_types::sequence::Sequence;
 use cluster_types::text::Text;
-use cluster_defs::fault::ReadError;
 use serde_json::{Map, Value};
 use std::alloc::{AllocError, Global};
 use std::str;

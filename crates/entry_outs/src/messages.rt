@@ -12,7 +12,7 @@ ghost use Rattle.cluster_state.specs.declared.ruling.Ruling.{Ruling as RulingTyp
 ghost use Rattle.cluster_state.specs.Ruled.{IsResubmit, IsTold};
 ghost use Rattle.resubmission.specs.Purging.{purging_of};
 ghost use Rattle.entry_outs.specs.Reached.{Reached};
-ghost use Rattle.entry_outs.specs.Sends.{event_sends};
+ghost use Rattle.entry_outs.specs.Sends.{event_sends, slip_out};
 
 use crate::answers::{Asked, Slip, answered};
 use crate::demands::demand_outs;
@@ -148,7 +148,7 @@ fn purge_outs(
     plan: &PurgePlan,
     message: &SharedMessage,
 ) -> Result<Outs, AllocError>
-    ensures { IfOk result (λ outs. outs ≡ answer_out asked.slip.opens asked.slip.place asked.slip.conn asked.slip.moment (codes "purge_reply") message.now.header (Some (limited asked.channel (purge_answer (purging_of plan.now))))) }
+    ensures { IfOk result (λ outs. outs ≡ slip_out asked.slip (codes "purge_reply") message.now.header (Some (limited asked.channel (purge_answer (purging_of plan.now))))) }
 {
     let answer = purge_answer(alloc, asked.channel, plan)?;
     answered_as(alloc, asked.slip, "purge_reply", message, answer)
@@ -161,7 +161,7 @@ fn resubmit_outs(
     message: &SharedMessage,
 ) -> Result<Outs, AllocError>
     requires { planned.now ≢ Err ResubmitRefusal.OutOfMemory }
-    ensures { (what : Resubmitting) → IsResubmit what (RulingType.Resubmit planned.now) → IfOk result (λ outs. outs ≡ answer_out asked.slip.opens asked.slip.place asked.slip.conn asked.slip.moment (codes "resubmit_reply") message.now.header (Some (limited asked.channel (resubmit_answer what)))) }
+    ensures { (what : Resubmitting) → IsResubmit what (RulingType.Resubmit planned.now) → IfOk result (λ outs. outs ≡ slip_out asked.slip (codes "resubmit_reply") message.now.header (Some (limited asked.channel (resubmit_answer what)))) }
 {
     let answer = resubmit_answer(alloc, asked.channel, planned)?;
     answered_as(alloc, asked.slip, "resubmit_reply", message, answer)
@@ -195,12 +195,8 @@ pub fn event_outs(
             join_outs(alloc, slip, state.next_engine, ruling.join(), message)
         }
         Event::Leave => leave_outs(alloc, slip, ruling.leave(), message),
-        Event::Purge { all: _, ids: _ } => {
-            purge_outs(alloc, asked, ruling.purge(), message)
-        }
-        Event::Resubmit { ids: _ } => {
-            resubmit_outs(alloc, asked, ruling.resubmit(), message)
-        }
+        Event::Purge { all: _, ids: _ } => { purge_outs(alloc, asked, ruling.purge(), message) }
+        Event::Resubmit { ids: _ } => { resubmit_outs(alloc, asked, ruling.resubmit(), message) }
         Event::Ask(query) => query_outs(asked, state, query, message, msg_type),
         Event::Pong { beat: _ } => Ok(Outs::new(alloc)),
         Event::Reply {

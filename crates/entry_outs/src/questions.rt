@@ -3,9 +3,9 @@
 ghost use Rattle.std.specs.Prelude.{◌≡◌, map, IfOk, Some};
 ghost use Rattle.cluster_defs.specs.Header.{message_type};
 ghost use Rattle.cluster_defs.specs.Queries.{bad_type, query_type, answer};
-ghost use Rattle.cluster_defs.specs.Outs.{answer_out};
 ghost use Rattle.cluster_state.specs.Plain.{facts_in};
 ghost use Rattle.cluster_state.specs.Stands.{plain};
+ghost use Rattle.entry_outs.specs.Sends.{slip_out};
 ghost use Rattle.entry_outs.specs.Asked.{asked_live};
 ghost use Rattle.entry_outs.specs.Reached.{Reached};
 
@@ -112,7 +112,7 @@ pub fn query_outs(
 ) -> Result<Outs, AllocError>
     requires reached { Reached (plain state.now) }
     requires kind { msg_type.now ≡ message_type message.now }
-    ensures { IfOk result (λ outs. outs ≡ answer_out asked.slip.opens asked.slip.place asked.slip.conn asked.slip.moment (query_type asked.channel query.now (message_type message.now)) message.now.header (Some (answer (facts_in (plain state.now)) asked.channel query.now (message_type message.now)))) }
+    ensures { IfOk result (λ outs. outs ≡ slip_out asked.slip (query_type asked.channel query.now (message_type message.now)) message.now.header (Some (answer (facts_in (plain state.now)) asked.channel query.now (message_type message.now)))) }
 {
     let alloc = state.allocator();
     let kind = query_type(alloc, asked.channel, query, msg_type)?;

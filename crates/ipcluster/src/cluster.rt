@@ -1,10 +1,6 @@
 //! The ports, threads, clock and random words of a cluster, over the system.
 
-ghost use Rattle.std.specs.Prelude.{◌≡◌, ◌<◌, length};
-ghost use Rattle.cluster_defs.specs.Scheduling.{pick};
-
 use crate::database::open_for_changes;
-use cluster_types::config::Scheme;
 use cluster_types::message::WordList;
 use command_words::ending::{Ending, StandingEnding};
 use command_words::standing::StandingCommand;
@@ -14,8 +10,10 @@ use disk_model::file::FileDisk;
 use disk_model::memory::MemDisk;
 use edges::sink::Sink;
 use edges::standard::StdSink;
+use link_commands::host::Host;
 use load_schemes::chooser::Chooser;
-use load_schemes::place::place_of;
+use session_threads::context::TypesOf;
+use standing_commands::site::Site;
 use standing_commands::standing::standing;
 use std::alloc::AllocError;
 use std::net::TcpListener;
@@ -61,6 +59,25 @@ fn still_ports(rt: &HostRuntime) -> Result<Ports<MemListener>, AllocError> {
     })
 }
 
+/// The types of what a command stands on, over a disk.
+type SystemTypes<D, H> = TypesOf<
+    D,
+    SystemClock<HostRuntime>,
+    OsWords<HostRuntime>,
+    EventGate<HostRuntime>,
+    H,
+>;
+
+/// What a command is run with: the system, what starts threads and waits, its chooser, and the host and the first port of a
+/// controller.
+struct Start<'a, H> {
+    rt: HostRuntime,
+    handle: H,
+    chooser: Chooser,
+    host: &'a str,
+    port: u16,
+}
+
 /// Does what the words ask for, with a thread for each job, over ports and a disk.
 fn stand<
     H: Threads + Wait + Drop + Copy + Send + Sync + 'static,
@@ -68,50 +85,52 @@ fn stand<
     D: Disk + Drop + Send + Sync + 'static,
     E: Sink,
 >(
-    (rt, handle): (HostRuntime, H),
+    start: Start<H>,
     words: &WordList,
-    (host, port): (&str, u16),
     ports: Ports<L>,
     disk: D,
     errors: &mut E,
 ) -> Result<u8, AllocError> {
+    let Start {
+        rt,
+        handle,
+        chooser,
+        host,
+        port,
+    } = start;
     let alloc = rt.alloc();
-    let Ok(choose) = Box::new(
-        alloc,
-        |scheme: Scheme, loads: &[u32], word: u64| -> usize
-            requires { 0 < length loads.now }
-            ensures { result ≡ pick scheme loads.now word }
-        { place_of(scheme, loads, word) },
-    ) else {
-        return Err(AllocError);
-    };
     let Ok(gate) = Arc::new(alloc, EventGate::new(alloc, rt)?) else {
         return Err(AllocError);
     };
-    let (status, _shown) = standing(
-        handle,
-        alloc,
-        words,
+    let site = Site::<L, SystemTypes<D, H>> {
         ports,
-        &mut TcpDial::new(rt, String::from_str(alloc, host)?, port),
         disk,
-        SystemClock::new(rt),
-        OsWords::new(rt),
-        &mut Spawner::beside(alloc, handle)?,
         gate,
+        chooser,
+        host: Host {
+            rt: handle,
+            alloc,
+            clock: SystemClock::new(rt),
+            words: OsWords::new(rt),
+        },
+    };
+    let (status, _shown) = standing(
+        site,
+        words,
+        &mut TcpDial::new(rt, String::from_str(alloc, host)?, port),
+        &mut Spawner::beside(alloc, handle)?,
         &mut StdSink::new(rt.stdout()),
         errors,
-        Chooser::new(choose),
     );
     Ok(status)
 }
 
 /// Does what a command asks for that is about a cluster at its ports.
 pub fn run_cluster<H: Threads + Wait + Drop + Copy + Send + Sync + 'static, E: Sink>(
-    rt: HostRuntime,
-    handle: H,
+    (rt, handle): (HostRuntime, H),
     words: &WordList,
     command: &StandingCommand,
+    chooser: Chooser,
     errors: &mut E,
 ) -> Result<u8, StandingEnding> {
     let status = match command {
@@ -125,15 +144,27 @@ pub fn run_cluster<H: Threads + Wait + Drop + Copy + Send + Sync + 'static, E: S
                 return Err(StandingEnding::Plain(Ending::DiskFault));
             };
             let ports = open_ports(&rt, host.as_str(), *port)?;
-            let at = (host.as_str(), *port);
-            stand((rt, handle), words, at, ports, FileDisk::new(file), errors)
+            let start = Start {
+                rt,
+                handle,
+                chooser,
+                host: host.as_str(),
+                port: *port,
+            };
+            stand(start, words, ports, FileDisk::new(file), errors)
         }
         StandingCommand::Engine { host, port, .. } | StandingCommand::Client { host, port, .. } => {
             let (Ok(ports), Ok(disk)) = (still_ports(&rt), MemDisk::new(rt.alloc(), b"")) else {
                 return Err(StandingEnding::Plain(Ending::OutOfMemory));
             };
-            let at = (host.as_str(), *port);
-            stand((rt, handle), words, at, ports, disk, errors)
+            let start = Start {
+                rt,
+                handle,
+                chooser,
+                host: host.as_str(),
+                port: *port,
+            };
+            stand(start, words, ports, disk, errors)
         }
     };
     match status {

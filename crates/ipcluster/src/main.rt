@@ -83,18 +83,10 @@ fn ending_unread(error: CommandError) -> Ending {
 fn run_over<E: Sink, D: Disk + Drop>(
     rt: &HostRuntime,
     words: &WordList,
-    errors: &mut E,
     disk: D,
-) -> Result<u8, Ending> {
-    let Ok(choose) = Box::new(
-        rt.alloc(),
-        |scheme: Scheme, loads: &[u32], word: u64| -> usize
-            requires { 0 < length loads.now }
-            ensures { result ≡ pick scheme loads.now word }
-        { place_of(scheme, loads, word) },
-    ) else {
-        return Err(Ending::OutOfMemory);
-    };
+    chooser: Chooser,
+    errors: &mut E,
+) -> u8 {
     let mut input = StdSource::new(rt.stdin());
     let mut output = StdSink::new(rt.stdout());
     let (status, _disk) = quick(
@@ -104,9 +96,9 @@ fn run_over<E: Sink, D: Disk + Drop>(
         &mut output,
         errors,
         disk,
-        Chooser::new(choose),
+        chooser,
     );
-    Ok(status)
+    status
 }
 
 /// Does what a command asks for that ends by itself, over the database that it names, or over a disk in memory where it
@@ -115,12 +107,13 @@ fn run_quick<E: Sink>(
     rt: &HostRuntime,
     words: &WordList,
     command: &Command,
+    chooser: Chooser,
     errors: &mut E,
 ) -> Result<u8, Ending> {
     match open_database(rt, command) {
-        Ok(Some(file)) => run_over(rt, words, errors, FileDisk::new(file)),
+        Ok(Some(file)) => Ok(run_over(rt, words, FileDisk::new(file), chooser, errors)),
         Ok(None) => match MemDisk::new(rt.alloc(), b"") {
-            Ok(disk) => run_over(rt, words, errors, disk),
+            Ok(disk) => Ok(run_over(rt, words, disk, chooser, errors)),
             Err(_) => Err(Ending::OutOfMemory),
         },
         Err(_) => Err(Ending::DiskFault),
@@ -137,10 +130,20 @@ fn run<H: Threads + Wait + Drop + Copy + Send + Sync + 'static, E: Sink>(
         Ok(words) => words,
         Err(error) => return Err(StandingEnding::Plain(ending_of(&error))),
     };
+    let Ok(choose) = Box::new(
+        rt.alloc(),
+        |scheme: Scheme, loads: &[u32], word: u64| -> usize
+            requires { 0 < length loads.now }
+            ensures { result ≡ pick scheme loads.now word }
+        { place_of(scheme, loads, word) },
+    ) else {
+        return Err(StandingEnding::Plain(Ending::OutOfMemory));
+    };
+    let chooser = Chooser::new(choose);
     let status = match command_of(rt.alloc(), &words) {
-        Ok(command) => run_quick(&rt, &words, &command, errors),
+        Ok(command) => run_quick(&rt, &words, &command, chooser, errors),
         Err(CommandError::Usage) => match standing_command_of(rt.alloc(), &words) {
-            Ok(command) => return run_cluster(rt, handle, &words, &command, errors),
+            Ok(command) => return run_cluster((rt, handle), &words, &command, chooser, errors),
             Err(error) => Err(ending_unread(error)),
         },
         Err(error) => Err(ending_unread(error)),

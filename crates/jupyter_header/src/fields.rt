@@ -6,9 +6,9 @@ ghost use Rattle.jupyter_header.specs.Borrowed.{view};
 ghost use Rattle.cluster_defs.specs.Fields.{is_id, id_in, id_from, text_from, flag_from, whole_from};
 
 use crate::values::{flag, get, is_null, text, whole};
+use cluster_defs::fault::ReadError;
 use cluster_types::text::Text;
 use json::Value;
-use cluster_defs::fault::ReadError;
 use std::alloc::{AllocError, Global};
 
 /// The id that a value is.

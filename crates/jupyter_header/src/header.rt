@@ -5,9 +5,9 @@ ghost use Rattle.cluster_defs.specs.Header.{read_header};
 
 use crate::fields::{id_field, text_field};
 use crate::object::read_object;
-use json::Scratch;
 use cluster_defs::fault::ReadError;
 use cluster_defs::header::Header;
+use json::Scratch;
 use std::alloc::Global;
 
 /// The header that the octets are.

@@ -11,12 +11,12 @@ use crate::kinds::request_of;
 use crate::lists::{id_list, ids_field, optional_engines};
 use crate::object::read_object;
 use crate::values::{get, is_null, items, text, whole};
-use cluster_types::message::Ids;
-use cluster_types::sequence::Sequence;
-use json::{Scratch, Value};
 use cluster_defs::content::HubContent;
 use cluster_defs::fault::ReadError;
 use cluster_defs::hub_request::RequestType;
+use cluster_types::message::Ids;
+use cluster_types::sequence::Sequence;
+use json::{Scratch, Value};
 use std::alloc::Global;
 
 /// What a question about queues asks for.
@@ -161,7 +161,11 @@ fn unread(request: RequestType) -> Option<HubContent>
 }
 
 /// The content of a request by the object that it is.
-fn read_fields(alloc: Global, request: RequestType, value: &Value<'_>) -> Result<HubContent, ReadError>
+fn read_fields(
+    alloc: Global,
+    request: RequestType,
+    value: &Value<'_>,
+) -> Result<HubContent, ReadError>
     ensures ok { IfOk result (λ c. content_from request (view value.now) ≡ Ok c) }
     ensures err { IfErr result (λ e. (e ≡ ReadError.OutOfMemory) ⊎ (content_from request (view value.now) ≡ Err e)) }
 {

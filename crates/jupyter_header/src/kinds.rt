@@ -5,8 +5,8 @@ ghost use Rattle.cluster_defs.specs.Event.{is_request, is_reply, is_leave};
 ghost use Rattle.cluster_defs.specs.Hub.{request_of};
 ghost use Rattle.cluster_defs.specs.Texts.{stem_of, reply_type};
 
-use cluster_types::text::Text;
 use cluster_defs::hub_request::RequestType;
+use cluster_types::text::Text;
 use std::alloc::{AllocError, Global};
 
 /// Whether it ends in `_request`.

@@ -8,11 +8,11 @@ ghost use Rattle.cluster_defs.specs.Hub.{engine_in};
 
 use crate::fields::{bad, id_in, missing};
 use crate::values::{get, is_null, items, whole};
+use cluster_defs::fault::ReadError;
 use cluster_types::message::{Engines, Ids};
 use cluster_types::sequence::Sequence;
 use cluster_types::text::Text;
 use json::Value;
-use cluster_defs::fault::ReadError;
 use std::alloc::{AllocError, Global};
 
 /// The ids that the values are, where each is one.

@@ -6,8 +6,8 @@ ghost use Rattle.serde_json.specs.Read.{read};
 ghost use Rattle.jupyter_header.specs.Borrowed.{view};
 
 use crate::values::{in_range, is_object};
-use json::{Error, Reader, Scratch, Value};
 use cluster_defs::fault::ReadError;
+use json::{Error, Reader, Scratch, Value};
 use std::alloc::Global;
 use std::str;
 

@@ -8,10 +8,10 @@ ghost use Rattle.cluster_defs.specs.Reply.{is_false, status_of, status_from, rea
 use crate::fields::{bad, id_field, missing};
 use crate::object::read_object;
 use crate::values::{flag, get, text};
-use cluster_types::text::Text;
-use json::{Scratch, Value};
 use cluster_defs::content::ReplyMeta;
 use cluster_defs::fault::ReadError;
+use cluster_types::text::Text;
+use json::{Scratch, Value};
 use std::alloc::Global;
 
 /// The id of the task, from the header of the request.

@@ -12,13 +12,13 @@ use crate::lists::{ids_of, optional_ids};
 use crate::object::read_object;
 use crate::points::whole_timeouts;
 use crate::values::{get, is_null, is_object, items, text};
+use cluster_defs::content::SubmitMeta;
+use cluster_defs::fault::ReadError;
 use cluster_types::event::Dep;
 use cluster_types::message::Ids;
 use cluster_types::sequence::Sequence;
 use cluster_types::text::Text;
 use json::{Scratch, Value};
-use cluster_defs::content::SubmitMeta;
-use cluster_defs::fault::ReadError;
 use std::alloc::{AllocError, Global};
 
 /// The greatest number of ids that a dependency lists.

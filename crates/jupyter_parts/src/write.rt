@@ -95,6 +95,25 @@ pub fn write_signed(
     Ok(frames)
 }
 
+/// The frames of a message without its target, signed under the key.
+pub fn write_untargeted(
+    alloc: Global,
+    message: &SharedMessage,
+    key: &Key,
+) -> Result<Frames, AllocError>
+    ensures { IfOk result (λ f. f ≡ signed_frames key.now message.now.header message.now.parent message.now.metadata message.now.content message.now.buffers) }
+{
+    write_signed(
+        alloc,
+        key,
+        message.header(),
+        message.parent(),
+        message.metadata(),
+        message.content(),
+        message.buffers(),
+    )
+}
+
 /// The frames of a message, signed under the key: a target that isn't empty is the one identity frame.
 pub fn write_parts(alloc: Global, message: &SharedMessage, key: &Key) -> Result<Frames, AllocError>
     requires short { length message.now.target ≤ 255 }

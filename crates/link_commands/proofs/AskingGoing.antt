@@ -3,9 +3,8 @@ use Rattle.std.proofs.Common.{◌≡◌, ℕ, List, [], ◌∷◌, ◌++◌, Opt
 use Rattle.std.proofs.lemmas.List.{append-nil}
 use Rattle.link_commands.specs.Asking.{id_in, answer_of, or_next, answer_in, answer_to, answer_by, request_octets, opened, due, due_for, IsAnswered, IsUnanswered, AskedFront}
 use Rattle.cluster_types.specs.declared.message.Message.{Message}
-use Rattle.edges.specs.Streams.{Added, Took}
+use Rattle.edges.specs.Streams.{Added, Took, AddedFront}
 use Rattle.edges.proofs.Pieces.{took_more}
-use Rattle.link_messages.specs.Written.{AddedFront}
 use Rattle.link_commands.proofs.WorkingGoing.{took_none}
 use Rattle.link_messages.proofs.Fronts.{front_behind, front_whole, front_none}
 use Rattle.zmtp_peer.proofs.Order.{quiet_gives, with_identity}

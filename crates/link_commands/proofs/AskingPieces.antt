@@ -3,10 +3,9 @@ use Rattle.std.proofs.Common.{◌≡◌, ℕ, List, ◌++◌, Option, Result, Ok
 use Rattle.std.specs.Prelude.{OnErr}
 use Rattle.link_commands.specs.Asking.{opened, due_for}
 use Rattle.cluster_types.specs.declared.message.Message.{Message}
-use Rattle.edges.specs.Streams.{Added}
+use Rattle.edges.specs.Streams.{Added, AddedFront}
 use Rattle.link_commands.specs.declared.end.DialledEnd.{DialledEnd}
 use Rattle.link_commands.specs.declared.end.DialledEnd.TheVariants.{LinkFault}
-use Rattle.link_messages.specs.Written.{AddedFront}
 use Rattle.link_messages.proofs.Fronts.{front_behind}
 use Rattle.zmtp_peer.specs.PeerStream.{Talk, sent, identity}
 use Rattle.edges.proofs.Additions.{added_both}

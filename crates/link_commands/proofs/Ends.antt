@@ -5,17 +5,17 @@ use Rattle.engine_core.specs.State.{State, Standing, new_engine, standing}
 use Rattle.link_commands.specs.Working.{IsWhole}
 use Rattle.jupyter_parts.specs.Signed.{delimiter}
 use Rattle.link_commands.specs.EngineEnds.{HasServed}
-use Rattle.link_commands.specs.Links.{Tells}
+use Rattle.link_commands.specs.Links.{Dials, IsDialled}
 use Rattle.zmtp_peer.specs.declared.fault.PeerFault.{PeerFault}
 
-pub served : {I O : Type 0} (tells : Tells I O) (key uuid : List ℕ) (dialled : I → O → Type 0) (fault : Option PeerFault) (r i : I) (w o : O) (engine : State) (after : Standing) →
-    dialled r w → engine ≡ new_engine uuid → IsWhole key (standing engine) (tells.left r) (tells.left i) (tells.written w) (tells.written o) after fault → HasServed tells key uuid dialled fault i o
-served tells key uuid dialled fault r i w o engine after link is whole = record {
+pub served : {I O : Type 0} (links : Dials I O) (key uuid : List ℕ) (fault : Option PeerFault) (r i : I) (w o : O) (engine : State) (after : Standing) →
+    IsDialled links r w → engine ≡ new_engine uuid → IsWhole key (standing engine) (links.tells.left r) (links.tells.left i) (links.tells.written w) (links.tells.written o) after fault → HasServed links key uuid fault i o
+served links key uuid fault r i w o engine after link is whole = record {
   reader = r;
   writer = w;
   after = after;
   link = link;
-  whole = subst (λ (e : State). IsWhole key (standing e) (tells.left r) (tells.left i) (tells.written w) (tells.written o) after fault) is whole;
+  whole = subst (λ (e : State). IsWhole key (standing e) (links.tells.left r) (links.tells.left i) (links.tells.written w) (links.tells.written o) after fault) is whole;
 }
 
 -- a count that was 0 and rose is above it

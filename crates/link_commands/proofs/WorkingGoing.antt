@@ -1,14 +1,13 @@
 -- Where a session has come to.
 use Rattle.std.proofs.Common.{◌≡◌, ℕ, List, [], ◌++◌, Option, Some, None, refl, sym, ap, subst, ◌∙◌, append_assoc}
 use Rattle.std.proofs.lemmas.List.{append-nil}
-use Rattle.edges.specs.Streams.{Added, Took}
+use Rattle.edges.specs.Streams.{Added, Took, AddedFront}
 use Rattle.edges.proofs.Pieces.{took_more}
 use Rattle.engine_core.specs.State.{Standing}
 use Rattle.zmtp_frames.specs.Greeting.{own_greeting}
 use Rattle.zmtp_peer.specs.declared.fault.PeerFault.{PeerFault}
 use Rattle.zmtp_peer.specs.PeerStream.{Talk, begins, talked, sent, messages, fault_of}
 use Rattle.zmtp_peer.proofs.Pieces.{talked_append, messages_append}
-use Rattle.link_messages.specs.Written.{AddedFront}
 use Rattle.link_commands.specs.Working.{Writes, WrotePiece, WroteOfPiece, IsWhole, IsFront}
 use Rattle.link_messages.proofs.Fronts.{front_behind, front_whole}
 use Rattle.link_commands.proofs.WorkingPieces.{with_piece}

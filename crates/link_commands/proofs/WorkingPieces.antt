@@ -3,13 +3,12 @@ use Rattle.std.proofs.Common.{◌≡◌, ℕ, List, [], ◌∷◌, ◌++◌, Opt
 use Rattle.std.proofs.lemmas.List.{append-nil, take-append-drop}
 use Rattle.std.proofs.Math.Seq.{take-suc}
 use Rattle.cluster_types.specs.Limits.{last_moment}
-use Rattle.edges.specs.Streams.{Added}
+use Rattle.edges.specs.Streams.{Added, AddedFront}
 use Rattle.engine_core.specs.Answer.{registration}
 use Rattle.engine_core.specs.State.{Standing}
 use Rattle.zmtp_frames.specs.Greeting.{own_greeting}
 use Rattle.zmtp_peer.specs.PeerStream.{Talk, begins, talked, sent, identity, messages}
 use Rattle.zmtp_peer.proofs.Pieces.{sent_append, identity_append}
-use Rattle.link_messages.specs.Written.{AddedFront}
 use Rattle.link_messages.proofs.Fronts.{front_behind, front_of_more, front_whole, front_none}
 use Rattle.link_commands.specs.Working.{octets_of, Hears, HearAll, IsJoin, Opens, Writes, WroteAll, WroteSome, WrotePiece, WroteOfPiece}
 use Rattle.zmtp_peer.proofs.Order.{quiet_gives, with_identity, without_identity}

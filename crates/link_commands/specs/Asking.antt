@@ -6,9 +6,8 @@ use Rattle.client_core.specs.Taking.{task_in}
 use Rattle.link_commands.specs.declared.finding.Conclusion.{Conclusion}
 use Rattle.link_commands.specs.declared.finding.Conclusion.TheVariants.{Answer, Fault, Nothing}
 use Rattle.cluster_types.specs.declared.message.Message.{Message}
-use Rattle.edges.specs.Streams.{Took, Added}
+use Rattle.edges.specs.Streams.{Took, Added, AddedFront}
 use Rattle.link_messages.specs.Message.{signed}
-use Rattle.link_messages.specs.Written.{AddedFront}
 use Rattle.jupyter_parts.specs.Signed.{message_frames, read_parts}
 use Rattle.cluster_defs.specs.Header.{read_header}
 use Rattle.cluster_defs.specs.Reply.{read_status}

@@ -2,12 +2,11 @@
 use Rattle.std.specs.Prelude.{◌≡◌, ℕ, ◌≤◌, List, [], ◌∷◌, ◌++◌, Option, Some, None}
 use Rattle.cluster_types.specs.Limits.{last_moment}
 use Rattle.cluster_types.specs.declared.message.Message.{Message}
-use Rattle.edges.specs.Streams.{Took, Added}
+use Rattle.edges.specs.Streams.{Took, Added, AddedFront}
 use Rattle.engine_core.specs.Answer.{registration, Answers}
 use Rattle.engine_core.specs.State.{Standing}
 use Rattle.jupyter_parts.specs.Signed.{signed_frames, read_parts}
 use Rattle.link_messages.specs.Message.{signed}
-use Rattle.link_messages.specs.Written.{AddedFront}
 use Rattle.zmtp_peer.specs.declared.fault.PeerFault.{PeerFault}
 use Rattle.zmtp_peer.specs.Message.{message_written}
 use Rattle.zmtp_peer.specs.PeerStream.{Talk, sent, identity, messages, peer_stream}

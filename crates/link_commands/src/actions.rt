@@ -9,6 +9,7 @@ ghost use Rattle.link_commands.specs.Actions.{session, on_nothing, plain_meta, a
 
 use client_core::client::Client;
 use client_core::error::SubmitError;
+use cluster_defs::content::SubmitMeta;
 use cluster_types::event::Dep;
 use cluster_types::message::Ids;
 use cluster_types::sequence::Sequence;
@@ -16,7 +17,6 @@ use cluster_types::shared_message::SharedMessage;
 use cluster_types::text::Text;
 use command_words::standing::Action;
 use jupyter_header::contents::texts_list;
-use cluster_defs::content::SubmitMeta;
 use std::alloc::{AllocError, Global};
 
 /// The session of the program's client.

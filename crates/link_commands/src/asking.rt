@@ -3,8 +3,7 @@
 ghost use Rattle.std.specs.Prelude.{◌≡◌, ◌≢◌, ◌⊎◌, ◌≤◌, ◌++◌, Some, None, IfOk, OnOk, OnErr, Err, length};
 ghost use Rattle.cluster_types.specs.Causes.{Rose};
 ghost use Rattle.link_commands.specs.Asking.{id_in, request_octets, opened, due_for, answer_by, taken_by, IsAnswered, IsUnanswered, AskedFront};
-ghost use Rattle.edges.specs.Streams.{Added, IsAtEnd};
-ghost use Rattle.link_messages.specs.Written.{AddedFront};
+ghost use Rattle.edges.specs.Streams.{Added, IsAtEnd, AddedFront};
 ghost use Rattle.jupyter_parts.specs.Signed.{delimiter};
 ghost use Rattle.zmtp_peer.specs.declared.fault.PeerFault.{PeerFault as Fault};
 ghost use Rattle.zmtp_peer.specs.PeerStream.{talked, fault_of};

@@ -5,11 +5,12 @@ ghost use Rattle.link_commands.specs.Asking.{is_ok};
 ghost use Rattle.cluster_types.specs.Causes.{Rose};
 ghost use Rattle.link_commands.specs.Actions.{IsRequest};
 ghost use Rattle.link_commands.specs.ClientEnds.{IsPrinted, ClientEnds};
-ghost use Rattle.link_commands.specs.Links.{IsDialled};
+ghost use Rattle.link_commands.specs.Links.{dials, prints};
 
 use crate::actions::{channel_for, message_for};
 use crate::asking::ask_over;
 use crate::end::DialledEnd;
+use crate::host::Host;
 use crate::random::drawn;
 use crate::status::is_ok;
 use cluster_types::shared_message::SharedMessage;
@@ -100,29 +101,27 @@ fn show<K: Sink>(alloc: Global, answer: &SharedMessage, output: &mut K) -> Resul
 /// Asks a controller for something: dials the channel of the action, sends its request under two drawn words, and prints the
 /// content of the answer and a line feed.
 pub fn run_client<R: Wait, N: Dialer, C: Clock, W: Words, K: Sink>(
-    rt: &R,
-    alloc: Global,
+    host: &mut Host<R, C, W>,
     action: &Action,
     key: &Key,
     dialer: &mut N,
-    clock: &mut C,
-    words: &mut W,
     output: &mut K,
 ) -> ClientEnd<N::In, N::Out>
-    ensures { ClientEnds (record { left = N.In.left; reads = N.In.faults; written = N.Out.written; writes = N.Out.faults }) key.now (IsRequest action.now (W.coming words.old) (W.coming words.new)) (IsDialled (record { left = N.In.left; reads = N.In.faults; written = N.Out.written; writes = N.Out.faults }) (N.links dialer.old) (N.links dialer.new)) (λ answer. IsPrinted answer (K.written output.old) (K.written output.new)) (Rose (N.faults dialer.old) (N.faults dialer.new)) (Rose (K.faults output.old) (K.faults output.new)) result }
+    ensures { ClientEnds (dials N.Dialer N.In.Source N.Out.Sink dialer.old dialer.new) key.now (IsRequest action.now (W.coming host.old.words) (W.coming host.new.words)) (prints K.Sink output.old output.new) result }
 {
     let (mut reader, mut writer) = match dialer.dial(channel_for(action)) {
         Accepted::Pair(reader, writer) => (reader, writer),
         Accepted::Failed => return ClientEnd::NotDialled,
         Accepted::End => unreachable!(),
     };
-    let random = drawn(words);
-    let moment = clock.now().millis;
+    let alloc = host.alloc;
+    let random = drawn(&mut host.words);
+    let moment = host.clock.now().millis;
     let request = match message_for(alloc, action, random, moment) {
         Ok(request) => request,
         Err(AllocError) => return ClientEnd::OutOfMemory,
     };
-    let answer = match ask_over(rt, alloc, &request, key, &mut reader, &mut writer) {
+    let answer = match ask_over(&host.rt, alloc, &request, key, &mut reader, &mut writer) {
         Ok(answer) => answer,
         Err(DialledEnd::Ended) => return ClientEnd::Unanswered { reader, writer },
         Err(DialledEnd::LinkFault) => return ClientEnd::LinkFault { reader, writer },

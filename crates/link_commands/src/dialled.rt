@@ -2,10 +2,9 @@
 
 ghost use Rattle.std.specs.Prelude.{◌≡◌, ◌≤◌, ◌<◌, ◌⊎◌, IfOk, OnOk, OnErr, Err, length, take};
 ghost use Rattle.cluster_types.specs.Causes.{Rose};
-ghost use Rattle.edges.specs.Streams.{Added, Took, IsAtEnd};
+ghost use Rattle.edges.specs.Streams.{Added, Took, IsAtEnd, AddedFront};
 ghost use Rattle.zmtp_frames.specs.Greeting.{own_greeting};
 ghost use Rattle.zmtp_peer.specs.PeerStream.{begins, talked, sent, identity, messages, fault_of};
-ghost use Rattle.link_messages.specs.Written.{AddedFront};
 ghost use Rattle.link_commands.specs.Working.{octets_of};
 
 use crate::end::DialledEnd;
@@ -13,7 +12,7 @@ use cluster_types::shared_message::SharedMessage;
 use edges::sink::{Sink, write_all};
 use edges::source::{Got, Source};
 use hmac_sign::Key;
-use jupyter_parts::write::write_signed;
+use jupyter_parts::write::write_untargeted;
 use std::alloc::{AllocError, Global};
 use zmtp_peer::peer::Peer;
 use zmtp_peer::phase::PeerFed;
@@ -26,15 +25,7 @@ pub const PIECE_OCTETS: usize = 4096;
 pub fn octets_of(alloc: Global, key: &Key, message: &SharedMessage) -> Result<Vec<u8>, AllocError>
     ensures { IfOk result (λ octets. octets.items ≡ octets_of key.now message.now) }
 {
-    let frames = write_signed(
-        alloc,
-        key,
-        message.header(),
-        message.parent(),
-        message.metadata(),
-        message.content(),
-        message.buffers(),
-    )?;
+    let frames = write_untargeted(alloc, message, key)?;
     message_octets(alloc, &frames)
 }
 

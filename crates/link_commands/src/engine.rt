@@ -1,17 +1,16 @@
 //! An engine that works for a controller.
 
 ghost use Rattle.std.specs.Prelude.{◌≡◌, true};
-ghost use Rattle.cluster_types.specs.Causes.{Rose};
 ghost use Rattle.engine_core.specs.State.{is_uuid};
 ghost use Rattle.link_commands.specs.EngineEnds.{EngineEnds};
-ghost use Rattle.link_commands.specs.Links.{IsDialled};
+ghost use Rattle.link_commands.specs.Links.{dials};
 
 use crate::end::DialledEnd;
+use crate::host::Host;
 use crate::working::serve_engine;
 use engine_core::engine::Engine;
 use engine_core::error::EngineError;
 use hmac_sign::Key;
-use std::alloc::Global;
 use std::sync::Wait;
 use thread_edges::clock::Clock;
 use thread_edges::links::{Accepted, Dialer};
@@ -45,17 +44,16 @@ pub enum EngineEnd<I, O> {
 }
 
 /// Works for a controller as an engine: dials its channel of engines, joins, and answers its requests until its stream ends.
-pub fn run_engine<R: Wait, N: Dialer, C: Clock>(
-    rt: &R,
-    alloc: Global,
+pub fn run_engine<R: Wait, N: Dialer, C: Clock, W>(
+    host: &mut Host<R, C, W>,
     uuid: &str,
     key: &Key,
     dialer: &mut N,
-    clock: &mut C,
 ) -> EngineEnd<N::In, N::Out>
     requires { is_uuid uuid.now ≡ true }
-    ensures { EngineEnds (record { left = N.In.left; reads = N.In.faults; written = N.Out.written; writes = N.Out.faults }) key.now uuid.now (IsDialled (record { left = N.In.left; reads = N.In.faults; written = N.Out.written; writes = N.Out.faults }) (N.links dialer.old) (N.links dialer.new)) (Rose (N.faults dialer.old) (N.faults dialer.new)) result }
+    ensures { EngineEnds (dials N.Dialer N.In.Source N.Out.Sink dialer.old dialer.new) key.now uuid.now result }
 {
+    let alloc = host.alloc;
     let mut engine = match Engine::new(alloc, uuid) {
         Ok(engine) => engine,
         Err(EngineError::OutOfMemory) => return EngineEnd::OutOfMemory,
@@ -66,7 +64,16 @@ pub fn run_engine<R: Wait, N: Dialer, C: Clock>(
         Accepted::Failed => return EngineEnd::NotDialled,
         Accepted::End => unreachable!(),
     };
-    match serve_engine(rt, alloc, &mut engine, key, &mut reader, &mut writer, clock) {
+    let end = serve_engine(
+        &host.rt,
+        alloc,
+        &mut engine,
+        key,
+        &mut reader,
+        &mut writer,
+        &mut host.clock,
+    );
+    match end {
         DialledEnd::Ended => EngineEnd::Done { reader, writer },
         DialledEnd::LinkFault => EngineEnd::LinkFault { reader, writer },
         DialledEnd::ZmtpFault(fault) => EngineEnd::ZmtpFault {

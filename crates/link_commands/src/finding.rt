@@ -4,6 +4,7 @@ ghost use Rattle.std.specs.Prelude.{◌≡◌, IfOk};
 ghost use Rattle.link_commands.specs.Asking.{id_in, are_same, answer_of, answer_in, taken_by};
 
 use client_core::answers::task_in;
+use cluster_defs::fault::ReadError;
 use cluster_types::shared_message::SharedMessage;
 use cluster_types::text::Text;
 use edges::frames::Frames;
@@ -11,7 +12,6 @@ use hmac_sign::Key;
 use json::Scratch;
 use jupyter_header::header::read_header;
 use link_messages::message::signed;
-use cluster_defs::fault::ReadError;
 use std::alloc::{AllocError, Global};
 use zmtp_peer::fault::PeerFault;
 

@@ -9,6 +9,7 @@ mod dialled;
 pub mod end;
 pub mod engine;
 mod finding;
+pub mod host;
 mod random;
 pub mod status;
 pub mod working;

@@ -2,11 +2,10 @@
 
 ghost use Rattle.std.specs.Prelude.{◌≡◌, ◌⊎◌, ◌≤◌, ℕ, List, None, Some, IfOk, OnOk, OnErr, Err};
 ghost use Rattle.cluster_types.specs.Causes.{Rose};
-ghost use Rattle.edges.specs.Streams.{Added, IsAtEnd};
+ghost use Rattle.edges.specs.Streams.{Added, IsAtEnd, AddedFront};
 ghost use Rattle.engine_core.specs.State.{standing};
 ghost use Rattle.zmtp_peer.specs.declared.fault.PeerFault.{PeerFault as Fault};
 ghost use Rattle.zmtp_peer.specs.PeerStream.{talked, fault_of};
-ghost use Rattle.link_messages.specs.Written.{AddedFront};
 ghost use Rattle.link_commands.specs.Working.{IsJoin, Opens, IsWhole, IsFront, WrotePiece, WroteOfPiece};
 
 use crate::answering::answer_all;

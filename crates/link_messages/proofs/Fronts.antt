@@ -1,9 +1,8 @@
 -- Fronts of octets that were written.
 use Rattle.std.proofs.Common.{◌≡◌, ℕ, List, [], ◌++◌, Option, refl, sym, ap, ◌∙◌, append_assoc, take, drop}
 use Rattle.std.proofs.lemmas.List.{append-nil, take-append-drop}
-use Rattle.edges.specs.Streams.{Added}
+use Rattle.edges.specs.Streams.{Added, AddedFront}
 use Rattle.edges.proofs.Additions.{added_both, added_none}
-use Rattle.link_messages.specs.Written.{AddedFront}
 
 pub front_behind : (a b : List ℕ) (x y z : Option (List ℕ)) → Added a x y → AddedFront b y z → AddedFront (a ++ b) x z
 front_behind a b x y z first f = record {

@@ -1,7 +1,6 @@
 -- What a handshake reads and writes.
 use Rattle.std.specs.Prelude.{◌≡◌, ℕ, List, ◌++◌, Option, Some, None, All}
-use Rattle.link_messages.specs.Written.{AddedFront}
-use Rattle.edges.specs.Streams.{Took, Added}
+use Rattle.edges.specs.Streams.{AddedFront, Took, Added}
 use Rattle.zmtp_peer.specs.declared.fault.PeerFault.{PeerFault}
 use Rattle.zmtp_peer.specs.Limits.{IsShortMessage, IsShortIdentity}
 use Rattle.zmtp_peer.specs.PeerStream.{Talk, begins, talked, identity, messages, peer_stream}

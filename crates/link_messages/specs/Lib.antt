@@ -1,6 +1,5 @@
 pub mod Message
 pub mod Identity
 pub mod Outs
-pub mod Written
 pub mod Ends
 pub mod Greeting

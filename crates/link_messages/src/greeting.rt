@@ -2,13 +2,12 @@
 
 ghost use Rattle.std.specs.Prelude.{◌≡◌, ◌⊎◌, ◌≤◌, false, All, None, Some, IfSome, IfOk, IfErr, OnOk, OnErr, Ok, Err};
 ghost use Rattle.cluster_types.specs.Causes.{Rose};
-ghost use Rattle.edges.specs.Streams.{Added, IsAtEnd};
+ghost use Rattle.edges.specs.Streams.{Added, IsAtEnd, AddedFront};
 ghost use Rattle.zmtp_peer.specs.declared.fault.PeerFault.{PeerFault as Fault};
 ghost use Rattle.zmtp_peer.specs.Limits.{IsShortMessage, IsShortIdentity};
 ghost use Rattle.zmtp_peer.specs.PeerStream.{talked, sent, identity, fault_of};
 ghost use Rattle.link_messages.specs.Ends.{EndsGreeting, EndsPiece};
 ghost use Rattle.link_messages.specs.Greeting.{IsGreeted, IsRefused, IsGreetedInPart, IsHandshake};
-ghost use Rattle.link_messages.specs.Written.{AddedFront};
 
 use crate::end::SessionEnd;
 use crate::link::write;

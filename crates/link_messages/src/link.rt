@@ -2,8 +2,7 @@
 
 ghost use Rattle.std.specs.Prelude.{◌≡◌, ◌≤◌, OnOk, OnErr, Err};
 ghost use Rattle.cluster_types.specs.Causes.{Rose};
-ghost use Rattle.edges.specs.Streams.{Added};
-ghost use Rattle.link_messages.specs.Written.{AddedFront};
+ghost use Rattle.edges.specs.Streams.{Added, AddedFront};
 
 use crate::end::SessionEnd;
 use edges::sink::{Sink, write_all};

@@ -8,11 +8,11 @@ use client_core::client::Client;
 use client_core::error::SubmitError;
 use client_core::limits::{is_engine, is_within_limits};
 use client_core::took::Took;
+use cluster_defs::content::SubmitMeta;
 use cluster_types::event::Dep;
 use cluster_types::sequence::Sequence;
 use cluster_types::shared_message::SharedMessage;
 use cluster_types::text::Text;
-use cluster_defs::content::SubmitMeta;
 use std::alloc::Global;
 use std::process::Abort;
 

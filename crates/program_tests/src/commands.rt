@@ -6,6 +6,7 @@ use edges::memory::{MemSink, MemSource};
 use hmac_sign::Key;
 use link_commands::client::{ClientEnd, run_client};
 use link_commands::engine::{EngineEnd, run_engine};
+use link_commands::host::Host;
 use std::alloc::Global;
 use std::process::Abort;
 use std::sync::Wait;
@@ -31,21 +32,29 @@ fn dialer_of<R: Abort>(rt: &R, alloc: Global, octets: &[u8]) -> MemDialer {
 }
 
 /// The status with which a client ends that runs `6*7` over a link with these octets, and whether it prints this.
-fn run<R: Wait + Abort>(rt: &R, alloc: Global, octets: &[u8], wanted: &[u8]) -> (u8, bool) {
+fn run<R: Wait + Abort + Drop + Copy>(
+    rt: &R,
+    alloc: Global,
+    octets: &[u8],
+    wanted: &[u8],
+) -> (u8, bool) {
     let key = Key::new(alloc, b"k").expect(rt, "a key");
     let code = Text::new(alloc, "6*7").expect(rt, "memory is ample");
     let mut dialer = dialer_of(rt, alloc, octets);
-    let mut clock = ListClock::new(alloc, &[]).expect(rt, "memory is ample");
-    let mut words = ListWords::new(alloc, &[0, 0]).expect(rt, "memory is ample");
+    let clock = ListClock::new(alloc, &[]).expect(rt, "memory is ample");
+    let words = ListWords::new(alloc, &[0, 0]).expect(rt, "memory is ample");
     let mut output = MemSink::new(alloc, &[]).expect(rt, "memory is ample");
-    let end = run_client(
-        rt,
+    let mut host = Host {
+        rt: *rt,
         alloc,
+        clock,
+        words,
+    };
+    let end = run_client(
+        &mut host,
         &Action::Run { code },
         &key,
         &mut dialer,
-        &mut clock,
-        &mut words,
         &mut output,
     );
     let status = match end {
@@ -75,9 +84,14 @@ fn an_engine_works_over_one_link(rt: HostRuntime) {
     let alloc = rt.alloc();
     let key = Key::new(alloc, b"k").expect(&rt, "a key");
     let mut dialer = dialer_of(&rt, alloc, ANSWERED);
-    let mut clock = ListClock::new(alloc, &[]).expect(&rt, "memory is ample");
-    let end = run_engine(&rt, alloc, "e0", &key, &mut dialer, &mut clock);
+    let mut host = Host {
+        rt,
+        alloc,
+        clock: ListClock::new(alloc, &[]).expect(&rt, "memory is ample"),
+        words: ListWords::new(alloc, &[]).expect(&rt, "memory is ample"),
+    };
+    let end = run_engine(&mut host, "e0", &key, &mut dialer);
     assert!(rt; matches!(end, EngineEnd::Done { .. }));
-    let end = run_engine(&rt, alloc, "e0", &key, &mut dialer, &mut clock);
+    let end = run_engine(&mut host, "e0", &key, &mut dialer);
     assert!(rt; matches!(end, EngineEnd::NotDialled));
 }

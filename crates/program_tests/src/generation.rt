@@ -1,9 +1,9 @@
 //! The tape and the summary, by worked values and by a plain model in Python.
 
-use sha2::{Digest, Sha256};
 use quick_commands::draws::next_draw;
 use quick_commands::generator::{Generator, generate};
 use quick_commands::summary::Summary;
+use sha2::{Digest, Sha256};
 
 /// The records of the tape of the seed 1 and two tasks, as an independent model writes them.
 const RECORDS: [&[u8]; 11] = [

@@ -2,11 +2,11 @@
 
 use crate::choosing::new_chooser;
 use disk_model::memory::MemDisk;
-use std::alloc::Global;
-use std::process::Abort;
 use quick_commands::fault::WorkError;
 use quick_commands::summary::Summary;
 use quick_commands::work::work;
+use std::alloc::Global;
+use std::process::Abort;
 
 /// The lines of the summary of a seed and so many tasks, over an empty disk.
 fn lines<R: Abort>(rt: &R, alloc: Global, seed: u32, tasks: u32) -> String {

@@ -2,11 +2,10 @@
 use Rattle.std.proofs.Common.{◌≡◌, ℕ, List, [], ◌∷◌, ◌++◌, take, drop, Option, Some, None, refl, sym, ap, ◌∙◌, append_assoc}
 use Rattle.std.proofs.lemmas.List.{append-nil, take-append-drop}
 use Rattle.std.proofs.lemmas.List.Concat.{flat_map-append}
-use Rattle.edges.specs.Streams.{Added}
+use Rattle.edges.specs.Streams.{Added, AddedFront}
 use Rattle.tape.specs.declared.record.TapeRecord.{TapeRecord}
 use Rattle.tape.specs.Spelling.{spelled, all_spelled}
 use Rattle.tape_drive.specs.Drive.{Stand, served, outs, outputs, stand_at}
-use Rattle.database_text.specs.Texts.{WroteFront}
 
 pub outputs_append : (key : List ℕ) (h : Stand) (xs ys : List TapeRecord) → outputs key h (xs ++ ys) ≡ outputs key h xs ++ outputs key (stand_at key h xs) ys
 outputs_append key h [] ys = refl

@@ -3,9 +3,9 @@ use Rattle.std.proofs.Common.{◌≡◌, ◌⊎◌, inl, inr, ⊎_elim, ℕ, ◌
 use Rattle.cluster_types.specs.declared.entry.Entry.{Entry}
 use Rattle.command_words.specs.declared.ending.Ending.{Ending}
 use Rattle.command_words.specs.declared.ending.Ending.TheVariants.{Done, Usage, ReadFault, WriteFault, DiskFault, BadTape, Damaged, OutOfMemory, HistoryFull, Different}
-use Rattle.database_text.specs.Texts.{IsDamaged, IsRefusal, WroteFront, Told, DiffersFrom}
+use Rattle.database_text.specs.Texts.{IsDamaged, IsRefusal, Told, DiffersFrom}
+use Rattle.edges.specs.Streams.{AddedFront, Added, IsAtEnd}
 use Rattle.disk_model.specs.Crashes.{LeavesOnly}
-use Rattle.edges.specs.Streams.{Added, IsAtEnd}
 use Rattle.database_text.specs.Lines.{text}
 use Rattle.task_journal.specs.Journal.{StandsFor}
 use Rattle.task_journal.specs.Reads.{OnlyReads}
@@ -19,7 +19,7 @@ not_dump : (e : Ending) → ((place : ℕ) → e ≡ Damaged place → ⊥) → 
 not_dump e damaged disk memory done write either = ⊎_elim (λ r. never e damaged disk memory r) (λ other. ⊎_elim done write other) either
 
 pub dump_ends : (tells : Type 0) (content : List ℕ) (before now : Option (List ℕ)) (e : Ending) → IsRefusal e ⊎ (e ≡ Done) ⊎ (e ≡ WriteFault) → (e ≡ Done → Of tells content (λ list. Added (text list) before now)) →
-    (tells → (list : List Entry) → StandsFor content list → WroteFront (text list) before now) → (tells → (place : ℕ) → e ≡ Damaged place → IsDamaged content place) → (tells → (place : ℕ) → IsDamaged content place → IsRefusal e × (now ≡ before)) → (tells → (place : ℕ) → e ≡ Damaged place → now ≡ before) →
+    (tells → (list : List Entry) → StandsFor content list → AddedFront (text list) before now) → (tells → (place : ℕ) → e ≡ Damaged place → IsDamaged content place) → (tells → (place : ℕ) → IsDamaged content place → IsRefusal e × (now ≡ before)) → (tells → (place : ℕ) → e ≡ Damaged place → now ≡ before) →
     DumpEnds tells content before now e
 dump_ends tells content before now Done either done front damaged refused unwritten = done refl
 dump_ends tells content before now Usage either done front damaged refused unwritten = absurd (not_dump Usage (λ place is. cc) (λ is. cc) (λ is. cc) (λ is. cc) (λ is. cc) either)

@@ -2,8 +2,7 @@
 use Rattle.std.proofs.Common.{◌≡◌, inl, ℕ, ◌+◌, ◌<◌, ◌≤◌, get_or, List, [], ◌∷◌, ◌++◌, length, take, drop, Option, refl, sym, ap, subst, ◌∙◌}
 use Rattle.std.proofs.lemmas.List.{append-nil, take-append-drop, take_more, drop_more, take_all}
 use Rattle.cluster_defs.specs.Histories.{History}
-use Rattle.edges.specs.Streams.{Added}
-use Rattle.database_text.specs.Texts.{WroteFront}
+use Rattle.edges.specs.Streams.{Added, AddedFront}
 use Rattle.tape.specs.declared.record.TapeRecord.{TapeRecord}
 use Rattle.tape.specs.Spelling.{all_spelled}
 use Rattle.tape_drive.specs.Drive.{Stand, served, outs, outputs, stand_at}
@@ -19,8 +18,8 @@ use Rattle.database_text.proofs.Fronts.{front_all}
 one_text : (key : List ℕ) (s : Stand) (r : TapeRecord) → all_spelled (outputs key s (r ∷ [])) ≡ all_spelled (outs key s r)
 one_text key s r = ap all_spelled (append-nil (outs key s r))
 
-pub one_whole : (key : List ℕ) (s : Stand) (r : TapeRecord) (before now : Option (List ℕ)) → WroteFront (all_spelled (outs key s r)) before now → IsServed key s (r ∷ []) before now (served key s r).history
-one_whole key s r before now wrote = served_whole key s (r ∷ []) [] before now (subst (λ (xs : List ℕ). WroteFront xs before now) (sym (one_text key s r)) wrote)
+pub one_whole : (key : List ℕ) (s : Stand) (r : TapeRecord) (before now : Option (List ℕ)) → AddedFront (all_spelled (outs key s r)) before now → IsServed key s (r ∷ []) before now (served key s r).history
+one_whole key s r before now wrote = served_whole key s (r ∷ []) [] before now (subst (λ (xs : List ℕ). AddedFront xs before now) (sym (one_text key s r)) wrote)
 
 pub one_cut : (key : List ℕ) (s : Stand) (r : TapeRecord) (w : Option (List ℕ)) (h : History) → IsOnWay s.limits s.history (inputs_taken key s r) h → IsServed key s (r ∷ []) w w h
 one_cut key s r w h way = served_none key s (r ∷ []) w h (inl way)

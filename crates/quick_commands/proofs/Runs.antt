@@ -5,8 +5,7 @@ use Rattle.cluster_defs.specs.Histories.{History}
 use Rattle.cluster_store.specs.Openings.{HasOpen}
 use Rattle.cluster_store.specs.Stores.{written}
 use Rattle.command_words.specs.declared.command.ReplayOptions.{ReplayOptions}
-use Rattle.database_text.specs.Texts.{WroteFront}
-use Rattle.edges.specs.Streams.{Added}
+use Rattle.edges.specs.Streams.{AddedFront, Added}
 use Rattle.task_journal.specs.Journal.{StandsFor}
 use Rattle.tape.specs.declared.record.TapeRecord.{TapeRecord}
 use Rattle.tape.specs.Spelling.{all_spelled}
@@ -20,7 +19,7 @@ use Rattle.edges.proofs.Additions.{added_none}
 
 -- the first records of a tape that begins behind a list
 made : (content octets left : List ℕ) (options : ReplayOptions) (s : Stand) (before now : Option (List ℕ)) (front rest : List TapeRecord) (at : History) →
-    IsOver (Unit {0}) content options s → records blank octets ≡ front ++ rest → WroteFront (all_spelled (outputs options.key s front)) before now → Comes options.key (stand_at options.key s front) rest at →
+    IsOver (Unit {0}) content options s → records blank octets ≡ front ++ rest → AddedFront (all_spelled (outputs options.key s front)) before now → Comes options.key (stand_at options.key s front) rest at →
     StandsFor left (written at) → IsRun content options octets before now left
 made content octets left options s before now front rest at over tape wrote comes leaves = record {
   old = reverse over.list;
@@ -30,7 +29,7 @@ made content octets left options s before now front rest at over tape wrote come
   key = refl;
   opened = refl;
   tape = tape;
-  wrote = subst (λ (b : Stand). WroteFront (all_spelled (outputs options.key b front)) before now) over.is wrote;
+  wrote = subst (λ (b : Stand). AddedFront (all_spelled (outputs options.key b front)) before now) over.is wrote;
   comes = subst (λ (b : Stand). Comes options.key (stand_at options.key b front) rest at) over.is comes;
   leaves = leaves;
 }

@@ -5,10 +5,11 @@ use Rattle.command_words.specs.declared.command.Command.{Command}
 use Rattle.command_words.specs.declared.command.Command.TheVariants.{Replay, Dump, Check, Compact, Work}
 use Rattle.command_words.specs.declared.ending.Ending.{Ending}
 use Rattle.command_words.specs.declared.ending.Ending.TheVariants.{Done, Usage, ReadFault, WriteFault, DiskFault, Damaged, OutOfMemory, Different}
-use Rattle.command_words.specs.Lines.{line}
-use Rattle.database_text.specs.Texts.{IsDamaged, WroteFront, Told, DiffersFrom}
+use Rattle.command_words.specs.Lines.{line, status}
+use Rattle.edges.specs.declared.sink.Sink.{Ghosts as OfSink}
+use Rattle.database_text.specs.Texts.{IsDamaged, Told, DiffersFrom}
+use Rattle.edges.specs.Streams.{AddedFront, Added, IsAtEnd}
 use Rattle.database_text.specs.Compacted.{compact_octets, IsUnfitAt, IsCompacted}
-use Rattle.edges.specs.Streams.{Added, IsAtEnd}
 use Rattle.database_text.specs.Lines.{text}
 use Rattle.task_journal.specs.Journal.{StandsFor}
 use Rattle.quick_commands.specs.Replays.{ReplayEnds, MayLeave}
@@ -20,6 +21,11 @@ abbrev pub Says : Ending → (before now : Option (List ℕ)) → (faults later 
 Says Done before now faults later = now ≡ before
 Says end before now faults later = Said (line end) before now faults later
 
+-- a status is that of an end of which this holds, and the line of this end was written
+abbrev pub IsTold : {E : Type 0} → OfSink E → (old new : E) → ℕ → (Ending → Type 0) → Type 0
+IsTold errors old new code Holds =
+    (e : Ending) × (code ≡ status e) × Says e (errors.written old) (errors.written new) (errors.faults old) (errors.faults new) × Holds e
+
 -- words without a reading were told so, unless there was no memory
 abbrev pub Unread : Ending → Type 0
 Unread end = (end ≡ Usage) ⊎ (end ≡ OutOfMemory)
@@ -30,7 +36,7 @@ Of tells content P = (list : List Entry) × (tells → StandsFor content list) �
 
 -- a front of the text of the entries was written, and nothing where the disk is refused
 abbrev pub Printed : (tells : Type 0) → List ℕ → (before now : Option (List ℕ)) → Type 0
-Printed tells content before now = tells → ((list : List Entry) → StandsFor content list → WroteFront (text list) before now) × ((place : ℕ) → IsDamaged content place → now ≡ before)
+Printed tells content before now = tells → ((list : List Entry) → StandsFor content list → AddedFront (text list) before now) × ((place : ℕ) → IsDamaged content place → now ≡ before)
 
 -- how a dump ends: with the text of the entries, or a front of it
 abbrev pub DumpEnds : (tells : Type 0) → List ℕ → (before now : Option (List ℕ)) → Ending → Type 0
@@ -54,8 +60,8 @@ CheckEnds tells content left rest _ = ⊥
 -- how a compact ends: with the octets of a journal of the list without what purges let go, or a front of them
 abbrev pub CompactEnds : (tells : Type 0) → List ℕ → (before now : Option (List ℕ)) → Ending → Type 0
 CompactEnds tells content before now Done = IsCompacted tells content before now
-CompactEnds tells content before now WriteFault = tells → (list : List Entry) → StandsFor content list → WroteFront (compact_octets list) before now
-CompactEnds tells content before now OutOfMemory = tells → (list : List Entry) → StandsFor content list → WroteFront (compact_octets list) before now
+CompactEnds tells content before now WriteFault = tells → (list : List Entry) → StandsFor content list → AddedFront (compact_octets list) before now
+CompactEnds tells content before now OutOfMemory = tells → (list : List Entry) → StandsFor content list → AddedFront (compact_octets list) before now
 CompactEnds tells content before now DiskFault = now ≡ before
 CompactEnds tells content before now (Damaged place) = (now ≡ before) × (tells → IsUnfitAt content place)
 CompactEnds tells content before now _ = ⊥

@@ -6,7 +6,7 @@ use Rattle.cluster_defs.specs.Histories.{History}
 use Rattle.command_words.specs.declared.command.ReplayOptions.{ReplayOptions}
 use Rattle.command_words.specs.declared.ending.Ending.{Ending}
 use Rattle.command_words.specs.declared.ending.Ending.TheVariants.{Done, Usage, BadTape, Damaged, HistoryFull, Different}
-use Rattle.edges.specs.Streams.{Added, IsAtEnd}
+use Rattle.edges.specs.Streams.{Added, IsAtEnd, AddedFront}
 use Rattle.cluster_core.specs.declared.size.HistorySize.{HistorySize}
 use Rattle.cluster_store.specs.Openings.{IsFit, HasOpen, WhyNot}
 use Rattle.cluster_store.specs.Stores.{written}
@@ -21,7 +21,7 @@ use Rattle.tape_drive.specs.declared.drive.TapeStop.{TapeStop}
 use Rattle.tape_drive.specs.declared.drive.TapeStop.TheVariants as stops
 use Rattle.tape_drive.specs.Drive.{Stand, start, stand_at, outputs, drive_stand, drive_output, drive_stop}
 use Rattle.tape_drive.specs.Served.{Comes, HoldsSome}
-use Rattle.database_text.specs.Texts.{WroteFront, Told}
+use Rattle.database_text.specs.Texts.{Told}
 
 abbrev pub limits_of : ReplayOptions → HistorySize
 limits_of options = record { entries = options.entries; bytes = options.bytes }
@@ -43,7 +43,7 @@ pub record IsServed (key : List ℕ) (s : Stand) (list : List TapeRecord) (befor
   pub front : List TapeRecord
   pub rest : List TapeRecord
   pub parts : list ≡ front ++ rest
-  pub wrote : WroteFront (all_spelled (outputs key s front)) before now
+  pub wrote : AddedFront (all_spelled (outputs key s front)) before now
   pub comes : Comes key (stand_at key s front) rest history
 
 -- all was served up to this stop, or to the end where there is none: what it sends was written, and a crash leaves what is
@@ -56,7 +56,7 @@ pub record IsReplayed (tells : Type 0) (key : List ℕ) (s : Stand) (octets : Li
 -- the replay was cut off: a front of what it sends was written, and a crash leaves what is kept of a history in which all is
 -- that what was written tells of
 pub record IsCutOff (tells : Type 0) (key : List ℕ) (s : Stand) (octets : List ℕ) (before now : Option (List ℕ)) (image : List ℕ → Type 0) : Type 0 where
-  pub front : WroteFront (drive_output key s octets) before now
+  pub front : AddedFront (drive_output key s octets) before now
   pub keeps : tells → (c : List ℕ) → image c → HoldsSome (IsServed key s (records blank octets) before now) c
 
 -- the database wasn't opened: nothing was written, and a crash leaves what it might have left before, or always what stands

@@ -4,9 +4,8 @@ use Rattle.cluster_defs.specs.Histories.{History}
 use Rattle.cluster_store.specs.Openings.{HasOpen}
 use Rattle.cluster_store.specs.Stores.{written}
 use Rattle.command_words.specs.declared.command.ReplayOptions.{ReplayOptions}
-use Rattle.database_text.specs.Texts.{WroteFront}
+use Rattle.edges.specs.Streams.{AddedFront, Added}
 use Rattle.tape_drive.specs.Runs.{TapeRun, begun}
-use Rattle.edges.specs.Streams.{Added}
 use Rattle.task_journal.specs.Journal.{StandsFor}
 use Rattle.tape.specs.Spelling.{all_spelled}
 use Rattle.tape.specs.Tape.{blank, records}
@@ -24,7 +23,7 @@ pub record IsRun (content : List ℕ) (options : ReplayOptions) (octets : List �
   pub key : run.key ≡ options.key
   pub opened : begun old run ≡ start old (limits_of options) options.scheme options.hwm options.misses
   pub tape : records blank octets ≡ run.front ++ run.rest
-  pub wrote : WroteFront (all_spelled (outputs run.key (begun old run) run.front)) before now
+  pub wrote : AddedFront (all_spelled (outputs run.key (begun old run) run.front)) before now
   pub comes : Comes run.key (stand_at run.key (begun old run) run.front) run.rest at
   pub leaves : StandsFor left (written at)
 

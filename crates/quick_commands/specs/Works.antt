@@ -2,8 +2,7 @@
 use Rattle.std.specs.Prelude.{◌≡◌, ◌≢◌, ℕ, List, [], Option}
 use Rattle.command_words.specs.declared.ending.Ending.{Ending}
 use Rattle.command_words.specs.declared.ending.Ending.TheVariants as endings
-use Rattle.database_text.specs.Texts.{WroteFront}
-use Rattle.edges.specs.Streams.{Added}
+use Rattle.edges.specs.Streams.{AddedFront, Added}
 use Rattle.quick_commands.specs.declared.summary.Summary.{Summary}
 use Rattle.quick_commands.specs.Summary.{summary_lines}
 use Rattle.quick_commands.specs.declared.fault.WorkError.{WorkError}
@@ -13,7 +12,7 @@ use Rattle.quick_commands.specs.Ends.{IsWorked, IsStopped}
 -- how writing a text ends: it was written, or a front of it, or there was no memory for it
 abbrev pub PrintEnds : List ℕ → (before now : Option (List ℕ)) → Ending → Type 0
 PrintEnds text before now endings.Done = Added text before now
-PrintEnds text before now endings.WriteFault = WroteFront text before now
+PrintEnds text before now endings.WriteFault = AddedFront text before now
 PrintEnds text before now endings.OutOfMemory = now ≡ before
 PrintEnds text before now _ = ⊥
 
@@ -34,7 +33,7 @@ pub record IsSummedUp (tells : Type 0) (content : List ℕ) (seed tasks : ℕ) (
 -- how generated work ends: its summary is written, or a front of it; the next step would pass a limit; or the disk isn't empty
 abbrev pub WorkEnds : (tells : Type 0) → List ℕ → (seed tasks : ℕ) → (before now : Option (List ℕ)) → (image : List ℕ → Type 0) → Ending → Type 0
 WorkEnds tells content seed tasks before now image endings.Done = IsSummedUp tells content seed tasks image (λ lines. Added lines before now)
-WorkEnds tells content seed tasks before now image endings.WriteFault = IsSummedUp tells content seed tasks image (λ lines. WroteFront lines before now)
+WorkEnds tells content seed tasks before now image endings.WriteFault = IsSummedUp tells content seed tasks image (λ lines. AddedFront lines before now)
 WorkEnds tells content seed tasks before now image (endings.HistoryFull entries bytes) =
     (now ≡ before) × (tells → content ≡ []) × IsStopped tells seed tasks (record { entries = entries; bytes = bytes })
 WorkEnds tells content seed tasks before now image (endings.Damaged place) = (now ≡ before) × (tells → (place ≡ 0) × (content ≢ []))

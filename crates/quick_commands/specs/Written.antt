@@ -1,8 +1,7 @@
 -- What was written of what is to be written.
 use Rattle.std.specs.Prelude.{◌≡◌, ℕ, List, Option, Some, None, ◌⊎◌}
 use Rattle.cluster_types.specs.Causes.{Rose}
-use Rattle.edges.specs.Streams.{Added}
-use Rattle.database_text.specs.Texts.{WroteFront}
+use Rattle.edges.specs.Streams.{Added, AddedFront}
 use Rattle.command_words.specs.declared.ending.Ending.{Ending}
 use Rattle.command_words.specs.declared.ending.Ending.TheVariants.{Done, Usage, DiskFault, BadTape, Damaged, OutOfMemory, HistoryFull, Different}
 use Rattle.task_journal.specs.declared.fault.OpenFault.{OpenFault}
@@ -12,7 +11,7 @@ use Rattle.tape_drive.specs.declared.drive.TapeStop.TheVariants as stops
 
 -- a text was written, or a front of it where the count of the sink's faults rose
 abbrev pub Said : List ℕ → (before now : Option (List ℕ)) → (faults later : ℕ) → Type 0
-Said text before now faults later = Added text before now ⊎ (WroteFront text before now × Rose faults later)
+Said text before now faults later = Added text before now ⊎ (AddedFront text before now × Rose faults later)
 
 -- where the input was served to its end or up to what stops it, all of the output was written
 abbrev pub Ended : Ending → (output : List ℕ) → (stop : Option TapeStop) → (before now : Option (List ℕ)) → Type 0

@@ -6,15 +6,15 @@ ghost use Rattle.quick_commands.specs.Generated.{most_tasks};
 ghost use Rattle.quick_commands.specs.Summary.{summary_lines};
 ghost use Rattle.quick_commands.specs.Works.{PrintEnds, WorkEnds, ending_of};
 
+use crate::fault::WorkError;
+use crate::summary::Summary;
+use crate::work::work;
 use cluster_core::size::HistorySize;
 use command_words::ending::Ending;
 use disk_model::disk::Disk;
 use edges::sink::{Sink, write_all};
 use load_schemes::chooser::Chooser;
 use std::alloc::Global;
-use crate::fault::WorkError;
-use crate::summary::Summary;
-use crate::work::work;
 
 /// Writes the lines of a summary, and says how that ended.
 fn print<K: Sink>(alloc: Global, summary: &Summary, output: &mut K) -> Ending

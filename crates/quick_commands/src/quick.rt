@@ -5,7 +5,7 @@ ghost use Rattle.cluster_types.specs.Causes.{Rose};
 ghost use Rattle.command_words.specs.Lines.{status, line};
 ghost use Rattle.command_words.specs.Reading.{reading, IsInRange};
 ghost use Rattle.disk_model.specs.Crashes.{LeavesOnly};
-ghost use Rattle.quick_commands.specs.Commands.{Ends, HasDatabase, MayLeaveOf, OnlyLooks, Unread, Says};
+ghost use Rattle.quick_commands.specs.Commands.{Ends, HasDatabase, IsTold, MayLeaveOf, OnlyLooks, Unread, Says};
 ghost use Rattle.task_journal.specs.Reads.{OnlyReads};
 ghost use Rattle.database_text.specs.Texts.{Told};
 
@@ -100,7 +100,7 @@ pub fn quick<S: Source, K: Sink, E: Sink, D: Disk>(
     // Where the words have no reading, nothing is written to the output, and the disk is as it was.
     ensures unread { reading words.now ≡ None → ((result.0 ≡ 2) ⊎ (result.0 ≡ 8)) × (K.written output.new ≡ K.written output.old) × (result.1 ≡ disk) }
     // Else the status is that of an end that the command may come to, and the line of this end is written to the errors.
-    ensures ended { IfSome (reading words.now) (λ c. (e : Ending) × (result.0 ≡ status e) × Says e (E.written errors.old) (E.written errors.new) (E.faults errors.old) (E.faults errors.new) × Ends D.tells (D.content disk) (S.left input.old) (S.left input.new) (K.written output.old) (K.written output.new) (D.image disk) (D.image result.1) c e) }
+    ensures ended { IfSome (reading words.now) (λ c. IsTold E.Sink errors.old errors.new result.0 (λ e. Ends D.tells (D.content disk) (S.left input.old) (S.left input.new) (K.written output.old) (K.written output.new) (D.image disk) (D.image result.1) c e)) }
     // What a crash at any moment of the call may leave of the disk of a database.
     ensures any_moment { D.tells → IfSome (reading words.now) (λ c. HasDatabase c → Told (S.left input.old) (λ octets. LeavesOnly D.moment D.image_since disk result.1 (MayLeaveOf c (D.content disk) octets (D.image disk)))) }
     ensures looks { IfSome (reading words.now) (λ c. OnlyLooks c → OnlyReads D.content D.image D.moment D.image_since D.faults disk result.1) }

@@ -10,7 +10,7 @@ use cluster_types::config::Channel;
 use cluster_types::octets::Octets;
 use cluster_types::shared_message::SharedMessage;
 use hmac_sign::Key;
-use jupyter_parts::write::write_signed;
+use jupyter_parts::write::write_untargeted;
 use std::alloc::{AllocError, Global};
 use std::collections::VecDeque;
 use tape::record::{TapeKind, TapeRecord};
@@ -56,15 +56,7 @@ fn sent(
     requires target { message.now.target ≡ [] }
     ensures { IfOk result (λ r. r ≡ sent conn message.now) }
 {
-    let frames = write_signed(
-        alloc,
-        key,
-        message.header(),
-        message.parent(),
-        message.metadata(),
-        message.content(),
-        message.buffers(),
-    )?;
+    let frames = write_untargeted(alloc, message, key)?;
     Ok(at_zero(TapeKind::Message { conn, frames }))
 }
 

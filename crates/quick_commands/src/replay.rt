@@ -4,13 +4,13 @@ ghost use Rattle.std.specs.Prelude.{◌≡◌, ◌≢◌, ◌≤◌, ◌<◌, �
 ghost use Rattle.std.specs.Option.{unwrap_or};
 ghost use Rattle.cluster_types.specs.Causes.{Rose};
 ghost use Rattle.disk_model.specs.Crashes.{LeavesOnly};
-ghost use Rattle.edges.specs.Streams.{Added, IsAtEnd};
+ghost use Rattle.edges.specs.Streams.{Added, IsAtEnd, AddedFront};
 ghost use Rattle.tape.specs.Spelling.{Fits, all_spelled};
 ghost use Rattle.tape.specs.Tape.{blank, tape_after, records};
 ghost use Rattle.tape_drive.specs.Drive.{served, outs, outputs, stand_at, drive_output, drive_stop, drive_stand};
 ghost use Rattle.tape_drive.specs.Served.{Comes, HoldsSome, IsTouched};
 ghost use Rattle.quick_commands.specs.Replays.{IsServed, ReplayEnds, MayLeave};
-ghost use Rattle.database_text.specs.Texts.{WroteFront, Told};
+ghost use Rattle.database_text.specs.Texts.{Told};
 ghost use Rattle.quick_commands.specs.Written.{Ended, IsWhole, IsOfTape, ending_at};
 ghost use Rattle.quick_commands.specs.Serving.{is_disk_failure, ending_of};
 
@@ -55,7 +55,7 @@ impl From<AllocError> for ServeError {
 /// Writes all of these octets, or a front of them.
 fn put<K: Sink>(output: &mut K, octets: &[u8]) -> Result<(), ServeError>
     ensures ok { OnOk result (Added octets.now (K.written output.old) (K.written output.new)) }
-    ensures front { WroteFront octets.now (K.written output.old) (K.written output.new) }
+    ensures front { AddedFront octets.now (K.written output.old) (K.written output.new) }
     ensures only { is_disk_failure result ≡ false }
     ensures cause { result ≡ Err ServeError.WriteFailed → Rose (K.faults output.old) (K.faults output.new) }
     ensures later { K.faults output.old ≤ K.faults output.new }

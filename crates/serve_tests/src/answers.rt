@@ -10,6 +10,7 @@ use crate::controller::{
     new_desk, new_gate, new_key, port_of,
 };
 use crate::gate::{CountGate, Step};
+use cluster_store::taken::Taken;
 use cluster_types::config::Channel;
 use cluster_types::out::Out;
 use cluster_types::sequence::Sequence;
@@ -21,7 +22,6 @@ use controller_threads::ports::Ports;
 use controller_threads::serving::serve;
 use controller_threads::shared::Serving;
 use history_lock::lock::Pass;
-use cluster_store::taken::Taken;
 use std::alloc::Global;
 use std::process::Abort;
 use std::sync::{Arc, Wait};

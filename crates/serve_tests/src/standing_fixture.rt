@@ -11,9 +11,12 @@ use controller_desk::locked::Locked;
 use controller_threads::ports::Ports;
 use disk_model::memory::MemDisk;
 use edges::memory::{MemSink, MemSource};
+use link_commands::host::Host;
 use load_schemes::chooser::{Choose, Chooser};
 use load_schemes::place::place_of;
+use session_threads::context::TypesOf;
 use standing_commands::shown::Shown;
+use standing_commands::site::Site;
 use standing_commands::standing::standing;
 use std::alloc::Global;
 use std::process::Abort;
@@ -143,20 +146,25 @@ pub fn stood<R: Wait + Clock + Abort + Drop + Copy + Send + Sync + 'static, H: T
     let mut dialer = MemDialer::new(alloc, links, &[]).expect(&rt, "memory is ample");
     let mut output = MemSink::new(alloc, &[]).expect(&rt, "memory is ample");
     let mut errors = MemSink::new(alloc, &[]).expect(&rt, "memory is ample");
-    let (status, shown) = standing(
-        rt,
-        alloc,
-        &words_of(&rt, alloc, line),
+    let site = Site::<_, TypesOf<MemDisk, ListClock, ListWords, EventGate<R>, R>> {
         ports,
-        &mut dialer,
         disk,
-        ListClock::new(alloc, &[7]).expect(&rt, "memory is ample"),
-        ListWords::new(alloc, &[0, 0]).expect(&rt, "memory is ample"),
-        &mut spawner,
         gate,
+        chooser: new_chooser(&rt, alloc),
+        host: Host {
+            rt,
+            alloc,
+            clock: ListClock::new(alloc, &[7]).expect(&rt, "memory is ample"),
+            words: ListWords::new(alloc, &[0, 0]).expect(&rt, "memory is ample"),
+        },
+    };
+    let (status, shown) = standing(
+        site,
+        &words_of(&rt, alloc, line),
+        &mut dialer,
+        &mut spawner,
         &mut output,
         &mut errors,
-        new_chooser(&rt, alloc),
     );
     Outcome {
         status,

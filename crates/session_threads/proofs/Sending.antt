@@ -1,8 +1,7 @@
 -- Outs that were taken, and octets that were written.
 use Rattle.std.proofs.Common.{ℕ, List, [], ◌++◌, Option, subst}
-use Rattle.edges.specs.Streams.{Added}
+use Rattle.edges.specs.Streams.{Added, AddedFront}
 use Rattle.history_lock.specs.declared.known.View.{View}
-use Rattle.link_messages.specs.Written.{AddedFront}
 use Rattle.session_threads.specs.Writing.{Took, WritesFront, WritesWhole}
 use Rattle.session_threads.proofs.Taking.{took_none, took_more, took_outs}
 use Rattle.edges.proofs.Additions.{added_both, added_none}

@@ -4,12 +4,11 @@ use Rattle.std.specs.List.{flat_map}
 use Rattle.cluster_types.specs.declared.out.Out.{Out}
 use Rattle.cluster_defs.specs.Outs.{outs_to}
 use Rattle.cluster_store.specs.Stores.{is_live}
-use Rattle.edges.specs.Streams.{Added}
+use Rattle.edges.specs.Streams.{Added, AddedFront}
 use Rattle.history_lock.specs.declared.known.Content.{Content}
 use Rattle.history_lock.specs.declared.known.View.{View}
 use Rattle.history_lock.specs.History.{Extends}
 use Rattle.link_messages.specs.Outs.{octets_of}
-use Rattle.link_messages.specs.Written.{AddedFront}
 use Rattle.controller_desk.specs.Contents.{taken_seen}
 
 -- TAKES

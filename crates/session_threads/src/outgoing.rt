@@ -7,10 +7,10 @@ ghost use Rattle.session_threads.specs.Writing.{Took, TookSome, HasNoMore};
 ghost use Rattle.link_messages.specs.Outs.{octets_of};
 
 use crate::context::{PassOf, SessionContext, SessionTypes};
+use cluster_store::taken::Taken;
 use cluster_types::out::Out;
 use hmac_sign::Key;
 use link_messages::outs::out_octets;
-use cluster_store::taken::Taken;
 use std::alloc::{AllocError, Global};
 
 /// A batch takes no further out once it has so many octets.

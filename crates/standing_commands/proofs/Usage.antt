@@ -9,13 +9,13 @@ use Rattle.command_words.specs.declared.standing.StandingCommand.{StandingComman
 use Rattle.command_words.specs.declared.standing.StandingCommand.TheVariants.{Serve, Engine, Client}
 use Rattle.controller_threads.specs.declared.end.ServeEnd.{ServeEnd}
 use Rattle.controller_threads.specs.declared.end.ServeEnd.TheVariants as serves
-use Rattle.link_commands.specs.Links.{Tells}
+use Rattle.link_commands.specs.Links.{Dials, Prints}
 use Rattle.link_commands.specs.declared.client.ClientEnd.{ClientEnd}
 use Rattle.link_commands.specs.declared.client.ClientEnd.TheVariants as clients
 use Rattle.link_commands.specs.declared.engine.EngineEnd.{EngineEnd}
 use Rattle.link_commands.specs.declared.engine.EngineEnd.TheVariants as engines
 use Rattle.quick_commands.specs.Written.{ending_of_refusal}
-use Rattle.standing_commands.specs.Commands.{By, Counted, Linked, Output, Telling}
+use Rattle.standing_commands.specs.Commands.{By, Serves}
 use Rattle.standing_commands.specs.Links.{engine_shown, client_shown}
 use Rattle.standing_commands.specs.Serving.{shown_end}
 use Rattle.standing_commands.specs.declared.shown.Shown.{Shown}
@@ -71,10 +71,10 @@ refusal_not refusals.DiskFault is = cc
 refusal_not refusals.OutOfMemory is = cc
 
 -- no command ends so
-pub by_not_usage : {P I O D K T A B : Type 0} (tells : Type 0) (image : D → List ℕ → Type 0) (told : Telling D K P A B) (disk : D) (starts : Counted) (link : Tells I O) (links : Linked I O) (no_link : Type 0) (coming : Option (List ℕ)) (output : Output) (no_output : Type 0) (c : StandingCommand) (result : StandingEnding × Shown P I O D K T) →
-    By tells image told disk starts link links no_link coming output no_output c result → result.0 ≡ Plain Usage → ⊥
-by_not_usage tells image told disk starts link links no_link coming output no_output (Serve host port database options) result (same, still, inl none) is = (let first : result.0 ≡ Plain OutOfMemory = ap (λ r. r.0) none in cc)
-by_not_usage tells image told disk starts link links no_link coming output no_output (Serve host port database options) result (same, still, inr (inl unopened)) is = refusal_not unopened.why (sym (ap (λ r. r.0) unopened.is) ∙ is)
-by_not_usage tells image told disk starts link links no_link coming output no_output (Serve host port database options) result (same, still, inr (inr (start, begun, over))) is = serve_not _ _ _ over.desk over.end (sym (ap (λ r. r.0) over.is) ∙ is)
-by_not_usage tells image told disk starts link links no_link coming output no_output (Engine host port uuid key) result (same, still, (end, ends, shown)) is = engine_not _ _ _ _ end (sym (ap (λ r. r.0) shown) ∙ is)
-by_not_usage tells image told disk starts link links no_link coming output no_output (Client host port action key) result (still, (end, later, ends, shown)) is = client_not _ _ _ _ end (sym (ap (λ r. r.0) shown) ∙ is)
+pub by_not_usage : {P I O D K T A B : Type 0} (on : Serves D K P A B) (links : Dials I O) (coming : Option (List ℕ)) (output : Prints) (c : StandingCommand) (result : StandingEnding × Shown P I O D K T) →
+    By on links coming output c result → result.0 ≡ Plain Usage → ⊥
+by_not_usage on links coming output (Serve host port database options) result (same, still, inl none) is = (let first : result.0 ≡ Plain OutOfMemory = ap (λ r. r.0) none in cc)
+by_not_usage on links coming output (Serve host port database options) result (same, still, inr (inl unopened)) is = refusal_not unopened.why (sym (ap (λ r. r.0) unopened.is) ∙ is)
+by_not_usage on links coming output (Serve host port database options) result (same, still, inr (inr (start, begun, over))) is = serve_not _ _ _ over.desk over.end (sym (ap (λ r. r.0) over.is) ∙ is)
+by_not_usage on links coming output (Engine host port uuid key) result (same, still, (end, ends, shown)) is = engine_not _ _ _ _ end (sym (ap (λ r. r.0) shown) ∙ is)
+by_not_usage on links coming output (Client host port action key) result (still, (end, later, ends, shown)) is = client_not _ _ _ _ end (sym (ap (λ r. r.0) shown) ∙ is)

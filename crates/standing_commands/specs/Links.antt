@@ -5,9 +5,9 @@ use Rattle.command_words.specs.declared.ending.StandingEnding.{StandingEnding}
 use Rattle.command_words.specs.declared.ending.StandingEnding.TheVariants as endings
 use Rattle.command_words.specs.declared.standing.Action.{Action}
 use Rattle.link_commands.specs.Actions.{IsRequest}
-use Rattle.link_commands.specs.ClientEnds.{ClientEnds, IsPrinted}
+use Rattle.link_commands.specs.ClientEnds.{ClientEnds}
 use Rattle.link_commands.specs.EngineEnds.{EngineEnds}
-use Rattle.link_commands.specs.Links.{Tells, IsDialled}
+use Rattle.link_commands.specs.Links.{Dials, Prints}
 use Rattle.link_commands.specs.declared.client.ClientEnd.{ClientEnd}
 use Rattle.link_commands.specs.declared.client.ClientEnd.TheVariants as clients
 use Rattle.link_commands.specs.declared.engine.EngineEnd.{EngineEnd}
@@ -34,13 +34,11 @@ client_shown clients.NotDialled = (endings.LinkFault, Nothing)
 client_shown clients.OutputFault = (endings.Plain plain.WriteFault, Nothing)
 client_shown clients.OutOfMemory = (endings.Plain plain.OutOfMemory, Nothing)
 
--- an engine worked over a dialler whose links were these, and are these now, until an end with its cause, which is shown
-abbrev pub WorksAs : {P I O D K T : Type 0} → Tells I O → (key uuid : List ℕ) → (old new : Option (List (I × O))) → (no_link : Type 0) → StandingEnding × Shown P I O D K T → Type 0
-WorksAs {P} {I} {O} tells key uuid old new no_link shown =
-    (end : EngineEnd I O) × EngineEnds tells key uuid (IsDialled tells old new) no_link end × (shown ≡ engine_shown end)
+-- an engine worked over a dialler, until an end with its cause, which is shown
+abbrev pub WorksAs : {P I O D K T : Type 0} → Dials I O → (key uuid : List ℕ) → StandingEnding × Shown P I O D K T → Type 0
+WorksAs {P} {I} {O} links key uuid shown = (end : EngineEnd I O) × EngineEnds links key uuid end × (shown ≡ engine_shown end)
 
 -- a client asked for an action under the next random words, until an end with its cause, which is shown
-abbrev pub AsksAs : {P I O D K T : Type 0} → Tells I O → (key : List ℕ) → Action → (coming : Option (List ℕ)) → (old new : Option (List (I × O))) → (no_link : Type 0) → (before now : Option (List ℕ)) → (no_output : Type 0) → StandingEnding × Shown P I O D K T → Type 0
-AsksAs {P} {I} {O} tells key action coming old new no_link before now no_output shown =
-    (end : ClientEnd I O) × (later : Option (List ℕ)) ×
-    ClientEnds tells key (IsRequest action coming later) (IsDialled tells old new) (λ answer. IsPrinted answer before now) no_link no_output end × (shown ≡ client_shown end)
+abbrev pub AsksAs : {P I O D K T : Type 0} → Dials I O → (key : List ℕ) → Action → (coming : Option (List ℕ)) → Prints → StandingEnding × Shown P I O D K T → Type 0
+AsksAs {P} {I} {O} links key action coming output shown =
+    (end : ClientEnd I O) × (later : Option (List ℕ)) × ClientEnds links key (IsRequest action coming later) output end × (shown ≡ client_shown end)

@@ -6,4 +6,5 @@ pub mod errors;
 mod links;
 mod serving;
 pub mod shown;
+pub mod site;
 pub mod standing;

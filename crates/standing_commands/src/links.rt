@@ -1,8 +1,8 @@
 //! The commands over a link to a controller.
 
 ghost use Rattle.std.specs.Prelude.{◌≡◌, true};
-ghost use Rattle.cluster_types.specs.Causes.{Rose};
 ghost use Rattle.engine_core.specs.State.{is_uuid};
+ghost use Rattle.link_commands.specs.Links.{dials, prints};
 ghost use Rattle.standing_commands.specs.Links.{engine_shown, client_shown, WorksAs, AsksAs};
 
 use crate::shown::Shown;
@@ -14,7 +14,7 @@ use edges::sink::Sink;
 use hmac_sign::Key;
 use link_commands::client::{ClientEnd, run_client};
 use link_commands::engine::{EngineEnd, run_engine};
-use std::alloc::Global;
+use link_commands::host::Host;
 use std::sync::Wait;
 use thread_edges::clock::Clock;
 use thread_edges::links::Dialer;
@@ -67,40 +67,37 @@ fn client_shown<P, I, O, D, K, T>(end: ClientEnd<I, O>) -> (StandingEnding, Show
 }
 
 /// Works for a controller as an engine.
-pub fn work<P, D, K, T, R: Wait, N: Dialer, C: Clock>(
-    rt: &R,
-    alloc: Global,
+pub fn work<P, D, K, T, R: Wait + Drop, N: Dialer, C: Clock + Drop, W: Drop>(
+    host: Host<R, C, W>,
     uuid: &Text,
     key: &Octets,
     dialer: &mut N,
-    clock: &mut C,
 ) -> (StandingEnding, Shown<P, N::In, N::Out, D, K, T>)
     requires { is_uuid uuid.now ≡ true }
-    ensures { WorksAs (record { left = N.In.left; reads = N.In.faults; written = N.Out.written; writes = N.Out.faults }) key.now uuid.now (N.links dialer.old) (N.links dialer.new) (Rose (N.faults dialer.old) (N.faults dialer.new)) result }
+    ensures { WorksAs (dials N.Dialer N.In.Source N.Out.Sink dialer.old dialer.new) key.now uuid.now result }
 {
-    let Ok(key) = Key::new(alloc, key.as_slice()) else {
+    let mut host = host;
+    let Ok(key) = Key::new(host.alloc, key.as_slice()) else {
         return engine_shown(EngineEnd::OutOfMemory);
     };
-    let end = run_engine(rt, alloc, uuid.as_str(), &key, dialer, clock);
+    let end = run_engine(&mut host, uuid.as_str(), &key, dialer);
     engine_shown(end)
 }
 
 /// Asks a controller for something, and prints its answer.
-pub fn ask<P, D, T, F, R: Wait, N: Dialer, C: Clock, W: Words, K: Sink>(
-    rt: &R,
-    alloc: Global,
+pub fn ask<P, D, T, F, R: Wait + Drop, N: Dialer, C: Clock + Drop, W: Words + Drop, K: Sink>(
+    host: Host<R, C, W>,
     action: &Action,
     key: &Octets,
     dialer: &mut N,
-    clock: &mut C,
-    words: &mut W,
     output: &mut K,
 ) -> (StandingEnding, Shown<P, N::In, N::Out, D, F, T>)
-    ensures { AsksAs (record { left = N.In.left; reads = N.In.faults; written = N.Out.written; writes = N.Out.faults }) key.now action.now (W.coming words.old) (N.links dialer.old) (N.links dialer.new) (Rose (N.faults dialer.old) (N.faults dialer.new)) (K.written output.old) (K.written output.new) (Rose (K.faults output.old) (K.faults output.new)) result }
+    ensures { AsksAs (dials N.Dialer N.In.Source N.Out.Sink dialer.old dialer.new) key.now action.now (W.coming host.words) (prints K.Sink output.old output.new) result }
 {
-    let Ok(key) = Key::new(alloc, key.as_slice()) else {
+    let mut host = host;
+    let Ok(key) = Key::new(host.alloc, key.as_slice()) else {
         return client_shown(ClientEnd::OutOfMemory);
     };
-    let end = run_client(rt, alloc, action, &key, dialer, clock, words, output);
+    let end = run_client(&mut host, action, &key, dialer, output);
     client_shown(end)
 }

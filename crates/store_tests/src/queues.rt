@@ -3,10 +3,10 @@
 ghost use Rattle.std.specs.Prelude.{◌≡◌};
 
 use crate::stores::{Answer, is_answer};
+use cluster_store::queues::Queues;
 use cluster_types::out::{Out, Outs};
 use cluster_types::sequence::Sequence;
 use cluster_types::shared_message::SharedMessage;
-use cluster_store::queues::Queues;
 use std::alloc::Global;
 use std::process::Abort;
 

@@ -5,10 +5,10 @@ ghost use Rattle.cluster_defs.specs.Scheduling.{verdict_at, verdict, ready_for, 
 ghost use Rattle.place_sets.specs.Sets.{holds_at};
 ghost use Rattle.task_table.specs.Standing.{alone, final_at, direct_at, runs_open};
 
+use crate::attempts::{is_never, runs};
 use crate::task::Task;
 use cluster_defs::attempt::Attempt;
 use cluster_types::verdict::{Cause, Verdict};
-use crate::attempts::{is_never, runs};
 
 /// The verdict and cause that the last attempt leads to, where no retry is left or one is.
 fn verdict_at(over: bool, attempt: Attempt) -> Option<(Verdict, Cause)>

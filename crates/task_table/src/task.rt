@@ -6,6 +6,7 @@ ghost use Rattle.cluster_types.specs.declared.record.Record.{Record as RecordTyp
 ghost use Rattle.task_table.specs.Seen.{begun, attempted, handed_to, ended_on, lost_all, replied_with, settled_with, purged_out, on_unsettled};
 ghost use Rattle.task_table.specs.Places.{IsSame};
 
+use crate::attempts::{Attempts, engine_of, runs, runs_at};
 use cluster_defs::attempt::Ending;
 use cluster_defs::request::WholeRequest;
 use cluster_defs::settled::Settled;
@@ -15,7 +16,6 @@ use cluster_types::text::Text;
 use cluster_types::verdict::{Cause, Verdict};
 use std::alloc::{AllocError, Global};
 use std::marker::Model;
-use crate::attempts::{Attempts, engine_of, runs, runs_at};
 
 /// A task, which contracts see as all that a history says of its id.
 #[derive(Debug)]

@@ -9,6 +9,7 @@ ghost use Rattle.task_table.specs.Live.{live_of};
 ghost use Rattle.task_table.specs.Waiting.{settled_in};
 ghost use Rattle.task_table.specs.Fitting.{among, hopeless_as, hopeless};
 
+use crate::attempts::Attempts;
 use crate::live::{Live, is_live};
 use crate::standing::rests;
 use crate::table::Table;
@@ -19,7 +20,6 @@ use cluster_types::text::Text;
 use dependency_sets::dependencies::{is_asked, is_empty, is_unreachable};
 use dependency_sets::finished::Finished;
 use dependency_sets::following::is_scattered;
-use crate::attempts::Attempts;
 
 /// Whether an engine declined the task of these attempts.
 pub fn is_excluded(attempts: &Attempts, engine: u32) -> bool

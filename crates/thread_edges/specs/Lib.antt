@@ -1,4 +1,3 @@
 pub mod Links
 pub mod Series
 pub mod Starts
-pub mod Words

@@ -3,10 +3,10 @@
 ghost use Rattle.std.specs.Prelude.{◌≡◌, ◌≤◌, ◌+◌, ◌*◌, ◌%◌, ◌^◌, IfSome, None};
 ghost use Rattle.cluster_types.specs.Limits.{last_moment};
 ghost use Rattle.thread_edges.specs.Series.{Draws};
-ghost use Rattle.thread_edges.specs.Words.{next_word};
 
 use crate::clock::Clock;
 use crate::words::Words;
+use cluster_types::chance::next_word;
 use edges::date::Moment;
 use std::random::RandomSource;
 use std::time;
@@ -63,14 +63,6 @@ impl<R: time::Clock> Clock for SystemClock<R> {
     }
 }
 
-/// The word that follows this one where the system gives none.
-fn word_after(word: u64) -> u64
-    ensures { result ≡ next_word word }
-{
-    word.wrapping_mul(6_364_136_223_846_793_005)
-        .wrapping_add(1_442_695_040_888_963_407)
-}
-
 /// The system's random words. Where the system gives none, the word that follows the last one.
 #[derive(Drop)]
 pub struct OsWords<R> {
@@ -99,7 +91,7 @@ impl<R: RandomSource> Words for OsWords<R> {
         let mut octets = [0u8; 8];
         self.last = match self.rt.fill_bytes(&mut octets) {
             Ok(()) => u64::from_le_bytes(octets),
-            Err(_) => word_after(self.last),
+            Err(_) => next_word(self.last),
         };
         self.last
     }

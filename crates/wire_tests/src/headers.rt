@@ -1,6 +1,10 @@
 //! The readers over worked texts.
 
 use crate::tables::{ids, text};
+use cluster_defs::content::{HubContent, ReplyMeta, SubmitMeta};
+use cluster_defs::fault::ReadError;
+use cluster_defs::header::Header;
+use cluster_defs::hub_request::RequestType;
 use cluster_types::message::Ids;
 use cluster_types::octets::Octets;
 use cluster_types::text::Text;
@@ -12,10 +16,6 @@ use jupyter_header::kinds::{reply_type, request_of};
 use jupyter_header::reply::read_reply;
 use jupyter_header::submit::read_submit;
 use jupyter_header::write::{made_header, resubmit_header};
-use cluster_defs::content::{HubContent, ReplyMeta, SubmitMeta};
-use cluster_defs::fault::ReadError;
-use cluster_defs::header::Header;
-use cluster_defs::hub_request::RequestType;
 use std::alloc::Global;
 use std::process::Abort;
 

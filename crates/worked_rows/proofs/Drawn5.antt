@@ -26,7 +26,7 @@ use Rattle.cluster_defs.specs.Hub.{request_of, read_content}
 use Rattle.cluster_defs.specs.Header.{read_header}
 use Rattle.cluster_defs.specs.Texts.{answer_id, beat_id, beat_request, outcome_id, resubmit_id, header_text, reply_type, submit_refused, empty_object, ok_content, join_content, beat_content, error_content, outcome_content, resubmit_content, connection_content, history_content, queue_member, queue_content, settled_member, result_content}
 use Rattle.cluster_defs.specs.Acceptance.{no_dependency, reserved_front}
-use Rattle.cluster_defs.specs.Steps.{next_word}
+use Rattle.cluster_types.specs.Chance.{next_word}
 use Rattle.cluster_defs.specs.Histories.{Legal}
 use Rattle.worked_rows.proofs.Told.{Line, line, decision, message, dep, submission, IsTold, goes_on, told_legal}
 

@@ -11,7 +11,7 @@ use Rattle.cluster_defs.specs.Engines.{joining}
 use Rattle.cluster_defs.specs.Queries.{refusal, limited}
 use Rattle.cluster_defs.specs.Connections.{highest}
 use Rattle.cluster_defs.specs.Scheduling.{pick}
-use Rattle.cluster_defs.specs.Steps.{next_word}
+use Rattle.cluster_types.specs.Chance.{next_word}
 
 abbrev loads : List ℕ
 loads = 2 ∷ 1 ∷ 1 ∷ []

@@ -3,8 +3,7 @@ use Rattle.task_journal.specs.declared.cursor.Placed.{Placed}
 use Rattle.task_journal.specs.Cursor.{IsOn, Advances}
 use Rattle.task_journal.proofs.Calls.{reads_joined}
 use Rattle.database_text.proofs.Giving.{halfway_begins, halfway_next, halfway_put, halfway_front, halfway_broken, halfway_ended, halfway_ends}
-use Rattle.edges.specs.Streams.{Added}
-use Rattle.database_text.specs.Texts.{WroteFront}
+use Rattle.edges.specs.Streams.{Added, AddedFront}
 use Rattle.database_text.proofs.Fronts.{front_all}
 use Rattle.database_text.proofs.dump.put_lines.Goals as goal
 
@@ -50,7 +49,7 @@ returns-in_err-put_entry-clause-front g c = λ told whole stands.
 
 pub returns-in_err-put-clause-front : goal.returns-in_err-put-clause-front
 returns-in_err-put-clause-front g c = λ told whole stands.
-    let front = subst (λ (xs : List ℕ). WroteFront xs (g.K.Sink.written c.loop-cursor.output) (g.K.Sink.written c.put.new.output)) c.as_slice.ensures.value c.in_err-put.ensures.err in
+    let front = subst (λ (xs : List ℕ). AddedFront xs (g.K.Sink.written c.loop-cursor.output) (g.K.Sink.written c.put.new.output)) c.as_slice.ensures.value c.in_err-put.ensures.err in
     halfway_broken c.loop-cursor.invariant.halfway (g.K.Sink.written c.put.new.output) front told whole stands
 
 pub returns-clause-front : goal.returns-clause-front

@@ -1,6 +1,5 @@
 use Rattle.std.proofs.Common.{List, ℕ, subst, arith}
-use Rattle.edges.specs.Streams.{Added}
-use Rattle.link_messages.specs.Written.{AddedFront}
+use Rattle.edges.specs.Streams.{Added, AddedFront}
 use Rattle.link_commands.proofs.WorkingPieces.{some_here, some_next, all_next}
 use Rattle.link_commands.proofs.answering.answer_all.Goals as goal
 use Rattle.cluster_types.proofs.Options.{at_err}

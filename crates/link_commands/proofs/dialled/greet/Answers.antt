@@ -1,7 +1,6 @@
 use Rattle.std.proofs.Common.{List, ℕ, subst, ap}
 use Rattle.cluster_types.proofs.Options.{at_err}
-use Rattle.edges.specs.Streams.{Added}
-use Rattle.link_messages.specs.Written.{AddedFront}
+use Rattle.edges.specs.Streams.{Added, AddedFront}
 use Rattle.zmtp_peer.specs.PeerStream.{Held}
 use Rattle.link_commands.proofs.dialled.greet.Goals as goal
 

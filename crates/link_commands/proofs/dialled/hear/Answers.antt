@@ -1,7 +1,6 @@
 use Rattle.std.proofs.Common.{List, ℕ, subst, ◌∙◌}
 use Rattle.cluster_types.proofs.Options.{at_err}
-use Rattle.edges.specs.Streams.{Added}
-use Rattle.link_messages.specs.Written.{AddedFront}
+use Rattle.edges.specs.Streams.{Added, AddedFront}
 use Rattle.link_messages.proofs.Fronts.{front_none}
 use Rattle.link_commands.proofs.dialled.hear.Goals as goal
 

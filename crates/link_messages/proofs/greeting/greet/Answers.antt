@@ -1,7 +1,7 @@
 use Rattle.std.proofs.Common.{◌≡◌, ◌∙◌, List, ℕ, Some, Ok, Err, sym, ap, subst, arith}
 use Rattle.zmtp_peer.specs.PeerStream.{Talk, fault_of}
 use Rattle.link_messages.specs.declared.end.SessionEnd.TheVariants.{ZmtpFault}
-use Rattle.link_messages.specs.Written.{AddedFront}
+use Rattle.edges.specs.Streams.{AddedFront}
 use Rattle.link_messages.proofs.Shaking.{Shaking, greeting_front, shaking_on, shaking_front, shaking_refused, shaking_done}
 use Rattle.link_messages.proofs.greeting.greet.Goals as goal
 use Rattle.cluster_types.proofs.Options.{at_err}

@@ -1,6 +1,5 @@
 use Rattle.std.proofs.Common.{◌∙◌, List, ℕ, refl, subst, arith, le_refl}
-use Rattle.edges.specs.Streams.{Added}
-use Rattle.link_messages.specs.Written.{AddedFront}
+use Rattle.edges.specs.Streams.{Added, AddedFront}
 use Rattle.session_threads.proofs.Sending.{sent_none, sent_more, whole, front_now, front_more}
 use Rattle.session_threads.proofs.writing.write_session.Goals as goal
 use Rattle.link_messages.proofs.Fronts.{front_none}

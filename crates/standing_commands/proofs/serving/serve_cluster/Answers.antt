@@ -30,6 +30,6 @@ returns-in-Err g c =
       is = ap (λ (e : Ending). (Plain e, Disk c.in-Err.field-0.disk)) c.ending_of_refusal.ensures;
       refused = λ tells. c.in-Err.ensures.refused tells;
       spared = λ tells. c.in-Err.ensures.spared tells;
-      exits = λ tells. subst (λ (config : Config). Exits (g.D.Disk.image c.args.disk) (g.D.Disk.content c.args.disk) config c.now-moment.result.millis (g.D.Disk.image c.in-Err.field-0.disk)) c.config_of.ensures.config (c.in-Err.ensures.exits tells);
+      exits = λ tells. subst (λ (config : Config). Exits (g.T.Disk.Disk.image c.args.site.disk) (g.T.Disk.Disk.content c.args.site.disk) config c.now-moment.result.millis (g.T.Disk.Disk.image c.in-Err.field-0.disk)) c.config_of.ensures.config (c.in-Err.ensures.exits tells);
       cause = λ fault. c.in-Err.ensures.cause fault;
     }))

@@ -1,7 +1,8 @@
-use Rattle.cluster_types.specs.Causes.{Rose}
+use Rattle.std.proofs.Common.{refl}
 use Rattle.command_words.specs.Standing.{standing_reading}
-use Rattle.standing_commands.specs.Commands.{By}
-use Rattle.standing_commands.specs.Serving.{lock_of, no_memory}
+use Rattle.link_commands.specs.Links.{dials, prints}
+use Rattle.standing_commands.specs.Commands.{By, serves}
+use Rattle.standing_commands.specs.Serving.{no_memory}
 use Rattle.standing_commands.proofs.Ranges.{reading_in}
 use Rattle.standing_commands.proofs.Memory.{memory_by}
 use Rattle.standing_commands.proofs.standing.run.Goals as goal
@@ -12,5 +13,5 @@ obey-requires-after_bounds g c κs bounds = reading_in c.args.words.now c.in-Ok.
 
 pub returns-clause-ended : goal.returns-clause-ended
 returns-clause-ended g c =
-    some_all (standing_reading c.args.words.now) (λ k. By g.D.Disk.tells g.D.Disk.image (record { content = g.D.Disk.content; disk_faults = g.D.Disk.faults; lock = lock_of; links = g.L.Listener.links; port_faults = g.L.Listener.faults }) c.args.disk (record { before = c.args.spawner.now.faults; now = c.args.spawner.now.faults }) (record { left = g.N.In.Source.left; reads = g.N.In.Source.faults; written = g.N.Out.Sink.written; writes = g.N.Out.Sink.faults }) (record { before = g.N.Dialer.links c.args.dialer.now; now = g.N.Dialer.links c.args.dialer.now }) (Rose (g.N.Dialer.faults c.args.dialer.now) (g.N.Dialer.faults c.args.dialer.now)) (g.W.Words.coming c.args.random) (record { before = g.K.Sink.written c.args.output.now; now = g.K.Sink.written c.args.output.now }) (Rose (g.K.Sink.faults c.args.output.now) (g.K.Sink.faults c.args.output.now)) k no_memory)
-    (λ k. memory_by _ _ _ _ _ _ _ _ _ _ _ _ k)
+    some_all (standing_reading c.args.words.now) (λ k. By (serves g.T.Disk.Disk g.L.Listener c.args.site.disk c.args.spawner.now c.args.spawner.now) (dials g.N.Dialer g.N.In.Source g.N.Out.Sink c.args.dialer.now c.args.dialer.now) (g.T.Words.Words.coming c.args.site.host.words) (prints g.K.Sink c.args.output.now c.args.output.now) k no_memory)
+    (λ k. memory_by _ _ _ _ _ k refl refl refl)
