@@ -1,4 +1,5 @@
-//! What a cluster is: definitions over histories, the small types that they speak of, and the laws that hold of them.
+//! What messages mean, and what a cluster is: definitions over texts and histories, the small types that they speak of, and the
+//! laws that hold of them.
 #![tactic(auto)]
 
 pub mod acceptance;

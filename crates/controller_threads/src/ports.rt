@@ -25,6 +25,7 @@ pub struct EndedPort<P: Port> {
 /// A port that has ended.
 pub fn ended_port<P: Port>(port: P) -> EndedPort<P>
     requires { HasNoLink P.links port }
+    ensures { result.port ≡ port }
 {
     EndedPort { port }
 }

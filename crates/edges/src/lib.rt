@@ -1,5 +1,5 @@
-//! The edges of the product: what it reads from and writes to, with counts of their faults, lists of
-//! frames, numbers in octets, and the text of a moment.
+//! The octets of the product: as they come from sources and go to sinks, with counts of their faults, in lists of frames, as
+//! fields of numbers and texts, and as the text of a moment.
 #![tactic(auto)]
 
 pub mod date;

@@ -1,4 +1,4 @@
-//! What crosses a link, as values: frames as a signed message, outs as octets, and the identity of a connection.
+//! What crosses a link: its handshake, signed messages as frames, outs as octets, and the identity of a connection.
 #![tactic(auto)]
 
 pub mod end;

@@ -1,5 +1,5 @@
-//! Tests of drives, of generated work that is served, and of the top call. They stand in a crate of their own since a
-//! crate that has tests is proved twice.
+//! Tests of expressions, engines and clients, of drives, of generated work, and of the top call of the commands that end by
+//! themselves. They stand in a crate of their own since a crate that has tests is proved twice.
 #![tactic(auto)]
 
 #[cfg(test)]

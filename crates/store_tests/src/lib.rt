@@ -1,4 +1,4 @@
-//! Tests of the core, of what messages are answered with, of histories without what purges let go, and of disks, journals,
+//! Tests of the state of a cluster, of its decisions, of the core, of histories without what purges let go, and of disks, journals,
 //! queues and the store. They stand in a crate of their own since a crate that has tests is proved twice.
 #![tactic(auto)]
 

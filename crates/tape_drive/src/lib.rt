@@ -1,4 +1,4 @@
-//! A tape of recorded connections, served record by record.
+//! A tape of recorded connections, served record by record, and the laws that hold of all that is sent for tapes over one file.
 #![tactic(auto)]
 
 pub mod bare;
