@@ -64,6 +64,15 @@ def test_what_was_under_way_is_lost_without_retries(own_cluster):
             it.get(LIMIT)
 
 
+def test_a_full_history_begins_anew():
+    """A controller ends once its history has 400 entries, of which a task takes four; the cluster starts it again."""
+    with yovkhan.Cluster(2, options=("--entries", "400")) as cluster:
+        first = cluster.client.incarnation
+        view = cluster.client.load_balanced_view(retries=3)
+        assert view.map_sync(abs, range(300), chunksize=1) == list(range(300))
+        assert cluster.client.incarnation > first
+
+
 def test_pushes_come_back_after_a_restart(own_cluster):
     cluster = own_cluster(1)
     client = cluster.client

@@ -11,6 +11,7 @@ import socket
 import subprocess
 import sys
 import tempfile
+import threading
 import time
 from typing import Any, Dict, List, Optional
 
@@ -21,6 +22,8 @@ from .views import DirectView, LoadBalancedView
 HOST = "127.0.0.1"
 _LISTENER_FAULT = 11
 """The status of a controller that can't listen at its ports."""
+_HISTORY_FULL = 9
+"""The status of a controller whose history, since it opened the database, has reached a limit."""
 
 
 def program(given: Optional[str] = None) -> List[str]:
@@ -79,7 +82,10 @@ class Cluster:
     `folder` keeps the database and the key (mode 0600), so that a cluster started there again goes on where it was; without one it is a
     folder of its own that is removed. `program` is the path of `ipcluster`, else it is found by the variable IPCLUSTER or the checkout.
     `options` are further words of `ipcluster serve`, such as `("--hwm", "2")`. `client` and `view` are a client and a load-balanced
-    view of it."""
+    view of it.
+
+    A controller whose history has reached a limit ends; it is started again over its database, which begins a new count. One that ended
+    otherwise isn't: `start_controller` does so."""
 
     def __init__(self, n: int = 4, *, folder: Optional[str] = None, program: Optional[str] = None,  # pylint: disable=redefined-outer-name
                  options: Any = (), timeout: float = 60) -> None:
@@ -94,6 +100,8 @@ class Cluster:
         self.engines: Dict[str, "subprocess.Popen[bytes]"] = {}
         self._client: Optional[Client] = None
         self._view: Optional[LoadBalancedView] = None
+        self._ended = threading.Event()
+        self._supervisor: Optional[threading.Thread] = None
 
     # -- beginning and end
 
@@ -103,8 +111,11 @@ class Cluster:
             self.folder = tempfile.mkdtemp(prefix="yovkhan-")
         os.makedirs(self.folder, exist_ok=True)
         self._make_key()
+        self._ended.clear()
         try:
             self._start_at_free_ports()
+            self._supervisor = threading.Thread(target=self._supervise, name="yovkhan-cluster", daemon=True)
+            self._supervisor.start()
             for number in range(self.n):
                 self.start_engine(f"engine-{number}")
             self.client.wait_for_engines(self.n, timeout=self._timeout)
@@ -125,8 +136,22 @@ class Cluster:
                 if not taken or tries == 4:
                     raise
 
+    def _supervise(self) -> None:
+        """Starts a controller again whose history is full, until the cluster ends."""
+        while not self._ended.wait(0.1):
+            controller = self.controller
+            if controller is not None and controller.poll() == _HISTORY_FULL:
+                try:
+                    self.start_controller()
+                except (OSError, RuntimeError, TimeoutError):
+                    return
+
     def stop(self) -> None:
         """Ends all, and removes a folder of its own."""
+        self._ended.set()
+        if self._supervisor is not None:
+            self._supervisor.join()
+            self._supervisor = None
         if self._client is not None:
             self._client.close()
             self._client = self._view = None
