@@ -15,7 +15,7 @@ pub record Tells (I O : Type 0) : Type 0 where
   pub writes : O → ℕ
 
 -- what dials: what its links tell, those that still came before a call and those that still come, and that a dial failed
-pub record Dials (I O : Type 0) : Type 0 where
+pub record Dials (I O : Type 0) : Type 1 where
   pub tells : Tells I O
   pub before : Option (List (I × O))
   pub now : Option (List (I × O))
@@ -31,7 +31,7 @@ dials dialer reader writer old new = record {
 }
 
 -- an output: what was written to it before a call, and after it, where that is told, and that a write failed
-pub record Prints : Type 0 where
+pub record Prints : Type 1 where
   pub before : Option (List ℕ)
   pub now : Option (List ℕ)
   pub failed : Type 0

@@ -268,6 +268,37 @@ fn beaten<R: Abort>(rt: &R, alloc: Global) -> Vec<u8> {
 }
 
 #[test]
+fn each_read_and_each_write_may_fail(rt: HostRuntime) {
+    let alloc = rt.alloc();
+    let mut tape = Vec::from_slice(alloc, JOINING).expect(&rt, "memory is ample");
+    tape.extend_from_slice(SECOND)
+        .expect(&rt, "memory is ample");
+    // Two reads: all octets, and the end. Two writes: one for each record that is answered.
+    for (call, read, wrote) in [(1, 3, 4), (2, 3, 4), (3, 0, 0)] {
+        let read_fails = Failing {
+            reads: &[call],
+            writes: &[],
+            lines: &[],
+        };
+        let write_fails = Failing {
+            reads: &[],
+            writes: &[call],
+            lines: &[],
+        };
+        for (failing, status) in [(read_fails, read), (write_fails, wrote)] {
+            let disk = disk_of(&rt, alloc, b"", 0);
+            let left = run(&rt, alloc, REPLAY, tape.as_slice(), &failing, disk);
+            assert_eq!(rt; left.status, status);
+            let disk = FuseDisk::new(left.disk, 0);
+            assert_eq!(rt;
+                run(&rt, alloc, &["dump", "db"], b"", &NONE, disk).status,
+                0
+            );
+        }
+    }
+}
+
+#[test]
 fn octets_come_one_by_one(rt: HostRuntime) {
     let alloc = rt.alloc();
     let tape = beaten(&rt, alloc);

@@ -27,6 +27,9 @@ use thread_edges::words::ListWords;
 const JOIN: &[u8] =
     b"\x01\x09<IDS|MSG>\x01@3549f2a96cf35bac1fff6b249a8cf48461be3ba2d296ae29a930f967679b268d\x01\x84{\"msg_id\":\"e0-0\",\"session\":\"e0\",\"username\":\"e0\",\"date\":\"1970-01-01T00:00:00.007Z\",\"msg_type\":\"registration_request\",\"version\":\"5.3\"}\x01\x02{}\x01\x02{}\0\x0d{\"uuid\":\"e0\"}";
 
+/// How the answer to it begins.
+const ANSWER: &[u8] = b"\x01\x09<IDS|MSG>\x01@";
+
 /// What sessions stand on here.
 type OpenTypes<R> = TypesOf<MemDisk, ListClock, ListWords, OpenGate, R>;
 
@@ -56,8 +59,22 @@ fn pool_of<R: Abort>(rt: &R, alloc: Global, pass: Pass<Held>) -> PassPool<Held>
     PassPool { pass, kept }
 }
 
-/// The octets that a link writes whose other side sends these and ends.
-fn served<R: Wait + Abort + Drop>(rt: &R, alloc: Global, octets: &[u8]) -> MemSink {
+/// How a link went: how its reader and its writer ended, and what was written to it.
+#[derive(Drop)]
+struct Went {
+    read: SessionEnd,
+    wrote: SessionEnd,
+    writer: MemSink,
+}
+
+/// How a link goes whose other side sends these octets and ends, where the reads and the writes of these numbers fail.
+fn went<R: Wait + Abort + Drop>(
+    rt: &R,
+    alloc: Global,
+    octets: &[u8],
+    reads: &[u64],
+    writes: &[u64],
+) -> Went {
     let chooser = new_chooser(rt, alloc);
     let key = new_key(rt, alloc);
     let (desk, pass) = new_desk(rt, alloc, AMPLE);
@@ -69,8 +86,8 @@ fn served<R: Wait + Abort + Drop>(rt: &R, alloc: Global, octets: &[u8]) -> MemSi
         key: &key,
         gate: &gate,
     };
-    let mut reader = MemSource::new(alloc, octets, &[]).expect(rt, "memory is ample");
-    let mut writer = MemSink::new(alloc, &[]).expect(rt, "memory is ample");
+    let mut reader = MemSource::new(alloc, octets, reads).expect(rt, "memory is ample");
+    let mut writer = MemSink::new(alloc, writes).expect(rt, "memory is ample");
     let greeted = greeted(rt, alloc, &mut reader, &mut writer);
     let mut pool = pool_of(rt, alloc, pass);
     let channel = Channel::Engine;
@@ -87,7 +104,7 @@ fn served<R: Wait + Abort + Drop>(rt: &R, alloc: Global, octets: &[u8]) -> MemSi
         mut writing,
     } = passes;
     let connection = ServedConnection { number, channel };
-    let end = read_session(
+    let read = read_session(
         &context,
         &chooser,
         &mut reader,
@@ -95,11 +112,34 @@ fn served<R: Wait + Abort + Drop>(rt: &R, alloc: Global, octets: &[u8]) -> MemSi
         &mut reading,
         connection,
     );
-    assert_eq!(rt; end, SessionEnd::Ended);
     desk.flush(rt, &mut reading).expect(rt, "a flush");
-    let end = write_session(&context, &mut writer, &mut writing, number);
-    assert_eq!(rt; end, SessionEnd::Closed);
+    let wrote = write_session(&context, &mut writer, &mut writing, number);
+    Went {
+        read,
+        wrote,
+        writer,
+    }
+}
+
+/// What is written to a link whose other side sends these octets and ends.
+fn served<R: Wait + Abort + Drop>(rt: &R, alloc: Global, octets: &[u8]) -> MemSink {
+    let Went {
+        read,
+        wrote,
+        writer,
+    } = went(rt, alloc, octets, &[], &[]);
+    assert_eq!(rt; read, SessionEnd::Ended);
+    assert_eq!(rt; wrote, SessionEnd::Closed);
     writer
+}
+
+/// These texts, one behind the other.
+fn joined<R: Abort>(rt: &R, alloc: Global, texts: &[&[u8]]) -> Vec<u8> {
+    let mut octets = Vec::new(alloc);
+    for text in texts {
+        octets.extend_from_slice(text).expect(rt, "memory is ample");
+    }
+    octets
 }
 
 #[test]
@@ -110,16 +150,39 @@ fn a_link_without_messages(rt: HostRuntime) {
 
 #[test]
 fn a_link_with_a_registration(rt: HostRuntime) {
-    let mut octets = Vec::from_slice(rt.alloc(), OWN).expect(&rt, "memory is ample");
-    octets
-        .extend_from_slice(JOIN)
-        .expect(&rt, "memory is ample");
-    let link = served(&rt, rt.alloc(), octets.as_slice());
-    let mut front = Vec::from_slice(rt.alloc(), OWN).expect(&rt, "memory is ample");
-    front
-        .extend_from_slice(b"\x01\x09<IDS|MSG>\x01@")
-        .expect(&rt, "memory is ample");
+    let alloc = rt.alloc();
+    let octets = joined(&rt, alloc, &[OWN, JOIN]);
+    let link = served(&rt, alloc, octets.as_slice());
+    let front = joined(&rt, alloc, &[OWN, ANSWER]);
     assert!(rt; link.written().starts_with(front.as_slice()));
+}
+
+#[test]
+fn a_stream_ends_inside_a_message(rt: HostRuntime) {
+    let alloc = rt.alloc();
+    let octets = joined(&rt, alloc, &[OWN, JOIN, &JOIN[..40]]);
+    let link = served(&rt, alloc, octets.as_slice());
+    let front = joined(&rt, alloc, &[OWN, ANSWER]);
+    assert!(rt; link.written().starts_with(front.as_slice()));
+}
+
+#[test]
+fn a_read_fails(rt: HostRuntime) {
+    let alloc = rt.alloc();
+    let octets = joined(&rt, alloc, &[OWN, JOIN]);
+    let link = went(&rt, alloc, octets.as_slice(), &[2], &[]);
+    assert_eq!(rt; link.read, SessionEnd::LinkFault);
+    assert_eq!(rt; link.wrote, SessionEnd::Closed);
+}
+
+#[test]
+fn a_write_fails(rt: HostRuntime) {
+    let alloc = rt.alloc();
+    let octets = joined(&rt, alloc, &[OWN, JOIN]);
+    let link = went(&rt, alloc, octets.as_slice(), &[], &[3]);
+    assert_eq!(rt; link.read, SessionEnd::Ended);
+    assert_eq!(rt; link.wrote, SessionEnd::LinkFault);
+    assert_eq!(rt; link.writer.written(), OWN);
 }
 
 #[test]

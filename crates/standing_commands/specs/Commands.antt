@@ -35,7 +35,7 @@ IsInRange (Client host port action key) = Unit {0}
 
 -- what a controller serves on: what its disk and its desk tell, the disk, the links that still come to a port and how often it
 -- failed, and how often no thread was started, before a call and after it
-pub record Serves (D K P A B : Type 0) : Type 0 where
+pub record Serves (D K P A B : Type 0) : Type 1 where
   pub tells : Type 0
   pub content : D → List ℕ
   pub image : D → List ℕ → Type 0

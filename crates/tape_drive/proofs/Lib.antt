@@ -14,7 +14,7 @@ pub mod Turns
 pub mod Unsent
 pub mod Again
 pub mod Going
-pub mod Inputs
+pub mod NoOpens
 pub mod Names
 pub mod Opening
 pub mod Outs

@@ -23,7 +23,7 @@ use Rattle.tape_drive.proofs.Quiet.{opened_quiet}
 use Rattle.tape_drive.specs.Runs.{HasEnded}
 use Rattle.tape_drive.specs.Sent.{IsAtRest, GoesOn}
 use Rattle.tape_drive.proofs.Going.{world_on, may_on, sent_none}
-use Rattle.tape_drive.proofs.Inputs.{taken_none, fitting_none}
+use Rattle.tape_drive.proofs.NoOpens.{taken_none, fitting_none}
 use Rattle.tape_drive.proofs.Stepping.{NoOpens}
 use Rattle.tape_drive.proofs.Tapes.{served_is}
 

@@ -12,7 +12,7 @@ use Rattle.tape_drive.specs.Served.{inputs_where, inputs_taken}
 use Rattle.tape_drive.specs.Steps.{fitting, stepped_all}
 use Rattle.tape_drive.specs.Sent.{IsAtRest, GoesOn, record_outs, tape_outs}
 use Rattle.tape_drive.proofs.Going.{goes_on, goes_nowhere}
-use Rattle.tape_drive.proofs.Inputs.{taken_none, fitting_none}
+use Rattle.tape_drive.proofs.NoOpens.{taken_none, fitting_none}
 use Rattle.tape_drive.proofs.Stepping.{inputs_go}
 
 -- the history behind a record is that behind its inputs whose steps fit

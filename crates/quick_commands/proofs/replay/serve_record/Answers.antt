@@ -3,7 +3,7 @@ use Rattle.edges.specs.Streams.{AddedFront}
 use Rattle.tape.specs.Spelling.{all_spelled}
 use Rattle.tape_drive.specs.Drive.{Stand, outs}
 use Rattle.quick_commands.specs.Replays.{IsServed}
-use Rattle.quick_commands.proofs.Records.{one_whole, one_cut}
+use Rattle.quick_commands.proofs.ServedRecords.{one_whole, one_cut}
 use Rattle.quick_commands.proofs.replay.serve_record.Goals as goal
 use Rattle.tape_drive.proofs.Way.{holds_more}
 

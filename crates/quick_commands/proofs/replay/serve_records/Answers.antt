@@ -1,7 +1,7 @@
 use Rattle.std.proofs.Common.{◌≡◌, ◌∷◌, ◌≤◌, [], Bool, false, length, subst, arith}
 use Rattle.tape_drive.specs.Served.{Comes, HoldsSome, IsTouched}
 use Rattle.tape_drive.proofs.Way.{touched_on, holds_more}
-use Rattle.quick_commands.proofs.Records.{at_more, at_served, at_comes, end_served}
+use Rattle.quick_commands.proofs.ServedRecords.{at_more, at_served, at_comes, end_served}
 use Rattle.quick_commands.proofs.replay.serve_records.Goals as goal
 
 pub returns-in_err-serve_record-clause-served : goal.returns-in_err-serve_record-clause-served

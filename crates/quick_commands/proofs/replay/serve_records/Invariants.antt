@@ -1,6 +1,6 @@
 use Rattle.std.proofs.Common.{◌≡◌, ◌≤◌, false}
 use Rattle.tape_drive.specs.Served.{Comes, HoldsSome, IsTouched}
-use Rattle.quick_commands.proofs.Records.{At}
+use Rattle.quick_commands.proofs.ServedRecords.{At}
 use Rattle.quick_commands.proofs.replay.serve_records.Given as goal
 
 -- the records so far were served, and what they send was written
