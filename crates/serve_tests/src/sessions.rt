@@ -61,20 +61,20 @@ fn pool_of<R: Abort>(rt: &R, alloc: Global, pass: Pass<Held>) -> PassPool<Held>
 
 /// How a link went: how its reader and its writer ended, and what was written to it.
 #[derive(Drop)]
-struct Went {
+struct Course {
     read: SessionEnd,
     wrote: SessionEnd,
     writer: MemSink,
 }
 
 /// How a link goes whose other side sends these octets and ends, where the reads and the writes of these numbers fail.
-fn went<R: Wait + Abort + Drop>(
+fn course_of<R: Wait + Abort + Drop>(
     rt: &R,
     alloc: Global,
     octets: &[u8],
     reads: &[u64],
     writes: &[u64],
-) -> Went {
+) -> Course {
     let chooser = new_chooser(rt, alloc);
     let key = new_key(rt, alloc);
     let (desk, pass) = new_desk(rt, alloc, AMPLE);
@@ -114,7 +114,7 @@ fn went<R: Wait + Abort + Drop>(
     );
     desk.flush(rt, &mut reading).expect(rt, "a flush");
     let wrote = write_session(&context, &mut writer, &mut writing, number);
-    Went {
+    Course {
         read,
         wrote,
         writer,
@@ -123,11 +123,11 @@ fn went<R: Wait + Abort + Drop>(
 
 /// What is written to a link whose other side sends these octets and ends.
 fn served<R: Wait + Abort + Drop>(rt: &R, alloc: Global, octets: &[u8]) -> MemSink {
-    let Went {
+    let Course {
         read,
         wrote,
         writer,
-    } = went(rt, alloc, octets, &[], &[]);
+    } = course_of(rt, alloc, octets, &[], &[]);
     assert_eq!(rt; read, SessionEnd::Ended);
     assert_eq!(rt; wrote, SessionEnd::Closed);
     writer
@@ -170,7 +170,7 @@ fn a_stream_ends_inside_a_message(rt: HostRuntime) {
 fn a_read_fails(rt: HostRuntime) {
     let alloc = rt.alloc();
     let octets = joined(&rt, alloc, &[OWN, JOIN]);
-    let link = went(&rt, alloc, octets.as_slice(), &[2], &[]);
+    let link = course_of(&rt, alloc, octets.as_slice(), &[2], &[]);
     assert_eq!(rt; link.read, SessionEnd::LinkFault);
     assert_eq!(rt; link.wrote, SessionEnd::Closed);
 }
@@ -179,7 +179,7 @@ fn a_read_fails(rt: HostRuntime) {
 fn a_write_fails(rt: HostRuntime) {
     let alloc = rt.alloc();
     let octets = joined(&rt, alloc, &[OWN, JOIN]);
-    let link = went(&rt, alloc, octets.as_slice(), &[], &[3]);
+    let link = course_of(&rt, alloc, octets.as_slice(), &[], &[3]);
     assert_eq!(rt; link.read, SessionEnd::Ended);
     assert_eq!(rt; link.wrote, SessionEnd::LinkFault);
     assert_eq!(rt; link.writer.written(), OWN);
