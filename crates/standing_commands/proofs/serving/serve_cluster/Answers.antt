@@ -1,5 +1,6 @@
-use Rattle.std.proofs.Common.{◌+◌, ◌<◌, ◌^◌, ap, inl, inr, reverse, subst, arith}
-use Rattle.cluster_store.specs.Openings.{Exits}
+use Rattle.std.proofs.Common.{◌+◌, ◌<◌, ◌^◌, ap, inl, inr, reverse, subst, arith, ⊎_elim, refl}
+use Rattle.controller_desk.specs.Contents.{content_of}
+use Rattle.cluster_store.specs.Openings.{Exits, IsOpened}
 use Rattle.cluster_types.specs.declared.config.Config.{Config}
 use Rattle.command_words.specs.declared.ending.Ending.{Ending}
 use Rattle.command_words.specs.declared.ending.StandingEnding.TheVariants.{Plain}
@@ -33,3 +34,15 @@ returns-in-Err g c =
       exits = λ tells. subst (λ (config : Config). Exits (g.T.Disk.Disk.image c.args.site.disk) (g.T.Disk.Disk.content c.args.site.disk) config c.now-moment.result.millis (g.T.Disk.Disk.image c.in-Err.field-0.disk)) c.config_of.ensures.config (c.in-Err.ensures.exits tells);
       cause = λ fault. c.in-Err.ensures.cause fault;
     }))
+
+pub returns-in-Ok-open : goal.returns-in-Ok-open
+returns-in-Ok-open g c =
+    ⊎_elim (λ none. inl none)
+    (λ over. inr (inr (content_of g.T.Disk.Disk.faults c.in-Ok-open.store, record {
+      moment = c.now-moment.result.millis;
+      opened = subst (λ (config : Config). IsOpened g.T.Disk.Disk.tells (g.T.Disk.Disk.content c.args.site.disk) config c.now-moment.result.millis c.in-Ok-open.store.history) c.config_of.ensures.config c.in-Ok-open.ensures.history;
+      limits = rw c.in-Ok-open.ensures.limits (rw c.config_of.ensures.config refl);
+      fulls = c.in-Ok-open.ensures.fresh.2;
+      later = c.in-Ok-open.ensures.later;
+    }, over)))
+    c.serve_store.ensures
