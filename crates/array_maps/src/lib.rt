@@ -1,0 +1,5 @@
+//! Codes that spread a list of numbers over engines and bring it back.
+#![tactic(auto)]
+
+pub mod blocks;
+pub mod laws;
