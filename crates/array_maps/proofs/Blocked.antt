@@ -1,5 +1,5 @@
 -- Where blocks begin, and that they are the list.
-use Rattle.std.proofs.Common.{◌≡◌, ℕ, zero, suc, ◌+◌, ◌*◌, ◌/◌, ◌%◌, ◌<◌, ◌≤◌, min, cond, Bool, true, false, List, [], ◌∷◌, ◌++◌, length, take, drop, refl, sym, ap, ◌∙◌, arith, inl, inr}
+use Rattle.std.proofs.Common.{◌≡◌, ℕ, zero, suc, ◌+◌, ◌*◌, ◌/◌, ◌%◌, ◌<◌, ◌≤◌, min, cond, Bool, true, false, List, [], ◌∷◌, ◌++◌, length, take, drop, refl, sym, ap, subst, ◌∙◌, arith, inl, inr}
 use Rattle.std.specs.Prelude.{nat_lt, flat_map, map}
 use Rattle.std.specs.List.{range_with_len}
 use Rattle.std.proofs.lemmas.Bool.{cases_lt}
@@ -59,3 +59,18 @@ take_all (x ∷ items) = ap (λ l. x ∷ l) (take_all items)
 
 pub blocks_list : {X : Type 0} (items : List X) (parts : ℕ) → 0 < parts → flat_map (block_of items parts) (range_with_len 0 parts) ≡ items
 blocks_list items parts some = front items parts parts ∙ ap (λ n. take n items) (last_end (length items) parts some) ∙ take_all items
+
+starts_rise : (n parts a b : ℕ) → a ≤ b → block_start n parts a ≤ block_start n parts b
+starts_rise n parts a zero le = let e : a ≡ 0 = omega (arith, le) in subst (λ k. block_start n parts k ≤ 0) (sym e) (omega arith)
+starts_rise n parts a (suc b) le =
+    elim (cases_lt a (suc b)) [
+      | inl lt ↦ let before = starts_rise n parts a b (omega (arith, lt)) in omega (arith, before)
+      | inr over ↦ let e : a ≡ suc b = omega (arith, le, over) in subst (λ k. block_start n parts k ≤ block_start n parts (suc b)) (sym e) (omega arith)
+    ]
+
+-- a block ends where the list ends, or before
+pub block_within : (n parts part : ℕ) → part < parts → block_start n parts part + block_length n parts part ≤ n
+block_within n parts part lt =
+    let rise = starts_rise n parts (suc part) parts (omega (arith, lt)) in
+    let end = last_end n parts (omega (arith, lt)) in
+    omega (arith, rise, end)

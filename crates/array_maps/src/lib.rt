@@ -2,4 +2,8 @@
 #![tactic(auto)]
 
 pub mod blocks;
+pub mod codes;
+pub mod error;
 pub mod laws;
+mod names;
+mod texts;
