@@ -1,5 +1,5 @@
 -- The tokens of a text that begins with a word or a sign.
-use Rattle.std.proofs.Common.{◌≡◌, ℕ, zero, suc, ◌+◌, ◌-◌, ◌^◌, ◌<◌, ◌≤◌, Bool, true, false, cond, Some, None, List, [], ◌∷◌, ◌++◌, length, take, drop, get_or, refl, sym, ap, subst, ◌∙◌, arith}
+use Rattle.std.proofs.Common.{◌≡◌, ℕ, zero, suc, ◌+◌, ◌-◌, ◌^◌, ◌<◌, ◌≤◌, Bool, true, false, cond, None, List, [], ◌∷◌, ◌++◌, length, take, get_or, refl, ap, ◌∙◌, arith}
 use Rattle.std.specs.Prelude.{codes, nat_le, ◌==◌, ◌&&◌, ◌||◌}
 use Rattle.std.specs.List.{list_all, prefix_len}
 use Rattle.std.specs.Fmt.{decimal}
@@ -14,7 +14,7 @@ use Rattle.arith_syntax.specs.Tree.{is_digit, is_letter, is_word, IsName}
 use Rattle.arith_syntax.specs.Lexical.{Lexeme, is_blank, constant, word, run_of, is_bad, or_shorter, with_equals, doubled, single, shifts, symbol, token_at, found, scan}
 use Rattle.arith_syntax.specs.Grammar.{tokens}
 use Rattle.arith_syntax.proofs.Words.{scan_skip}
-use Rattle.array_maps.proofs.Decimals.{all_words, number_word, first_digit}
+use Rattle.array_maps.proofs.Decimals.{all_words, number_word}
 
 -- the tokens that stand in a text
 unfoldable pub tokens_in : List ℕ → List Token

@@ -1,6 +1,6 @@
 -- What the programs of codes leave.
-use Rattle.std.proofs.Common.{◌≡◌, ◌≢◌, ℕ, zero, suc, ℤ, pos, negsuc, ◌+◌, ◌-◌, ◌^◌, ◌<◌, ◌≤◌, Bool, true, false, cond, Option, Some, None, Ok, List, [], ◌∷◌, ◌++◌, length, get_or, FitsSigned, refl, sym, ap, subst, ◌∙◌, append_assoc, length-append, arith, inl, inr}
-use Rattle.std.specs.Prelude.{nat_le, nat_lt, ◌==◌, ◌&&◌, bytes_eq, codes, map, ◌⊎◌}
+use Rattle.std.proofs.Common.{◌≡◌, ◌≢◌, ℕ, zero, suc, ℤ, pos, negsuc, ◌+◌, ◌^◌, ◌<◌, ◌≤◌, Bool, true, false, cond, Some, Ok, List, [], ◌∷◌, ◌++◌, length, get_or, FitsSigned, refl, sym, ap, ◌∙◌, append_assoc, length-append, arith, inl, inr}
+use Rattle.std.specs.Prelude.{nat_le, ◌==◌, ◌&&◌, bytes_eq, codes, map}
 use Rattle.std.specs.List.{list_all, AllByRecursion, range_with_len}
 use Rattle.std.specs.Fmt.{decimal}
 use Rattle.std.specs.Int.{w64, int_wrap}
@@ -11,13 +11,12 @@ use Rattle.std.proofs.lemmas.Int.{int_wrap_fits}
 use Rattle.std.proofs.lemmas.List.{append_cancel_left}
 use Rattle.std.proofs.lemmas.List.Folds.{list_all-append}
 use Rattle.std.proofs.lemmas.Slice.Eq.{bytes_eq-Decides}
-use Rattle.arith_syntax.specs.Tree.{Tree, Variable, IsName, is_word, begins_name}
+use Rattle.arith_syntax.specs.Tree.{Variable, IsName, is_word, begins_name}
 use Rattle.arith_eval.specs.Names.{Environment, assign}
 use Rattle.arith_eval.specs.Value.{Outcome, outcome, assignment, and_then, load, value_of, values_from, value_of_program}
-use Rattle.array_maps.specs.Blocks.{block_start, block_length}
 use Rattle.array_maps.specs.Codes.{settings}
-use Rattle.array_maps.specs.Names.{is_name, element, is_last_name, is_array_name}
-use Rattle.array_maps.specs.Running.{Leaves, Gives, IsAmongElements, Sets}
+use Rattle.array_maps.specs.Names.{is_name, element, is_array_name}
+use Rattle.array_maps.specs.Running.{IsAmongElements, Sets}
 use Rattle.array_maps.proofs.Decimals.{all_words, digits_rise}
 use Rattle.array_maps.proofs.Setting.{negative_tree, number_tree, element_tree, Settable, settings_program, name_program}
 

@@ -1,11 +1,10 @@
 -- What scatter's codes leave.
-use Rattle.std.proofs.Common.{◌≡◌, ℕ, zero, suc, ℤ, ◌+◌, ◌*◌, ◌/◌, ◌%◌, ◌<◌, ◌≤◌, Bool, true, false, cond, Option, Some, None, Result, Ok, Err, List, [], ◌∷◌, length, get_or, min, refl, sym, ap, subst, ◌∙◌, arith}
-use Rattle.std.specs.Prelude.{map, position, nat_lt, not, ◌||◌}
-use Rattle.std.specs.List.{list_any, range_with_len, position_or_len}
+use Rattle.std.proofs.Common.{◌≡◌, ℕ, zero, suc, ℤ, ◌+◌, ◌<◌, ◌≤◌, Bool, true, false, cond, Some, None, Ok, List, [], ◌∷◌, length, get_or, refl, sym, ap, ◌∙◌, arith}
+use Rattle.std.specs.Prelude.{nat_lt, not}
+use Rattle.std.specs.List.{position_or_len}
 use Rattle.std.proofs.lemmas.Bool.Decides.{nat_tests}
 use Rattle.std.proofs.lemmas.List.FromFn.{get_or-map-range_with_len, length-map-range_with_len}
 use Rattle.arith_eval.specs.Names.{Environment}
-use Rattle.array_maps.specs.declared.error.MapError.{MapError}
 use Rattle.array_maps.specs.Blocks.{block_start, block_length}
 use Rattle.array_maps.specs.Codes.{scatter_code, scatter_codes}
 use Rattle.array_maps.specs.Making.{is_long, unless_long, made}

@@ -1,7 +1,7 @@
 -- Codes that set elements: their programs, and what these leave.
-use Rattle.std.proofs.Common.{◌≡◌, ◌≢◌, ℕ, zero, suc, ℤ, pos, negsuc, ◌+◌, ◌-◌, ◌^◌, ◌<◌, ◌≤◌, Bool, true, false, cond, Some, None, List, [], ◌∷◌, ◌++◌, length, get_or, FitsSigned, refl, sym, ap, subst, ◌∙◌, append_assoc, arith}
-use Rattle.std.specs.Prelude.{nat_le, ◌==◌, ◌||◌, codes, map, flat_map}
-use Rattle.std.specs.List.{list_all, filter, AllByRecursion, join_by, range_with_len}
+use Rattle.std.proofs.Common.{◌≡◌, ℕ, suc, ℤ, pos, negsuc, ◌^◌, ◌<◌, ◌≤◌, Bool, true, false, cond, None, List, [], ◌∷◌, ◌++◌, length, get_or, FitsSigned, refl, sym, ap, ◌∙◌, append_assoc, arith}
+use Rattle.std.specs.Prelude.{◌==◌, ◌||◌, codes, map, flat_map}
+use Rattle.std.specs.List.{filter, AllByRecursion, join_by, range_with_len}
 use Rattle.std.specs.Fmt.{decimal, signed_decimal}
 use Rattle.std.specs.Int.{w64}
 use Rattle.std.proofs.lemmas.List.{append-nil}
@@ -11,8 +11,8 @@ use Rattle.arith_syntax.specs.declared.operators.UnaryOperator.TheVariants.{Minu
 use Rattle.arith_syntax.specs.declared.operators.BinaryOperator.TheVariants.{Subtract}
 use Rattle.arith_syntax.specs.declared.token.Token.{Token}
 use Rattle.arith_syntax.specs.declared.token.Token.TheVariants.{Number, Name, Binary, Assign, Separator, End}
-use Rattle.arith_syntax.specs.Tree.{Tree, Constant, Variable, Unary, Operation, Assignment, IsName, IsExpression, is_digit, is_letter, is_word, begins_name, tokens_of, nesting}
-use Rattle.arith_syntax.specs.Grammar.{Fits, Grammar, IsProgram, joined, is_some_part}
+use Rattle.arith_syntax.specs.Tree.{Tree, Constant, Variable, Unary, Operation, Assignment, IsName, IsExpression, is_digit, is_letter, tokens_of, nesting}
+use Rattle.arith_syntax.specs.Grammar.{Fits, Grammar, joined, is_some_part}
 use Rattle.arith_syntax.specs.Lexical.{lexemes}
 use Rattle.array_maps.specs.Codes.{number_text, setting, element_setting, settings}
 use Rattle.array_maps.specs.Names.{element}

@@ -1,6 +1,6 @@
-use Rattle.std.proofs.Common.{◌≡◌, ◌∙◌, ◌+◌, ◌++◌, List, ℕ, cond, sym, ap}
+use Rattle.std.proofs.Common.{◌∙◌, ◌+◌, ◌++◌, List, ℕ, cond, sym, ap}
 use Rattle.std.specs.Prelude.{codes, string_bytes, ◌==◌}
-use Rattle.array_maps.specs.Codes.{element_setting, settings}
+use Rattle.array_maps.specs.Codes.{element_setting}
 use Rattle.array_maps.proofs.Fronts.{settings_next}
 use Rattle.array_maps.proofs.texts.settings.Goals as goal
 
