@@ -1,0 +1,7 @@
+pub mod Blocked
+pub mod Decimals
+pub mod Fronts
+pub mod Lexed
+pub mod Running
+pub mod Scattering
+pub mod Setting

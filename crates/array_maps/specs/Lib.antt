@@ -1,0 +1,5 @@
+pub mod Blocks
+pub mod Codes
+pub mod Making
+pub mod Names
+pub mod Running
