@@ -4,7 +4,7 @@ use Rattle.json.specs.Print.{quoted}
 use Rattle.cluster_types.specs.declared.record.Record.{Record}
 use Rattle.cluster_defs.specs.Event.{fault_field}
 use Rattle.cluster_defs.specs.Json.{Reading}
-use Rattle.cluster_defs.specs.Texts.{parted, list_text, object_text, error_content}
+use Rattle.cluster_defs.specs.Texts.{parted, object_text, error_content}
 use Rattle.db_query.specs.Asked.{field_name}
 use Rattle.db_query.specs.Filter.{value_of, is_found, found}
 use Rattle.db_query.specs.Readings.{read_query}

@@ -1,5 +1,4 @@
-use Rattle.std.proofs.Common.{◌≡◌, ◌<◌, ◌+◌, ◌^◌, ◌++◌, length, take, nat_lt, true, refl, inr, arith, sym, ap, ◌∙◌, length-take-le}
-use Rattle.cluster_types.specs.declared.record.Record.{Record}
+use Rattle.std.proofs.Common.{◌≡◌, ◌<◌, ◌+◌, ◌^◌, ◌++◌, length, take, nat_lt, refl, inr, arith, sym, ap, ◌∙◌, length-take-le}
 use Rattle.db_query.specs.Filter.{found}
 use Rattle.db_query.specs.Found.{found_one, listed, Listed}
 use Rattle.db_query.proofs.Finds.{found_more, found_short}

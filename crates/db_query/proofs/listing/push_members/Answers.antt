@@ -1,4 +1,4 @@
-use Rattle.std.proofs.Common.{◌++◌, List, map, take, get_or, string_bytes, ap, ◌∙◌, append_assoc, arith}
+use Rattle.std.proofs.Common.{◌++◌, map, take, get_or, string_bytes, ap, ◌∙◌, append_assoc, arith}
 use Rattle.cluster_defs.specs.Texts.{parted}
 use Rattle.jupyter_header.specs.Comma.{comma}
 use Rattle.db_query.specs.Found.{field_member}
