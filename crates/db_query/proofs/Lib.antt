@@ -1,0 +1,5 @@
+pub mod Finds
+pub mod Firsts
+pub mod Fronts
+pub mod Puts
+pub mod Shorts

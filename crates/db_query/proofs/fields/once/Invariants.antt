@@ -1,0 +1,6 @@
+use Rattle.std.proofs.Common.{◌≡◌, take}
+use Rattle.db_query.specs.Asked.{once}
+use Rattle.db_query.proofs.fields.once.Given as goal
+
+abbrev pub invariant-loop-field : goal.invariant-loop-field
+invariant-loop-field l = l.found ≡ once (take l.field-index l.fields)

@@ -1,0 +1,8 @@
+use Rattle.std.proofs.Common.{◌≡◌, ◌++◌, drop, option_map}
+use Rattle.jupyter_header.specs.Borrowed.{items_view}
+use Rattle.cluster_defs.specs.Fields.{each_of}
+use Rattle.db_query.specs.Readings.{field_in}
+use Rattle.db_query.proofs.reading.fields_of.Given as goal
+
+abbrev pub invariant-loop-value : goal.invariant-loop-value
+invariant-loop-value l = each_of field_in (items_view l.values) ≡ option_map (λ rest. l.fields ++ rest) (each_of field_in (items_view (drop l.value-index l.values)))
