@@ -1,0 +1,5 @@
+//! Tests of jobs.
+#![tactic(auto)]
+
+#[cfg(test)]
+mod jobs;
