@@ -38,11 +38,15 @@ returns-in-Err g c =
 pub returns-in-Ok-open : goal.returns-in-Ok-open
 returns-in-Ok-open g c =
     ⊎_elim (λ none. inl none)
-    (λ over. inr (inr (content_of g.T.Disk.Disk.faults c.in-Ok-open.store, record {
-      moment = c.now-moment.result.millis;
-      opened = subst (λ (config : Config). IsOpened g.T.Disk.Disk.tells (g.T.Disk.Disk.content c.args.site.disk) config c.now-moment.result.millis c.in-Ok-open.store.history) c.config_of.ensures.config c.in-Ok-open.ensures.history;
-      limits = rw c.in-Ok-open.ensures.limits (rw c.config_of.ensures.config refl);
-      fulls = c.in-Ok-open.ensures.fresh.2;
-      later = c.in-Ok-open.ensures.later;
-    }, over)))
+    (λ over. inr (inr (
+      content_of g.T.Disk.Disk.faults c.in-Ok-open.store,
+      record {
+        moment = c.now-moment.result.millis;
+        opened = subst (λ (config : Config). IsOpened g.T.Disk.Disk.tells (g.T.Disk.Disk.content c.args.site.disk) config c.now-moment.result.millis c.in-Ok-open.store.history) c.config_of.ensures.config c.in-Ok-open.ensures.history;
+        limits = rw c.in-Ok-open.ensures.limits (rw c.config_of.ensures.config refl);
+        fulls = c.in-Ok-open.ensures.fresh.2;
+        later = c.in-Ok-open.ensures.later;
+      },
+      over,
+    )))
     c.serve_store.ensures

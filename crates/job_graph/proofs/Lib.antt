@@ -1,0 +1,7 @@
+pub mod Cuts
+pub mod Numbers
+pub mod Faults
+pub mod Rows
+pub mod Once
+pub mod Requests
+pub mod Held

@@ -1,0 +1,10 @@
+//! Jobs: tasks that wait for one another, read from a text of lines.
+#![tactic(auto)]
+
+pub mod error;
+pub mod laws;
+mod line;
+mod names;
+mod parts;
+pub mod read;
+pub mod task;
