@@ -255,37 +255,18 @@ def test_abort_of_tasks_that_wait(client):
             it.get(LIMIT)
 
 
-class Answer:
-    def __init__(self, **content):
-        self.content = content
-
-
-def test_a_controller_that_knows_more(client, monkeypatch):
-    """The questions `db_request` and `abort_request` are used where they are known: here a stand-in answers them."""
-    results = [client[0].apply_async(int), client[1].apply_async(lambda: 1 / 0)]
-    client.wait(results, LIMIT)
-    ids = [it.msg_ids[0] for it in results]
+def test_an_abort_asks_for_what_waits_alone(client, monkeypatch):
+    """What an engine has begun goes on; the controller is asked once, about what it hasn't handed out."""
     asked, ask = [], client._ask  # pylint: disable=protected-access
 
-    def stand_in(msg_type, content, repeats=True, timeout=None):
+    def listening(msg_type, content, *more, **named):
         asked.append((msg_type, content))
-        if msg_type == "db_request":
-            wanted = content["query"].get("msg_id", {"$in": ids})
-            named = [wanted] if isinstance(wanted, str) else wanted["$in"]
-            return Answer(records=[{"msg_id": it, "state": "completed"} for it in named])
-        if msg_type == "abort_request":
-            return Answer(aborted=content["msg_ids"])
-        return ask(msg_type, content, repeats, timeout)
+        return ask(msg_type, content, *more, **named)
 
-    fallen_back = client.db_query({"msg_id": ids[0]}, keys="engine_uuid")
-    client._has_query = client._has_abort = None  # pylint: disable=protected-access
-    monkeypatch.setattr(client, "_ask", stand_in)
-    assert client.db_query({"msg_id": ids[0]}, keys="engine_uuid") == fallen_back
-    assert len(client.db_query({"engine_uuid": {"$ne": None}})) == 2
-    assert {it[0] for it in asked} == {"db_request"}
     with busy(client, client.ids):
         late = [client.load_balanced_view().apply_async(int) for _ in range(6)]
         until(lambda: client.queue_status()["unassigned"] == 2)
+        monkeypatch.setattr(client, "_ask", listening)
         client.abort(late, block=True)
     waited = [it[1]["msg_ids"] for it in asked if it[0] == "abort_request"]
     assert len(waited) == 1 and len(waited[0]) == 2 and set(waited[0]) <= {it.msg_ids[0] for it in late}

@@ -168,6 +168,7 @@ def test_the_examples(tmp_path):
     folder = os.path.join(TOP, "examples")
     assert run([sys.executable, f"{folder}/squares.py"]) == "[100, 101, 104, 109, 116]\n[1, 5, 9, 13]\n[1, 5, 9, 13]\n"
     assert run([sys.executable, f"{folder}/graph.py"]) == "42\nno rescue was needed\n"
+    assert run([sys.executable, f"{folder}/first.py"]) == "1517841\nthe others weren't needed\n"
     kept = str(tmp_path / "kept")
     end = f"the sum is {sum(n ** 2 for n in range(100))}\n"
     first = run([sys.executable, f"{folder}/named.py", kept])

@@ -1,7 +1,7 @@
 -- Small lemmas on options, ids and searches.
 use Rattle.std.proofs.Common.{ap, ◌≡◌, ℕ, zero, suc, List, [], ◌∷◌, Bool, true, false, cond, refl, Option, Some, None, bytes_eq, ◌⊎◌, inl, inr}
-use Rattle.std.specs.Prelude.{find, option_map, filter, slice_get}
-use Rattle.std.specs.Option.{is_some, option_and_then}
+use Rattle.std.specs.Prelude.{option_map, filter, slice_get}
+use Rattle.std.specs.Option.{option_and_then}
 use Rattle.std.proofs.lemmas.Slice.Eq.{bytes_eq-Decides}
 use Rattle.cluster_defs.specs.Words.{Id, or_else}
 

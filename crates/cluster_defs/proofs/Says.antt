@@ -9,7 +9,7 @@ use Rattle.cluster_types.specs.declared.verdict.Cause.{Cause}
 use Rattle.cluster_types.specs.declared.entry.Entry.{Entry}
 use Rattle.cluster_types.specs.declared.entry.Entry.TheVariants.{Input, Hand, Settle, Lose}
 use Rattle.cluster_defs.specs.declared.attempt.Attempt.{Attempt}
-use Rattle.cluster_defs.specs.declared.attempt.Attempt.TheVariants.{Never, Running, EndedOk, EndedBadly, Lost, Declined}
+use Rattle.cluster_defs.specs.declared.attempt.Attempt.TheVariants.{Never, Running, EndedOk, EndedBadly, Lost, Declined, Withdrawn}
 use Rattle.cluster_defs.specs.declared.engine.Engine.{Engine}
 use Rattle.cluster_defs.specs.Words.{Id, is_empty}
 use Rattle.cluster_defs.specs.Engines.{missed}
@@ -57,6 +57,7 @@ over_ended over (EndedOk n) h = refl
 over_ended over (EndedBadly n) h = refl
 over_ended over (Lost n) h = refl
 over_ended over (Declined n) h = refl
+over_ended over (Withdrawn n) h = refl
 
 lose_says : (f : Facts) (d : Entry) → lose_due f ≡ Some d → Says f d
 lose_says f d e = let m = map_some _ _ _ e in subst (Says f) m.2 (record { engine = m.0; found = m.1; is = refl })
@@ -139,6 +140,7 @@ never_rests (EndedOk n) h = refl
 never_rests (EndedBadly n) h = refl
 never_rests (Lost n) h = refl
 never_rests (Declined n) h = refl
+never_rests (Withdrawn n) h = refl
 
 pub hand_rests : (f : Facts) (id : Id) (n : ℕ) → SaysHand f id n → (is_settled f id ≡ false) × (runs (f.task id).last ≡ false)
 hand_rests f id n says =

@@ -6,19 +6,19 @@ use Rattle.cluster_types.specs.declared.config.Channel.TheVariants.{Hub, Task, M
 use Rattle.cluster_types.specs.declared.message.Message.{Message}
 use Rattle.cluster_types.specs.declared.event.Submission.{Submission}
 use Rattle.cluster_types.specs.declared.event.Event.{Event as EventType}
-use Rattle.cluster_types.specs.declared.event.Event.TheVariants.{Submit, Direct, Reply, Join as JoinEvent, Leave, Pong as PongEvent, Purge as PurgeEvent, Resubmit as ResubmitEvent, Ask}
-use Rattle.cluster_types.specs.declared.event.Query.TheVariants.{Connection as ConnectionQuery, Queue as QueueQuery, Result as ResultQuery, History as HistoryQuery, Shutdown as ShutdownQuery, Unknown, Bad}
+use Rattle.cluster_types.specs.declared.event.Event.TheVariants.{Submit, Direct, Reply, Join as JoinEvent, Leave, Pong as PongEvent, Purge as PurgeEvent, Resubmit as ResubmitEvent, Abort as AbortEvent, Ask}
+use Rattle.cluster_types.specs.declared.event.Query.TheVariants.{Connection as ConnectionQuery, Queue as QueueQuery, Result as ResultQuery, History as HistoryQuery, Shutdown as ShutdownQuery, Db as DbQuery, Unknown, Bad}
 use Rattle.cluster_types.specs.declared.event.Reason.{Reason}
 use Rattle.cluster_types.specs.declared.event.Reason.TheVariants.{BadHeader, BadType, NoTarget, BadReply}
 use Rattle.cluster_defs.specs.declared.header.Header.{Header as HeaderType}
 use Rattle.cluster_defs.specs.declared.content.SubmitMeta.{SubmitMeta}
 use Rattle.cluster_defs.specs.declared.content.ReplyMeta.{ReplyMeta}
 use Rattle.cluster_defs.specs.declared.content.HubContent.{HubContent}
-use Rattle.cluster_defs.specs.declared.content.HubContent.TheVariants.{Connection as ConnectionContent, History as HistoryContent, Shutdown as ShutdownContent, Queue as QueueContent, Result as ResultContent, Purge as PurgeContent, Resubmit as ResubmitContent, Join, Pong}
+use Rattle.cluster_defs.specs.declared.content.HubContent.TheVariants.{Connection as ConnectionContent, History as HistoryContent, Shutdown as ShutdownContent, Queue as QueueContent, Result as ResultContent, Purge as PurgeContent, Resubmit as ResubmitContent, Abort as AbortContent, Join, Pong}
 use Rattle.cluster_defs.specs.declared.fault.ReadError.{ReadError}
 use Rattle.cluster_defs.specs.declared.fault.ReadError.TheVariants.{NotJson, NotObject, Missing, BadField, OutOfMemory}
 use Rattle.cluster_defs.specs.declared.hub_request.RequestType.{RequestType}
-use Rattle.cluster_defs.specs.declared.hub_request.RequestType.TheVariants.{Connection, Queue, Results, History, Shutdown, Purge, Resubmit, Registration, Beat}
+use Rattle.cluster_defs.specs.declared.hub_request.RequestType.TheVariants.{Connection, Queue, Results, History, Shutdown, Purge, Resubmit, Abort, Registration, Beat}
 use Rattle.cluster_defs.specs.Json.{Reading}
 use Rattle.cluster_defs.specs.Header.{read_header}
 use Rattle.cluster_defs.specs.Submit.{read_submit, plain_dependency}
@@ -53,6 +53,7 @@ event_of_content (QueueContent targets verbose) = Ask (QueueQuery targets verbos
 event_of_content (ResultContent ids status_only) = Ask (ResultQuery ids status_only)
 event_of_content (PurgeContent all ids) = PurgeEvent all ids
 event_of_content (ResubmitContent ids) = ResubmitEvent ids
+event_of_content (AbortContent ids) = AbortEvent ids
 event_of_content (Join uuid) = JoinEvent uuid
 event_of_content (Pong beat) = PongEvent beat
 
@@ -73,10 +74,18 @@ hub_request (Some History) = Some History
 hub_request (Some Shutdown) = Some Shutdown
 hub_request (Some Purge) = Some Purge
 hub_request (Some Resubmit) = Some Resubmit
+hub_request (Some Abort) = Some Abort
+
+unfoldable pub is_db : List ℕ → Bool
+is_db msg_type = bytes_eq msg_type (codes "db_request")
 
 abbrev pub hub_event : List ℕ → Option RequestType → EventType
 hub_event content None = Ask Unknown
 hub_event content (Some request) = request_event (read_content request content)
+
+-- a question to the database passes its content on as it came; that is read when it is answered
+abbrev pub hub_meaning : List ℕ → List ℕ → EventType
+hub_meaning msg_type content = if is_db msg_type then Ask (DbQuery content) else hub_event content (hub_request (request_of msg_type))
 
 abbrev pub submission : HeaderType → SubmitMeta → Submission
 submission header meta = record {
@@ -139,7 +148,7 @@ engine_event header message =
 
 abbrev pub event_under : Channel → Message → Reading HeaderType → Result EventType Reason
 event_under channel message (Err fault) = Err BadHeader
-event_under Hub message (Ok header) = Ok (hub_event message.content (hub_request (request_of header.msg_type)))
+event_under Hub message (Ok header) = Ok (hub_meaning header.msg_type message.content)
 event_under Task message (Ok header) = task_event header message.metadata
 event_under Mux message (Ok header) = mux_event header message.target
 event_under Engine message (Ok header) = engine_event header message

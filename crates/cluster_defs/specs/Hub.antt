@@ -3,9 +3,9 @@ use Rattle.std.specs.Prelude.{ℕ, ◌^◌, Bool, true, false, List, [], nat_lt,
 use Rattle.serde_json.specs.Data.{Data, Items, no_items, item}
 use Rattle.serde_json.specs.Find.{get, as_null, as_str, as_array}
 use Rattle.cluster_defs.specs.declared.hub_request.RequestType.{RequestType}
-use Rattle.cluster_defs.specs.declared.hub_request.RequestType.TheVariants.{Connection, Queue, Results, History, Shutdown, Purge, Resubmit, Registration, Beat}
+use Rattle.cluster_defs.specs.declared.hub_request.RequestType.TheVariants.{Connection, Queue, Results, History, Shutdown, Purge, Resubmit, Abort, Registration, Beat}
 use Rattle.cluster_defs.specs.declared.content.HubContent.{HubContent}
-use Rattle.cluster_defs.specs.declared.content.HubContent.TheVariants.{Connection as ConnectionContent, History as HistoryContent, Shutdown as ShutdownContent, Queue as QueueContent, Result as ResultContent, Purge as PurgeContent, Resubmit as ResubmitContent, Join, Pong}
+use Rattle.cluster_defs.specs.declared.content.HubContent.TheVariants.{Connection as ConnectionContent, History as HistoryContent, Shutdown as ShutdownContent, Queue as QueueContent, Result as ResultContent, Purge as PurgeContent, Resubmit as ResubmitContent, Abort as AbortContent, Join, Pong}
 use Rattle.cluster_defs.specs.declared.fault.ReadError.TheVariants.{Missing, BadField}
 use Rattle.cluster_defs.specs.Json.{Reading, reading_then, read_object}
 use Rattle.cluster_defs.specs.Fields.{or_bad, id_in, whole_in, list_in, id_from, flag_from, list_from, ids_from}
@@ -20,8 +20,9 @@ request_of msg_type =
     else (if bytes_eq msg_type (codes "shutdown_request") then Some Shutdown
     else (if bytes_eq msg_type (codes "purge_request") then Some Purge
     else (if bytes_eq msg_type (codes "resubmit_request") then Some Resubmit
+    else (if bytes_eq msg_type (codes "abort_request") then Some Abort
     else (if bytes_eq msg_type (codes "registration_request") then Some Registration
-    else (if bytes_eq msg_type (codes "beat_reply") then Some Beat else None))))))))
+    else (if bytes_eq msg_type (codes "beat_reply") then Some Beat else None)))))))))
 
 -- an engine's number is a whole number below 2^32
 abbrev pub below_2_32 : Option ℕ → Option ℕ
@@ -78,6 +79,9 @@ purge_from value =
 abbrev pub resubmit_from : Data → Reading HubContent
 resubmit_from value = reading_then (ids_from (codes "msg_ids") (get (codes "msg_ids") value)) (λ ids. Ok (ResubmitContent ids))
 
+abbrev pub abort_from : Data → Reading HubContent
+abort_from value = reading_then (ids_from (codes "msg_ids") (get (codes "msg_ids") value)) (λ ids. Ok (AbortContent ids))
+
 abbrev pub join_from : Data → Reading HubContent
 join_from value = reading_then (id_from (codes "uuid") (get (codes "uuid") value)) (λ uuid. Ok (Join uuid))
 
@@ -104,6 +108,7 @@ content_from Queue value = queue_from value
 content_from Results value = result_from value
 content_from Purge value = purge_from value
 content_from Resubmit value = resubmit_from value
+content_from Abort value = abort_from value
 content_from Registration value = join_from value
 content_from Beat value = pong_from value
 

@@ -20,6 +20,7 @@ use Rattle.cluster_defs.specs.declared.settled.Settled.{Settled}
 use Rattle.cluster_defs.specs.Tasks.{engine_of}
 use Rattle.cluster_defs.specs.Facts.{is_settled}
 use Rattle.cluster_types.specs.Limits.{most_ids}
+use Rattle.cluster_defs.specs.Aborts.{aborting}
 use Rattle.cluster_defs.specs.Purges.{purge_list, purging, resubmitting}
 use Rattle.cluster_defs.specs.Scheduling.{due, may_run, open_work, is_live}
 use Rattle.cluster_defs.specs.Histories.{History, facts, Legal, kept, decide_all}
@@ -28,7 +29,7 @@ use Rattle.cluster_defs.specs.Outs.{outs}
 use Rattle.cluster_defs.specs.Queries.{answer}
 use Rattle.cluster_defs.specs.TaskRecords.{records_of}
 use Rattle.cluster_defs.specs.RecordAnswers.{answer_in}
-use Rattle.cluster_defs.specs.RecordPlans.{purge_list_in, purge_in, resubmit_in}
+use Rattle.cluster_defs.specs.RecordPlans.{purge_list_in, purge_in, resubmit_in, abort_in}
 use Rattle.cluster_defs.specs.Uses.{last_use, Ascends, newest_word, newest_moment}
 use Rattle.cluster_defs.specs.Thin.{thin}
 use Rattle.cluster_defs.specs.Safety.{Safe}
@@ -189,9 +190,10 @@ RecordsAnswer =
     answer_in (records_of (facts history)) (map (λ e. (e.number, e.uuid)) (facts history).engines.live) channel query msg_type
     ≡ answer (facts history) channel query msg_type
 
--- and what a Purge and a Resubmit come to, off the records alone
+-- and what a Purge, a Resubmit and an Abort come to, off the records alone
 abbrev pub RecordsPlan : Type 0
 RecordsPlan =
     (history : History) (all : Bool) (ids : List Id) → Legal history →
     (purge_in (records_of (facts history)) (purge_list_in (records_of (facts history)) all ids) ≡ purging (facts history) (purge_list (facts history) all ids))
     × (resubmit_in (records_of (facts history)) most_ids (once ids) ≡ resubmitting (facts history) (once ids))
+    × (abort_in (records_of (facts history)) (once ids) ≡ aborting (facts history) (once ids))

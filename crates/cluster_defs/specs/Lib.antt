@@ -1,8 +1,13 @@
+pub mod Aborts
 pub mod Acceptance
 pub mod Connections
 pub mod Dependencies
 pub mod Engines
 pub mod Facts
+pub mod Filter
+pub mod FilterContents
+pub mod FilterReadings
+pub mod FilterWords
 pub mod Histories
 pub mod Inputs
 pub mod Laws

@@ -2,7 +2,7 @@
 use Rattle.std.specs.Prelude.{ℕ, suc, [], Option, bytes_eq, option_map}
 use Rattle.std.specs.List.{position_or_len}
 use Rattle.std.specs.Option.{option_and_then}
-use Rattle.cluster_types.specs.Verdicts.{cause_name, cause_value}
+use Rattle.cluster_types.specs.Verdicts.{cause_ename, cause_value}
 use Rattle.cluster_types.specs.declared.message.Message.{Message}
 use Rattle.cluster_types.specs.declared.verdict.Cause.{Cause}
 use Rattle.cluster_types.specs.declared.verdict.Cause.TheVariants.{Reply}
@@ -38,7 +38,7 @@ made_outcome number s r = record {
   header = made_header (outcome_id number) (reply_type r.msg_type) (date_of s.moment);
   parent = r.header;
   metadata = empty_object;
-  content = outcome_content (cause_name s.cause) (cause_value s.cause s.engine);
+  content = outcome_content (cause_ename s.cause) (cause_value s.cause s.engine);
   buffers = [];
 }
 

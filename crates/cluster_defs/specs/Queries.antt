@@ -7,13 +7,14 @@ use Rattle.cluster_types.specs.Verdicts.{verdict_name, cause_name}
 use Rattle.cluster_types.specs.declared.config.Channel.{Channel}
 use Rattle.cluster_types.specs.declared.config.Channel.TheVariants.{Hub, Task}
 use Rattle.cluster_types.specs.declared.message.Message.{Message}
+use Rattle.cluster_types.specs.declared.record.Record.{Record}
 use Rattle.cluster_types.specs.declared.event.Query.{Query}
-use Rattle.cluster_types.specs.declared.event.Query.TheVariants.{Connection, Queue, Result as ResultQuery, History, Shutdown, Unknown as UnknownQuery, Bad}
+use Rattle.cluster_types.specs.declared.event.Query.TheVariants.{Connection, Queue, Result as ResultQuery, History, Shutdown, Db, Unknown as UnknownQuery, Bad}
 use Rattle.cluster_types.specs.declared.event.Event.{Event}
-use Rattle.cluster_types.specs.declared.event.Event.TheVariants.{Submit, Direct, Reply, Join, Leave, Pong, Purge, Resubmit, Ask}
+use Rattle.cluster_types.specs.declared.event.Event.TheVariants.{Submit, Direct, Reply, Join, Leave, Pong, Purge, Resubmit, Abort, Ask}
 use Rattle.cluster_types.specs.Limits.{body_limit, most_buffers}
 use Rattle.cluster_defs.specs.Header.{message_type}
-use Rattle.cluster_defs.specs.Texts.{reply_type, submit_refused, ok_content, join_content, error_content, connection_content, history_content, queue_content, result_content, resubmit_content, EngineQueue, Settled as SettledText}
+use Rattle.cluster_defs.specs.Texts.{reply_type, submit_refused, ok_content, join_content, error_content, connection_content, history_content, queue_content, result_content, resubmit_content, abort_content, EngineQueue, Settled as SettledText}
 use Rattle.cluster_defs.specs.declared.acceptance.Acceptance.{Acceptance}
 use Rattle.cluster_defs.specs.declared.acceptance.Acceptance.TheVariants.{Reserved, Purged, Again, NoSuchEngine, Full, Accepted as AcceptedTask}
 use Rattle.cluster_defs.specs.declared.answer.Answer.{Answer}
@@ -25,9 +26,12 @@ use Rattle.cluster_defs.specs.declared.settled.Settled.{Settled}
 use Rattle.cluster_defs.specs.Tasks.{runs_at}
 use Rattle.cluster_defs.specs.Facts.{Facts, is_settled, is_direct_id}
 use Rattle.cluster_defs.specs.Acceptance.{acceptance}
+use Rattle.cluster_defs.specs.Aborts.{Aborting, Absent, TakesBack, aborting}
 use Rattle.cluster_defs.specs.Purges.{purge_list, Purging, Unknown, Inflight, Drops, purging, Resubmitting, NeverKnown, Gone, Running, NoRoom, Makes, resubmitting}
 use Rattle.cluster_defs.specs.Scheduling.{is_live, rests}
 use Rattle.cluster_defs.specs.Outcomes.{outcome}
+use Rattle.cluster_defs.specs.FilterContents.{query_content}
+use Rattle.cluster_defs.specs.TaskRecords.{records_of}
 
 -- an answer without buffers
 abbrev pub plain : List ℕ → Answer
@@ -50,6 +54,7 @@ pub record QueryView : Type 0 where
   pub absent : Id → Bool  -- whether an id was never known, or is purged
   pub settled : Id → Bool
   pub left : Id → Option SettledText  -- what a settled id left
+  pub records : List Record  -- the record of each task, by number
 
 -- the engines that are shown, ascending: all live ones, or those that are listed
 abbrev pub shown : List ℕ → List ℕ → List ℕ
@@ -89,6 +94,7 @@ answer_by v channel (Queue targets verbose) msg_type = queues_by v targets verbo
 answer_by v channel (ResultQuery ids status_only) msg_type = result_by v (once ids) status_only
 answer_by v channel History msg_type = plain (history_content v.unpurged)
 answer_by v channel Shutdown msg_type = plain ok_content
+answer_by v channel (Db content) msg_type = plain (query_content v.records content)
 answer_by v channel UnknownQuery msg_type = refusal (codes "UnknownRequest") msg_type []
 answer_by v channel (Bad field) msg_type = refusal (bad_name channel) field []
 
@@ -130,6 +136,7 @@ view_of f = record {
   absent = λ id. not (is_listed id f.known) || f.purged id;
   settled = is_settled f;
   left = left_by f;
+  records = records_of f;
 }
 
 abbrev pub results_of : Facts → Bool → List Id → List SettledText
@@ -179,6 +186,10 @@ resubmit_answer (Running ids) = refusal (codes "Inflight") [] ids
 resubmit_answer NoRoom = refusal (codes "TableFull") (codes "2000000") []
 resubmit_answer (Makes copies) = plain (resubmit_content (map (λ c. (c.old, c.new)) copies))
 
+abbrev pub abort_answer : Aborting → Answer
+abort_answer (Absent ids) = refusal (codes "UnknownIds") [] ids
+abort_answer (TakesBack ids) = plain (abort_content ids)
+
 -- LIMITS
 
 abbrev pub is_hub : Channel → Bool
@@ -212,6 +223,7 @@ answer_event f conn channel m (Join uuid) = Some (join_answer f.engines.next (jo
 answer_event f conn channel m Leave = Some (leave_answer (left_engine f.engines.live conn (Some Leave)))
 answer_event f conn channel m (Purge all ids) = Some (limited channel (purge_answer (purging f (purge_list f all ids))))
 answer_event f conn channel m (Resubmit ids) = Some (limited channel (resubmit_answer (resubmitting f (once ids))))
+answer_event f conn channel m (Abort ids) = Some (limited channel (abort_answer (aborting f (once ids))))
 answer_event f conn channel m (Ask query) = Some (answer f channel query (message_type m))
 answer_event f conn channel m (Pong beat) = None
 answer_event f conn channel m (Reply task header ok declined) = None
@@ -229,6 +241,7 @@ query_type channel (Queue targets verbose) msg_type = codes "queue_reply"
 query_type channel (ResultQuery ids status_only) msg_type = codes "result_reply"
 query_type channel History msg_type = codes "history_reply"
 query_type channel Shutdown msg_type = codes "shutdown_reply"
+query_type channel (Db content) msg_type = codes "db_reply"
 query_type channel UnknownQuery msg_type = reply_type msg_type
 query_type channel (Bad field) msg_type = bad_type channel msg_type
 
@@ -238,5 +251,6 @@ answer_type channel m (Join uuid) = codes "registration_reply"
 answer_type channel m Leave = codes "unregistration_reply"
 answer_type channel m (Purge all ids) = codes "purge_reply"
 answer_type channel m (Resubmit ids) = codes "resubmit_reply"
+answer_type channel m (Abort ids) = codes "abort_reply"
 answer_type channel m (Ask query) = query_type channel query (message_type m)
 answer_type channel m _ = submit_refused

@@ -76,6 +76,7 @@ view_in records live = record {
   absent = λ id. gone_as (record_in records id);
   settled = λ id. is_settled_record (record_in records id);
   left = λ id. option_and_then left_in (record_in records id);
+  records = records;
 }
 
 abbrev pub queues_in : List Record → List (ℕ × List ℕ) → List ℕ → Bool → Option ℕ → Answer

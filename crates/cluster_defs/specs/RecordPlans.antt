@@ -1,7 +1,8 @@
--- What a Purge and a Resubmit come to, off the records of all tasks alone.
+-- What a Purge, a Resubmit and an Abort come to, off the records of all tasks alone.
 use Rattle.std.specs.Prelude.{ℕ, List, length, Bool, not, ◌&&◌, filter, is_some, is_none}
 use Rattle.cluster_types.specs.declared.record.Record.{Record}
 use Rattle.cluster_defs.specs.Words.{Id}
+use Rattle.cluster_defs.specs.Aborts.{Aborting, aborting_by}
 use Rattle.cluster_defs.specs.Purges.{Purging, purge_list_by, purging_by, Resubmitting, resubmitting_known_by, resubmitting_by}
 use Rattle.cluster_defs.specs.RecordAnswers.{ids_where, record_in, gone_as, is_settled_record}
 
@@ -18,6 +19,9 @@ purge_list_in records = purge_list_by (ids_where (λ r. is_some r.settled && not
 
 abbrev pub purge_in : List Record → List Id → Purging
 purge_in records = purging_by (λ id. gone_as (record_in records id)) (λ id. is_settled_record (record_in records id))
+
+abbrev pub abort_in : List Record → List Id → Aborting
+abort_in records = aborting_by (λ id. gone_as (record_in records id)) (λ id. is_settled_record (record_in records id))
 
 -- ids never known, and ids that are known and purged
 abbrev pub unknown_in : List Record → List Id → List Id

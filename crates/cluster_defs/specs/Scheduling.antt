@@ -5,16 +5,16 @@ use Rattle.std.specs.Option.{is_some, is_none, option_and_then}
 use Rattle.cluster_types.specs.declared.config.Scheme.{Scheme}
 use Rattle.cluster_types.specs.declared.config.Scheme.TheVariants.{Lru, LeastLoad, PlainRandom, TwoBin}
 use Rattle.cluster_types.specs.declared.verdict.Verdict.{Verdict}
-use Rattle.cluster_types.specs.declared.verdict.Verdict.TheVariants.{Completed, Failed}
+use Rattle.cluster_types.specs.declared.verdict.Verdict.TheVariants.{Completed, Failed, Aborted}
 use Rattle.cluster_types.specs.declared.verdict.Cause.{Cause}
-use Rattle.cluster_types.specs.declared.verdict.Cause.TheVariants.{Reply, EngineError, ImpossibleDependency, InvalidDependency, TaskTimeout}
+use Rattle.cluster_types.specs.declared.verdict.Cause.TheVariants.{Reply, EngineError, ImpossibleDependency, InvalidDependency, TaskTimeout, Abort}
 use Rattle.cluster_types.specs.declared.event.Event.{Event}
 use Rattle.cluster_types.specs.declared.entry.Input.{Input as InputType}
 use Rattle.cluster_types.specs.declared.entry.Input.TheVariants.{Open, Up, Down, In, Beat, Time}
 use Rattle.cluster_types.specs.declared.entry.Entry.{Entry}
 use Rattle.cluster_types.specs.declared.entry.Entry.TheVariants.{Input, Hand, Settle, Lose}
 use Rattle.cluster_defs.specs.declared.attempt.Attempt.{Attempt}
-use Rattle.cluster_defs.specs.declared.attempt.Attempt.TheVariants.{EndedOk, EndedBadly, Lost}
+use Rattle.cluster_defs.specs.declared.attempt.Attempt.TheVariants.{EndedOk, EndedBadly, Lost, Withdrawn}
 use Rattle.cluster_defs.specs.Words.{Id, or_else, is_empty}
 use Rattle.cluster_defs.specs.Connections.{connection_on}
 use Rattle.cluster_defs.specs.Engines.{lists_number, missed}
@@ -40,11 +40,12 @@ retries f id = retries_of (f.request_of id)
     retries_of None = 0
     retries_of (Some r) = r.retries
 
--- an ok reply completes; an error reply or a loss fails where no retry is left
+-- what was taken back is aborted; an ok reply completes; an error reply or a loss fails where no retry is left
 abbrev pub verdict_at : Bool → Attempt → Option (Verdict × Cause)
 verdict_at over (EndedOk n) = Some (Completed, Reply)
 verdict_at over (EndedBadly n) = if over then Some (Failed, Reply) else None
 verdict_at over (Lost n) = if over then Some (Failed, EngineError) else None
+verdict_at over (Withdrawn engine) = Some (Aborted, Abort)
 verdict_at over _ = None
 
 -- the verdict and cause of a final id: `over` says that more attempts were spent than retries are allowed

@@ -1,5 +1,5 @@
 -- How one entry more changes what is read off a history: one small step for each fact.
-use Rattle.std.specs.Prelude.{ℕ, max, ◌+◌, ◌*◌, ◌%◌, ◌==◌, List, [], ◌∷◌, ◌++◌, Option, Some, None, Bool, true, false, not, ◌&&◌, ◌||◌, if◌then◌else◌, filter, bytes_eq, option_map}
+use Rattle.std.specs.Prelude.{ℕ, max, ◌+◌, ◌==◌, List, [], ◌∷◌, ◌++◌, Option, Some, None, Bool, true, false, not, ◌&&◌, ◌||◌, if◌then◌else◌, filter, bytes_eq, option_map}
 use Rattle.std.specs.Option.{is_some}
 use Rattle.cluster_types.specs.declared.config.Scheme.{Scheme}
 use Rattle.cluster_types.specs.declared.message.Message.{Message}
@@ -12,14 +12,15 @@ use Rattle.cluster_types.specs.Chance.{next_word}
 use Rattle.cluster_defs.specs.Inputs.{moment_of, word_of}
 use Rattle.cluster_defs.specs.declared.connection.Connection.{Connection}
 use Rattle.cluster_defs.specs.declared.engine.Engine.{Engine}
-use Rattle.cluster_defs.specs.Words.{Id, or_else}
+use Rattle.cluster_defs.specs.Words.{Id, is_empty, or_else}
 use Rattle.cluster_defs.specs.Connections.{with_connection, without_connection}
 use Rattle.cluster_defs.specs.Engines.{Engines, engine_on, joined, with_engine, left_engine, without_left, echoed, with_mark}
 use Rattle.cluster_defs.specs.declared.settled.Settled.{Settled}
-use Rattle.cluster_defs.specs.Tasks.{Task, lost, handed, counts, after_reply, after_end, settled_as}
+use Rattle.cluster_defs.specs.Tasks.{Task, lost, handed, counts, after_reply, after_end, after_abort, settled_as}
 use Rattle.cluster_defs.specs.Requests.{Request, Body, parts_of}
 use Rattle.cluster_defs.specs.Facts.{Facts, event_in, is_direct_id}
 use Rattle.cluster_defs.specs.Acceptance.{accepted, accepted_id, request_from, body_from}
+use Rattle.cluster_defs.specs.Aborts.{aborted_by}
 use Rattle.cluster_defs.specs.Purges.{purged_by, drops, copied_by, copied_ids, request_copied, body_copied}
 
 -- whether a reply is valid: it counts for the task that it names
@@ -32,7 +33,7 @@ abbrev pub changes : Facts → ℕ → Message → Option Event → Bool
 changes f conn message event =
     is_some (accepted f message event) || is_some (joined f.engines conn event) || is_some (left_engine f.engines.live conn event)
     || is_some (echoed f.engines.live conn f.beats event) || is_some (purged_by f event) || is_some (copied_by f event)
-    || is_valid_reply f conn event
+    || not (is_empty (aborted_by f event)) || is_valid_reply f conn event
 
 -- CLOCK AND WORDS
 
@@ -141,12 +142,12 @@ body_after f _ event id = f.body_of id
 
 -- TASKS
 
--- an attempt begins with a Hand, and ends by a valid reply, its engine's end or an Open
+-- an attempt begins with a Hand, and ends by a valid reply, its engine's end, an Abort or an Open
 abbrev pub task_after : Facts → Entry → Option Event → Id → Task → Task
 task_after f (Hand name engine) event id t = if bytes_eq name id then handed engine t else t
 task_after f (Input (Open moment scheme hwm misses)) event id t = lost t.last t
 task_after f (Input (In conn moment word message)) event id t =
-    after_end (left_engine f.engines.live conn event) (after_reply f.engines.live conn id (is_direct_id f id) event t)
+    after_abort (aborted_by f event) id (after_end (left_engine f.engines.live conn event) (after_reply f.engines.live conn id (is_direct_id f id) event t))
 task_after f e event id t = after_end (engine_end f.engines.live e event) t
 
 abbrev pub reply_from : Facts → ℕ → Message → Id → Option Event → Option Message → Option Message

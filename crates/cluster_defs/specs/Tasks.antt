@@ -6,12 +6,12 @@ use Rattle.cluster_types.specs.declared.event.Event.TheVariants.{Reply}
 use Rattle.cluster_types.specs.declared.verdict.Verdict.{Verdict}
 use Rattle.cluster_types.specs.declared.verdict.Cause.{Cause}
 use Rattle.cluster_defs.specs.declared.attempt.Attempt.{Attempt}
-use Rattle.cluster_defs.specs.declared.attempt.Attempt.TheVariants.{Never, Running, EndedOk, EndedBadly, Lost, Declined}
+use Rattle.cluster_defs.specs.declared.attempt.Attempt.TheVariants.{Never, Running, EndedOk, EndedBadly, Lost, Declined, Withdrawn}
 use Rattle.cluster_defs.specs.declared.attempt.Ending.{Ending}
 use Rattle.cluster_defs.specs.declared.attempt.Ending.TheVariants.{Well, Badly, Declines}
 use Rattle.cluster_defs.specs.declared.engine.Engine.{Engine}
 use Rattle.cluster_defs.specs.declared.settled.Settled.{Settled}
-use Rattle.cluster_defs.specs.Words.{Id, is_number}
+use Rattle.cluster_defs.specs.Words.{Id, is_listed, is_number}
 use Rattle.cluster_defs.specs.Engines.{conn_in}
 
 -- the last attempt; how many attempts ended by an error reply, an engine's end or an Open; the engines that declined;
@@ -46,6 +46,7 @@ engine_of (EndedOk n) = Some n
 engine_of (EndedBadly n) = Some n
 engine_of (Lost n) = Some n
 engine_of (Declined n) = Some n
+engine_of (Withdrawn engine) = engine
 
 -- a Hand begins an attempt
 abbrev pub handed : ℕ → Task → Task
@@ -96,6 +97,14 @@ after_reply live conn id direct _ t = t
 abbrev pub after_end : Option ℕ → Task → Task
 after_end None t = t
 after_end (Some n) t = if runs_at n t.last then lost t.last t else t
+
+-- an accepted abort that lists a task is its end: a current attempt isn't spent
+abbrev pub withdrawn : Task → Task
+withdrawn t = record t { last = Withdrawn (engine_of t.last) }
+
+-- of the ids that an abort takes back
+abbrev pub after_abort : List Id → Id → Task → Task
+after_abort ids id t = if is_listed id ids then withdrawn t else t
 
 -- SETTLED
 

@@ -104,6 +104,10 @@ outcome_content ename evalue =
 unfoldable pub resubmit_content : List (List ℕ × List ℕ) → List ℕ
 resubmit_content renamed = codes "{\"status\":\"ok\",\"resubmitted\":" ++ object_text (map text_member renamed) ++ codes "}"
 
+-- of an abort, with the ids that it took back
+unfoldable pub abort_content : List (List ℕ) → List ℕ
+abort_content ids = codes "{\"status\":\"ok\",\"aborted\":" ++ texts_list ids ++ codes "}"
+
 -- an engine by its number, with its uuid
 abbrev pub engine_member : ℕ × List ℕ → List ℕ
 engine_member engine = quoted (decimal engine.0) ++ 58 ∷ quoted engine.1

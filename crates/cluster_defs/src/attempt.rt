@@ -14,6 +14,8 @@ pub enum Attempt {
     Lost { engine: u32 },
     /// The engine declined it.
     Declined { engine: u32 },
+    /// A client took the task back. The engine is that of the last attempt before, where there was one.
+    Withdrawn { engine: Option<u32> },
 }
 
 /// How a valid reply ends an attempt.

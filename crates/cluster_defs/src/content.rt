@@ -40,6 +40,7 @@ pub enum HubContent {
     /// With `all` the list of ids is empty.
     Purge { all: bool, ids: Ids },
     Resubmit { ids: Ids },
+    Abort { ids: Ids },
     Join { uuid: Text },
     Pong { beat: u64 },
 }

@@ -17,6 +17,8 @@ pub enum RequestType {
     Purge,
     /// `resubmit_request`
     Resubmit,
+    /// `abort_request`
+    Abort,
     /// `registration_request`
     Registration,
     /// `beat_reply`

@@ -9,6 +9,7 @@ pub mod connection;
 pub mod content;
 pub mod engine;
 pub mod fault;
+pub mod filter;
 pub mod header;
 pub mod hub_request;
 pub mod request;

@@ -4,7 +4,7 @@
 #![tactic(auto)]
 
 ghost use Rattle.std.specs.Prelude.{◌≡◌, ◌⊎◌, ◌==◌, Ok, Err, Some, None, Result, IfOk, IfErr, length, codes};
-ghost use Rattle.cluster_defs.specs.Event.{fault_field, event_of_content, request_event, hub_request, hub_event, submission, submitted, task_event, direct_meta, mux_event, echo_event, replied, reply_event, is_registration, is_echo, engine_event, event_under, event_of};
+ghost use Rattle.cluster_defs.specs.Event.{fault_field, event_of_content, request_event, hub_request, hub_event, hub_meaning, submission, submitted, task_event, direct_meta, mux_event, echo_event, replied, reply_event, is_registration, is_echo, engine_event, event_under, event_of};
 ghost use Rattle.cluster_intake.specs.Intake.{taken_in};
 ghost use Rattle.cluster_defs.specs.Header.{read_header, message_type};
 ghost use Rattle.cluster_defs.specs.Hub.{request_of, read_content};
@@ -20,6 +20,7 @@ use cluster_defs::header::Header;
 use cluster_defs::hub_request::RequestType;
 use cluster_types::config::Channel;
 use cluster_types::event::{Event, Query, Reason, Submission};
+use cluster_types::octets::Octets;
 use cluster_types::sequence::Sequence;
 use cluster_types::shared_message::SharedMessage;
 use cluster_types::text::Text;
@@ -27,7 +28,7 @@ use fault::IntakeError;
 use json::Scratch;
 use jupyter_header::header::read_header;
 use jupyter_header::hub::read_content;
-use jupyter_header::kinds::{is_leave, is_reply, is_request, request_of};
+use jupyter_header::kinds::{is_db, is_leave, is_reply, is_request, request_of};
 use jupyter_header::reply::read_reply;
 use jupyter_header::submit::{plain_dependency, read_submit};
 use std::alloc::{AllocError, Global};
@@ -56,6 +57,7 @@ fn event_of_content(content: HubContent) -> Event
         HubContent::Result { ids, status_only } => Event::Ask(Query::Result { ids, status_only }),
         HubContent::Purge { all, ids } => Event::Purge { all, ids },
         HubContent::Resubmit { ids } => Event::Resubmit { ids },
+        HubContent::Abort { ids } => Event::Abort { ids },
         HubContent::Join { uuid } => Event::Join { uuid },
         HubContent::Pong { beat } => Event::Pong { beat },
     }
@@ -90,7 +92,7 @@ fn hub_request(found: Option<RequestType>) -> Option<RequestType>
     }
 }
 
-/// What a message to the hub asks for.
+/// What a request to the hub asks for, by the type that it names.
 fn hub_event(
     alloc: Global,
     msg_type: &Text,
@@ -103,6 +105,24 @@ fn hub_event(
         None => Ok(Event::Ask(Query::Unknown)),
         Some(request) => request_event(alloc, request, content, scratch),
     }
+}
+
+/// What a message to the hub asks for. The content of a question to the database is copied as it came, and read when it is
+/// answered.
+fn hub_meaning(
+    alloc: Global,
+    msg_type: &Text,
+    content: &[u8],
+    scratch: &mut Scratch,
+) -> Result<Event, AllocError>
+    ensures { IfOk result (λ e. e ≡ hub_meaning msg_type.now content.now) }
+{
+    if is_db(msg_type) {
+        let content = Octets::new(alloc, content)?;
+        return Ok(Event::Ask(Query::Db { content }));
+    }
+    let event = hub_event(alloc, msg_type, content, scratch)?;
+    Ok(event)
 }
 
 /// What a header and metadata say together.
@@ -288,7 +308,7 @@ fn event_under(
     ensures err { IfErr result (λ e. (e ≡ IntakeError.OutOfMemory) ⊎ (taken_in (event_under channel message.now (Ok header)) ≡ Err e)) }
 {
     let event = match channel {
-        Channel::Hub => hub_event(alloc, &header.msg_type, message.content(), scratch)?,
+        Channel::Hub => hub_meaning(alloc, &header.msg_type, message.content(), scratch)?,
         Channel::Task => task_event(alloc, header, message.metadata(), scratch)?,
         Channel::Mux => mux_event(alloc, header, message.target())?,
         Channel::Engine => engine_event(alloc, header, message, scratch)?,

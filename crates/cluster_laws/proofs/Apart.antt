@@ -6,7 +6,7 @@ use Rattle.std.proofs.lemmas.Bool.{and_parts, and_from, not-true, false_from_ne_
 use Rattle.std.proofs.lemmas.List.Folds.{list_any-append}
 use Rattle.cluster_types.specs.declared.message.Message.{Message}
 use Rattle.cluster_types.specs.declared.event.Event.{Event}
-use Rattle.cluster_types.specs.declared.event.Event.TheVariants.{Submit, Direct, Reply, Join, Leave, Pong, Purge, Resubmit, Ask}
+use Rattle.cluster_types.specs.declared.event.Event.TheVariants.{Submit, Direct, Reply, Join, Leave, Pong, Purge, Resubmit, Abort, Ask}
 use Rattle.cluster_types.specs.declared.entry.Input.TheVariants.{Open, Up, Down, In, Beat, Time}
 use Rattle.cluster_types.specs.declared.entry.Entry.{Entry}
 use Rattle.cluster_types.specs.declared.entry.Entry.TheVariants.{Input, Hand, Settle, Lose}
@@ -201,6 +201,7 @@ joined_free engines conn (Some Leave) uuid h = cc
 joined_free engines conn (Some (Pong b)) uuid h = cc
 joined_free engines conn (Some (Purge all ids)) uuid h = cc
 joined_free engines conn (Some (Resubmit ids)) uuid h = cc
+joined_free engines conn (Some (Abort ids)) uuid h = cc
 joined_free engines conn (Some (Ask q)) uuid h = cc
 
 flip_eq : (a b : ℕ) → not (a == b) ≡ true → not (b == a) ≡ true

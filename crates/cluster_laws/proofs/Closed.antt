@@ -14,7 +14,7 @@ use Rattle.cluster_types.specs.declared.entry.Input.TheVariants.{Open, Up, Down,
 use Rattle.cluster_types.specs.declared.entry.Entry.{Entry}
 use Rattle.cluster_types.specs.declared.entry.Entry.TheVariants.{Input, Hand, Settle, Lose}
 use Rattle.cluster_defs.specs.declared.attempt.Attempt.{Attempt}
-use Rattle.cluster_defs.specs.declared.attempt.Attempt.TheVariants.{Never, Running, EndedOk, EndedBadly, Lost, Declined}
+use Rattle.cluster_defs.specs.declared.attempt.Attempt.TheVariants.{Never, Running, EndedOk, EndedBadly, Lost, Declined, Withdrawn}
 use Rattle.cluster_defs.specs.declared.engine.Engine.{Engine}
 use Rattle.cluster_defs.specs.Words.{Id, or_else, is_listed, is_number}
 use Rattle.cluster_defs.specs.Engines.{engine_on, left_engine}
@@ -33,6 +33,8 @@ use Rattle.cluster_defs.proofs.Says.{due_says}
 use Rattle.cluster_laws.proofs.Later.{settled_stays, request_stays}
 use Rattle.cluster_laws.proofs.Safe.{hand_open}
 use Rattle.cluster_laws.proofs.Copies.{purge_settled, old_copied, listed_copied}
+use Rattle.cluster_laws.proofs.Aborting.{abort_choice}
+use Rattle.cluster_defs.specs.Aborts.{aborted_by}
 
 -- WHAT STAYS
 
@@ -162,6 +164,7 @@ lost_idle (EndedOk n) t h = h
 lost_idle (EndedBadly n) t h = h
 lost_idle (Lost n) t h = h
 lost_idle (Declined n) t h = h
+lost_idle (Withdrawn n) t h = h
 
 replied_idle : (header : List ℕ) (how : Ending) (n : ℕ) (t : Task) → runs (replied header how n t).last ≡ false
 replied_idle header Well n t = refl
@@ -175,6 +178,7 @@ took_idle header how (EndedOk n) t h = h
 took_idle header how (EndedBadly n) t h = h
 took_idle header how (Lost n) t h = h
 took_idle header how (Declined n) t h = h
+took_idle header how (Withdrawn n) t h = h
 
 choice_idle : (b : Bool) (new old : Task) → runs new.last ≡ false → runs old.last ≡ false → runs (cond b new old).last ≡ false
 choice_idle true new old h k = h
@@ -198,7 +202,7 @@ input_idle f (Beat moment word) id h = h
 input_idle f (Time moment word) id h = h
 input_idle f (In conn moment word m) id h =
     let event = event_on f conn m in
-    end_idle (left_engine f.engines.live conn event) _ (reply_idle f.engines.live conn id (is_direct_id f id) event (f.task id) h)
+    abort_choice (λ t. runs t.last ≡ false) (aborted_by f event) id _ (end_idle (left_engine f.engines.live conn event) _ (reply_idle f.engines.live conn id (is_direct_id f id) event (f.task id) h)) refl
 
 -- an id that is settled by an entry was settled before, or is the one that it names
 settled_by : (o : Option Settled) (b : Bool) (s : Settled) → is_some (or_else o (cond b (Some s) None)) ≡ true → (b ≡ false) → is_some o ≡ true
@@ -258,3 +262,4 @@ home_idle live (EndedOk n) conn b h = refl
 home_idle live (EndedBadly n) conn b h = refl
 home_idle live (Lost n) conn b h = refl
 home_idle live (Declined n) conn b h = refl
+home_idle live (Withdrawn n) conn b h = refl

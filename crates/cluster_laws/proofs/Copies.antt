@@ -4,7 +4,7 @@ use Rattle.std.specs.Prelude.{filter, find, option_map, nat_lt, length}
 use Rattle.std.specs.List.{list_all}
 use Rattle.std.proofs.lemmas.Bool.{and_parts, not-true, or_cases}
 use Rattle.cluster_types.specs.declared.event.Event.{Event}
-use Rattle.cluster_types.specs.declared.event.Event.TheVariants.{Submit, Direct, Reply, Join, Leave, Pong, Purge, Resubmit, Ask}
+use Rattle.cluster_types.specs.declared.event.Event.TheVariants.{Submit, Direct, Reply, Join, Leave, Pong, Purge, Resubmit, Abort, Ask}
 use Rattle.cluster_defs.specs.Words.{Id, is_empty, is_listed, once}
 use Rattle.cluster_defs.specs.Facts.{Facts, is_settled}
 use Rattle.cluster_types.specs.Limits.{most_ids}
@@ -62,6 +62,7 @@ purge_settled f (Some (Join u)) id h = cc
 purge_settled f (Some Leave) id h = cc
 purge_settled f (Some (Pong b)) id h = cc
 purge_settled f (Some (Resubmit ids)) id h = cc
+purge_settled f (Some (Abort ids)) id h = cc
 purge_settled f (Some (Ask q)) id h = cc
 
 -- RESUBMIT
@@ -136,6 +137,7 @@ pub copies_of : (f : Facts) (o : Option Event) (copies : List Copy) → copied_b
 copies_of f None copies h = cc
 copies_of f (Some (Resubmit ids)) copies h = (once ids, made_of f (once ids) copies h)
 copies_of f (Some (Submit s)) copies h = cc
+copies_of f (Some (Abort ids)) copies h = cc
 copies_of f (Some (Direct s)) copies h = cc
 copies_of f (Some (Reply name header ok declined)) copies h = cc
 copies_of f (Some (Join u)) copies h = cc

@@ -6,12 +6,12 @@ use Rattle.std.proofs.lemmas.Bool.{or_left, eq-eqb, or_right}
 use Rattle.std.proofs.lemmas.List.Folds.{list_any-append}
 use Rattle.cluster_types.specs.declared.message.Message.{Message}
 use Rattle.cluster_types.specs.declared.event.Event.{Event}
-use Rattle.cluster_types.specs.declared.event.Event.TheVariants.{Submit, Direct, Reply, Join, Leave, Pong, Purge, Resubmit, Ask}
+use Rattle.cluster_types.specs.declared.event.Event.TheVariants.{Submit, Direct, Reply, Join, Leave, Pong, Purge, Resubmit, Abort, Ask}
 use Rattle.cluster_types.specs.declared.entry.Input.TheVariants.{Open, Up, Down, In, Beat, Time}
 use Rattle.cluster_types.specs.declared.entry.Entry.{Entry}
 use Rattle.cluster_types.specs.declared.entry.Entry.TheVariants.{Input, Hand, Settle, Lose}
 use Rattle.cluster_defs.specs.declared.attempt.Attempt.{Attempt}
-use Rattle.cluster_defs.specs.declared.attempt.Attempt.TheVariants.{Never, Running, EndedOk, EndedBadly, Lost, Declined}
+use Rattle.cluster_defs.specs.declared.attempt.Attempt.TheVariants.{Never, Running, EndedOk, EndedBadly, Lost, Declined, Withdrawn}
 use Rattle.cluster_defs.specs.declared.engine.Engine.{Engine}
 use Rattle.cluster_defs.specs.Words.{Id, or_else, is_listed}
 use Rattle.cluster_defs.specs.Engines.{Engines, engine_on, engine_named, lists_number, left_engine, missed}
@@ -29,6 +29,8 @@ use Rattle.cluster_defs.proofs.Options.{map_some}
 use Rattle.cluster_defs.proofs.Says.{SaysLose, due_says}
 use Rattle.cluster_laws.proofs.Later.{request_stays}
 use Rattle.cluster_laws.proofs.Parts.{Waits, waits, waits_back, none_due, none_waits}
+use Rattle.cluster_laws.proofs.Aborting.{abort_choice}
+use Rattle.cluster_defs.specs.Aborts.{aborted_by}
 
 -- AN ATTEMPT IS FIRST MADE BY A HAND-OUT
 
@@ -42,6 +44,7 @@ lost_never (EndedOk n) t h = h
 lost_never (EndedBadly n) t h = h
 lost_never (Lost n) t h = h
 lost_never (Declined n) t h = h
+lost_never (Withdrawn n) t h = h
 
 choice_never : (b : Bool) (new old : Task) → Back old new → Back old (cond b new old)
 choice_never true new old k h = k h
@@ -59,6 +62,7 @@ took_never header how (EndedOk n) t h = h
 took_never header how (EndedBadly n) t h = h
 took_never header how (Lost n) t h = h
 took_never header how (Declined n) t h = h
+took_never header how (Withdrawn n) t h = h
 
 reply_never : (live : List Engine) (conn : ℕ) (id : Id) (direct : Bool) (o : Option Event) (t : Task) → Back t (after_reply live conn id direct o t)
 reply_never live conn id direct None t h = h
@@ -71,6 +75,7 @@ reply_never live conn id direct (Some Leave) t h = h
 reply_never live conn id direct (Some (Pong b)) t h = h
 reply_never live conn id direct (Some (Purge all ids)) t h = h
 reply_never live conn id direct (Some (Resubmit ids)) t h = h
+reply_never live conn id direct (Some (Abort ids)) t h = h
 reply_never live conn id direct (Some (Ask q)) t h = h
 
 end_never : (o : Option ℕ) (t : Task) → Back t (after_end o t)
@@ -92,7 +97,8 @@ task_never f (Input (Beat moment word)) id h = h
 task_never f (Input (Time moment word)) id h = h
 task_never f (Input (In conn moment word message)) id h =
     let event = event_on f conn message in
-    reply_never f.engines.live conn id (is_direct_id f id) event (f.task id) (end_never (left_engine f.engines.live conn event) _ h)
+    reply_never f.engines.live conn id (is_direct_id f id) event (f.task id)
+    (end_never (left_engine f.engines.live conn event) _ (abort_choice (λ t. is_never t.last ≡ true → is_never (after_end (left_engine f.engines.live conn event) (after_reply f.engines.live conn id (is_direct_id f id) event (f.task id))).last ≡ true) (aborted_by f event) id _ (λ k. k) (λ k. cc) h))
 
 none_before : {X : Type 0} (o p : Option X) → is_some (or_else o p) ≡ false → is_some o ≡ false
 none_before None p h = refl
@@ -203,6 +209,7 @@ demand_quiet f conn m (Some Leave) d h = cc
 demand_quiet f conn m (Some (Pong b)) d h = cc
 demand_quiet f conn m (Some (Purge all ids)) d h = refl
 demand_quiet f conn m (Some (Resubmit ids)) d h = refl
+demand_quiet f conn m (Some (Abort ids)) d h = refl
 demand_quiet f conn m (Some (Ask q)) d h = refl
 
 no_copy : (f : Facts) (moment : ℕ) (id : Id) (copies : Option (List Copy)) (n : ℕ) → direct_engine (request_copied f moment id copies) ≡ Some n → ⊥

@@ -6,8 +6,9 @@ use Rattle.std.proofs.lemmas.Bool.{or_cases, both_ways}
 use Rattle.std.proofs.lemmas.List.Folds.{list_any-append}
 use Rattle.cluster_types.specs.declared.message.Message.{Message}
 use Rattle.cluster_types.specs.declared.verdict.Verdict.{Verdict}
+use Rattle.cluster_types.specs.declared.verdict.Verdict.TheVariants.{Failed, Aborted}
 use Rattle.cluster_types.specs.declared.verdict.Cause.{Cause}
-use Rattle.cluster_types.specs.declared.verdict.Cause.TheVariants.{Reply as ByReply, EngineError, ImpossibleDependency, InvalidDependency, TaskTimeout}
+use Rattle.cluster_types.specs.declared.verdict.Cause.TheVariants.{Reply as ByReply, EngineError, ImpossibleDependency, InvalidDependency, TaskTimeout, Abort}
 use Rattle.cluster_types.specs.declared.event.Event.{Event}
 use Rattle.cluster_types.specs.declared.event.Event.TheVariants.{Reply}
 use Rattle.cluster_types.specs.declared.out.Out.TheVariants.{Pass}
@@ -15,7 +16,7 @@ use Rattle.cluster_types.specs.declared.entry.Input.TheVariants.{Open, Up, Down,
 use Rattle.cluster_types.specs.declared.entry.Entry.{Entry}
 use Rattle.cluster_types.specs.declared.entry.Entry.TheVariants.{Input, Hand, Settle, Lose}
 use Rattle.cluster_defs.specs.declared.attempt.Attempt.{Attempt}
-use Rattle.cluster_defs.specs.declared.attempt.Attempt.TheVariants.{Never, Running, EndedOk, EndedBadly, Lost, Declined}
+use Rattle.cluster_defs.specs.declared.attempt.Attempt.TheVariants.{Never, Running, EndedOk, EndedBadly, Lost, Declined, Withdrawn}
 use Rattle.cluster_defs.specs.declared.engine.Engine.{Engine}
 use Rattle.cluster_defs.specs.Words.{Id, or_else, is_listed}
 use Rattle.cluster_defs.specs.Engines.{engine_on, left_engine, conn_in, lists_number}
@@ -36,6 +37,8 @@ use Rattle.cluster_laws.proofs.Copies.{old_copied, listed_copied}
 use Rattle.cluster_laws.proofs.Safe.{hand_says, hand_live}
 use Rattle.cluster_laws.proofs.Closed.{closed, found_listed, Requested, requested}
 use Rattle.cluster_types.proofs.Options.{some_is}
+use Rattle.cluster_laws.proofs.Aborting.{abort_choice}
+use Rattle.cluster_defs.specs.Aborts.{aborted_by}
 
 some_left : {X : Type 0} (o p : Option X) → is_some o ≡ true → is_some (or_else o p) ≡ true
 some_left None p h = cc
@@ -113,6 +116,7 @@ lost_before (EndedOk n) t h = h
 lost_before (EndedBadly n) t h = h
 lost_before (Lost n) t h = h
 lost_before (Declined n) t h = h
+lost_before (Withdrawn n) t h = h
 
 end_before : (o : Option ℕ) (t : Task) → is_answered (after_end o t).last ≡ true → is_answered t.last ≡ true
 end_before None t h = h
@@ -151,7 +155,8 @@ replied_more f (Input (Beat moment word)) replied id h = replied id h
 replied_more f (Input (Time moment word)) replied id h = replied id h
 replied_more f (Input (In conn moment word m)) replied id h =
     let event = event_on f conn m in
-    event_has f conn m id event (replied id) (end_before (left_engine f.engines.live conn event) (after_reply f.engines.live conn id (is_direct_id f id) event (f.task id)) h)
+    let before = end_before (left_engine f.engines.live conn event) (after_reply f.engines.live conn id (is_direct_id f id) event (f.task id)) in
+    event_has f conn m id event (replied id) (abort_choice (λ t. is_answered t.last ≡ true → is_answered (after_reply f.engines.live conn id (is_direct_id f id) event (f.task id)).last ≡ true) (aborted_by f event) id _ before (λ k. cc) h)
 
 pub replied_all : (h : History) → Replied (facts h)
 unfolding Replied
@@ -186,18 +191,23 @@ is_reply _ = false
 unfoldable pub Answered : Facts → Type 0
 Answered f = (id : Id) (s : Settled) → f.settled id ≡ Some s → is_reply s.cause ≡ true → is_some (f.reply_of id) ≡ true
 
+inside : (x y : Cause) → Some x ≡ Some y → x ≡ y
+inside x y e = cc
+
+-- a verdict with another cause
+not_reply : (w v : Verdict) (x c : Cause) → is_reply x ≡ false → ◌≡◌ {A = Option (Verdict × Cause)} (Some (w, x)) (Some (v, c)) → is_reply c ≡ false
+not_reply w v x c off h = let same : Some x ≡ Some c = ap (option_map (λ (p : Verdict × Cause). p.1)) h in subst (λ y. is_reply y ≡ false) (inside x c same) off
+
 -- a final id whose cause is a reply ended by one
 ended_by : (over : Bool) (a : Attempt) (v : Verdict) (c : Cause) → verdict_at over a ≡ Some (v, c) → is_reply c ≡ true → is_answered a ≡ true
 ended_by over Never v c h k = cc
 ended_by over (Running n) v c h k = cc
 ended_by over (EndedOk n) v c h k = refl
 ended_by over (EndedBadly n) v c h k = refl
-ended_by true (Lost n) v c h k = let same : Some EngineError ≡ Some c = ap (option_map (λ (p : Verdict × Cause). p.1)) h in let off : is_reply c ≡ false = subst (λ x. is_reply x ≡ false) (inside EngineError c same) refl in cc
-  where
-    inside : (x y : Cause) → Some x ≡ Some y → x ≡ y
-    inside x y e = cc
+ended_by true (Lost n) v c h k = let off = not_reply Failed v EngineError c refl h in cc
 ended_by false (Lost n) v c h k = cc
 ended_by over (Declined n) v c h k = cc
+ended_by over (Withdrawn n) v c h k = let off = not_reply Aborted v Abort c refl h in cc
 
 -- what fails without an attempt has another cause
 why_other : (invalid dead late : Bool) (c : Cause) → cond invalid (Some InvalidDependency) (cond dead (Some ImpossibleDependency) (cond late (Some TaskTimeout) None)) ≡ Some c → is_reply c ≡ false
@@ -256,6 +266,7 @@ by_there f id s EngineError reply request = map_some_is _ (f.request_of id) requ
 by_there f id s ImpossibleDependency reply request = map_some_is _ (f.request_of id) request
 by_there f id s InvalidDependency reply request = map_some_is _ (f.request_of id) request
 by_there f id s TaskTimeout reply request = map_some_is _ (f.request_of id) request
+by_there f id s Abort reply request = map_some_is _ (f.request_of id) request
 
 -- what is settled has an outcome
 pub settled_answered : (h : History) (id : Id) → Legal h → is_settled (facts h) id ≡ true → is_some (outcome (facts h) id) ≡ true

@@ -7,11 +7,11 @@ use Rattle.cluster_types.specs.Verdicts.{completed}
 use Rattle.cluster_types.specs.declared.event.Dep.{Dep}
 use Rattle.cluster_types.specs.declared.verdict.Verdict.{Verdict}
 use Rattle.cluster_types.specs.declared.verdict.Cause.{Cause}
-use Rattle.cluster_types.specs.declared.verdict.Cause.TheVariants.{Reply as ByReply, EngineError, ImpossibleDependency, InvalidDependency, TaskTimeout}
+use Rattle.cluster_types.specs.declared.verdict.Cause.TheVariants.{Reply as ByReply, EngineError, ImpossibleDependency, InvalidDependency, TaskTimeout, Abort as ByAbort}
 use Rattle.cluster_types.specs.declared.entry.Entry.{Entry}
 use Rattle.cluster_types.specs.declared.entry.Entry.TheVariants.{Settle}
 use Rattle.cluster_defs.specs.declared.attempt.Attempt.{Attempt}
-use Rattle.cluster_defs.specs.declared.attempt.Attempt.TheVariants.{Never, Running, EndedOk, EndedBadly, Lost, Declined}
+use Rattle.cluster_defs.specs.declared.attempt.Attempt.TheVariants.{Never, Running, EndedOk, EndedBadly, Lost, Declined, Withdrawn}
 use Rattle.cluster_defs.specs.Words.{Id, is_empty, is_number}
 use Rattle.cluster_defs.specs.declared.settled.Settled.{Settled}
 use Rattle.cluster_defs.specs.Dependencies.{quantified, met, unreachable, asked, other_kind, on_engine, apart, same_engine, scattered}
@@ -170,6 +170,7 @@ not_impossible false (EndedBadly n) v h = cc
 not_impossible true (Lost n) v h = let c : Some EngineError ≡ Some ImpossibleDependency = ap cause_of h in cc
 not_impossible false (Lost n) v h = cc
 not_impossible over (Declined n) v h = cc
+not_impossible over (Withdrawn n) v h = let c : Some ByAbort ≡ Some ImpossibleDependency = ap cause_of h in cc
 
 -- what fails as impossible, is dead
 why_dead : (invalid dead late : Bool) → cond invalid (Some InvalidDependency) (cond dead (Some ImpossibleDependency) (cond late (Some TaskTimeout) None)) ≡ Some ImpossibleDependency → dead ≡ true

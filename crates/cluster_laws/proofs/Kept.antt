@@ -1,15 +1,15 @@
 -- An entry that isn't kept changes nothing, so the kept entries alone read the same.
-use Rattle.std.proofs.Common.{◌≡◌, ℕ, List, [], ◌∷◌, ◌++◌, append-nil, Bool, true, false, cond, ◌&&◌, ◌||◌, refl, sym, ap, ◌∙◌, subst, Option, Some, None, bytes_eq}
+use Rattle.std.proofs.Common.{◌≡◌, ℕ, List, [], ◌∷◌, ◌++◌, append-nil, Bool, true, false, cond, not, ◌&&◌, ◌||◌, refl, sym, ap, ◌∙◌, subst, Option, Some, None, bytes_eq}
 use Rattle.std.proofs.lemmas.Bool.{or_parts}
 use Rattle.cluster_types.specs.declared.message.Message.{Message}
 use Rattle.cluster_types.specs.declared.event.Event.{Event}
-use Rattle.cluster_types.specs.declared.event.Event.TheVariants.{Submit, Direct, Reply, Join, Leave, Pong, Purge, Resubmit, Ask}
+use Rattle.cluster_types.specs.declared.event.Event.TheVariants.{Submit, Direct, Reply, Join, Leave, Pong, Purge, Resubmit, Abort, Ask}
 use Rattle.cluster_types.specs.declared.entry.Input.TheVariants.{Open, Up, Down, In, Beat, Time}
 use Rattle.cluster_types.specs.declared.entry.Entry.{Entry}
 use Rattle.cluster_types.specs.declared.entry.Entry.TheVariants.{Input, Hand, Settle, Lose}
-use Rattle.cluster_defs.specs.Words.{Id, or_else}
+use Rattle.cluster_defs.specs.Words.{Id, is_empty, or_else}
 use Rattle.cluster_defs.specs.Engines.{joined, left_engine, echoed}
-use Rattle.cluster_defs.specs.Tasks.{counts, after_reply, after_end}
+use Rattle.cluster_defs.specs.Tasks.{counts, after_reply, after_end, after_abort}
 use Rattle.cluster_defs.specs.Facts.{Facts, event_on, is_direct_id}
 use Rattle.cluster_defs.specs.Acceptance.{accepted, accepted_id, request_from, body_from}
 use Rattle.cluster_defs.specs.Purges.{purged_by, drops, copied_by, copied_ids, request_copied, body_copied}
@@ -19,6 +19,7 @@ use Rattle.cluster_defs.specs.Histories.{History, facts, Legal, kept}
 use Rattle.cluster_defs.proofs.Options.{same_id, or_else-None}
 use Rattle.cluster_types.proofs.Booleans.{or_false}
 use Rattle.cluster_types.proofs.Options.{none_of}
+use Rattle.cluster_defs.specs.Aborts.{aborted_by}
 
 -- what an event that changes nothing doesn't do
 pub record Still (f : Facts) (conn : ℕ) (m : Message) (event : Option Event) : Type 0 where
@@ -29,11 +30,17 @@ pub record Still (f : Facts) (conn : ℕ) (m : Message) (event : Option Event) :
   pub none_purged : purged_by f event ≡ None
   pub none_copied : copied_by f event ≡ None
   pub not_valid : is_valid_reply f conn event ≡ false
+  pub none_aborted : aborted_by f event ≡ []
+
+emptied : (ids : List Id) → not (is_empty ids) ≡ false → ids ≡ []
+emptied [] h = refl
+emptied (id ∷ ids) h = cc
 
 pub still_from : (f : Facts) (conn : ℕ) (m : Message) (event : Option Event) → changes f conn m event ≡ false → Still f conn m event
 still_from f conn m event h =
     let a = or_parts _ _ h in
-    let b = or_parts _ _ a.0 in
+    let z = or_parts _ _ a.0 in
+    let b = or_parts _ _ z.0 in
     let c = or_parts _ _ b.0 in
     let d = or_parts _ _ c.0 in
     let e = or_parts _ _ d.0 in
@@ -46,6 +53,7 @@ still_from f conn m event h =
       none_purged = none_of _ c.1;
       none_copied = none_of _ b.1;
       not_valid = a.1;
+      none_aborted = emptied (aborted_by f event) z.1;
     }
 
 -- a reply that isn't valid for the task that it names, is for none
@@ -65,6 +73,7 @@ reply_same f conn id direct (Some Leave) h = refl
 reply_same f conn id direct (Some (Pong b)) h = refl
 reply_same f conn id direct (Some (Purge all ids)) h = refl
 reply_same f conn id direct (Some (Resubmit ids)) h = refl
+reply_same f conn id direct (Some (Abort ids)) h = refl
 reply_same f conn id direct (Some (Ask q)) h = refl
 reply_same f conn id direct (Some (Reply name header ok declined)) h = rw (off_for f conn id name header h) refl
 
@@ -77,11 +86,12 @@ answer_same f conn m id (Some Leave) h = refl
 answer_same f conn m id (Some (Pong b)) h = refl
 answer_same f conn m id (Some (Purge all ids)) h = refl
 answer_same f conn m id (Some (Resubmit ids)) h = refl
+answer_same f conn m id (Some (Abort ids)) h = refl
 answer_same f conn m id (Some (Ask q)) h = refl
 answer_same f conn m id (Some (Reply name header ok declined)) h = rw (off_for f conn id name header h) refl
 
-task_same : (f : Facts) (conn : ℕ) (m : Message) (id : Id) (event : Option Event) → Still f conn m event → after_end (left_engine f.engines.live conn event) (after_reply f.engines.live conn id (is_direct_id f id) event (f.task id)) ≡ f.task id
-task_same f conn m id event still = rw still.no_leave (reply_same f conn id (is_direct_id f id) event still.not_valid)
+task_same : (f : Facts) (conn : ℕ) (m : Message) (id : Id) (event : Option Event) → Still f conn m event → after_abort (aborted_by f event) id (after_end (left_engine f.engines.live conn event) (after_reply f.engines.live conn id (is_direct_id f id) event (f.task id))) ≡ f.task id
+task_same f conn m id event still = rw (still.none_aborted, still.no_leave) (reply_same f conn id (is_direct_id f id) event still.not_valid)
 
 engines_same : (f : Facts) (conn : ℕ) (m : Message) (event : Option Event) → Still f conn m event → engines_in f conn event ≡ f.engines
 engines_same f conn m event still = rw (still.no_join, still.no_leave, still.no_echo) refl

@@ -24,6 +24,8 @@ use Rattle.cluster_defs.specs.Steps.{next}
 use Rattle.cluster_defs.specs.Scheduling.{is_live, excludes}
 use Rattle.cluster_defs.specs.Histories.{History, facts}
 use Rattle.cluster_laws.proofs.Lists.{any-filter, any-map}
+use Rattle.cluster_laws.proofs.Aborting.{abort_choice}
+use Rattle.cluster_defs.specs.Aborts.{aborted_by}
 
 -- ENGINES
 
@@ -165,7 +167,8 @@ excluded_stays f (Input (Beat moment word)) id n h = h
 excluded_stays f (Input (Time moment word)) id n h = h
 excluded_stays f (Input (In conn moment word message)) id n h =
     let event = event_on f conn message in
-    end_keeps n (left_engine f.engines.live conn event) _ (reply_keeps n f.engines.live conn id (is_direct_id f id) event (f.task id) h)
+    let ended = end_keeps n (left_engine f.engines.live conn event) (after_reply f.engines.live conn id (is_direct_id f id) event (f.task id)) (reply_keeps n f.engines.live conn id (is_direct_id f id) event (f.task id) h) in
+    abort_choice (λ t. lists n t ≡ true) (aborted_by f event) id (after_end (left_engine f.engines.live conn event) (after_reply f.engines.live conn id (is_direct_id f id) event (f.task id))) ended ended
 
 -- LATER FACTS
 

@@ -6,7 +6,7 @@ use Rattle.std.proofs.lemmas.Bool.{or_left, eq-eqb, ltb-true, ltb-false, or_righ
 use Rattle.std.proofs.lemmas.Bool.Decides.{nat_tests}
 use Rattle.cluster_types.specs.declared.message.Message.{Message}
 use Rattle.cluster_types.specs.declared.event.Event.{Event}
-use Rattle.cluster_types.specs.declared.event.Event.TheVariants.{Submit, Direct, Reply, Join, Leave, Pong, Purge, Resubmit, Ask}
+use Rattle.cluster_types.specs.declared.event.Event.TheVariants.{Submit, Direct, Reply, Join, Leave, Pong, Purge, Resubmit, Abort, Ask}
 use Rattle.cluster_types.specs.declared.entry.Input.TheVariants.{Open, Up, Down, In, Beat, Time}
 use Rattle.cluster_types.specs.declared.entry.Entry.{Entry}
 use Rattle.cluster_types.specs.declared.entry.Entry.TheVariants.{Input, Hand, Settle, Lose}
@@ -237,6 +237,7 @@ in_good older conn moment word m (Some Leave) means good =
 in_good older conn moment word m (Some (Pong beat)) means good = pong_behind older conn moment word m beat means good
 in_good older conn moment word m (Some (Purge all ids)) means good = unmoved older conn moment word m (Some (Purge all ids)) means (λ n. refl) (λ on. refl) refl good
 in_good older conn moment word m (Some (Resubmit ids)) means good = unmoved older conn moment word m (Some (Resubmit ids)) means (λ n. refl) (λ on. refl) refl good
+in_good older conn moment word m (Some (Abort ids)) means good = unmoved older conn moment word m (Some (Abort ids)) means (λ n. refl) (λ on. refl) refl good
 in_good older conn moment word m (Some (Ask query)) means good = unmoved older conn moment word m (Some (Ask query)) means (λ n. refl) (λ on. refl) refl good
 
 -- A LIST

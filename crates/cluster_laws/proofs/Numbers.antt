@@ -9,7 +9,7 @@ use Rattle.std.proofs.lemmas.List.{append_cancel_left}
 use Rattle.std.proofs.lemmas.List.Folds.{list_any-append}
 use Rattle.cluster_types.specs.declared.message.Message.{Message}
 use Rattle.cluster_types.specs.declared.event.Event.{Event}
-use Rattle.cluster_types.specs.declared.event.Event.TheVariants.{Submit, Direct, Reply, Join, Leave, Pong, Purge, Resubmit, Ask}
+use Rattle.cluster_types.specs.declared.event.Event.TheVariants.{Submit, Direct, Reply, Join, Leave, Pong, Purge, Resubmit, Abort, Ask}
 use Rattle.cluster_types.specs.declared.entry.Input.TheVariants.{Open, Up, Down, In, Beat, Time}
 use Rattle.cluster_types.specs.declared.entry.Entry.{Entry}
 use Rattle.cluster_types.specs.declared.entry.Entry.TheVariants.{Input, Hand, Settle, Lose}
@@ -68,6 +68,7 @@ accepted_says f m o d h =
 -- what makes a request, makes no copies
 pub no_copies : (f : Facts) (m : Message) (o : Option Event) (d : Demand) → accepted f m o ≡ Some d → copied_by f o ≡ None
 no_copies f m (Some (Resubmit ids)) d h = cc
+no_copies f m (Some (Abort ids)) d h = refl
 no_copies f m None d h = refl
 no_copies f m (Some (Submit s)) d h = refl
 no_copies f m (Some (Direct s)) d h = refl

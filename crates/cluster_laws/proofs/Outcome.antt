@@ -5,7 +5,7 @@ use Rattle.std.specs.List.{list_any, position_or_len}
 use Rattle.std.specs.Option.{is_some, option_and_then}
 use Rattle.cluster_types.specs.declared.message.Message.{Message}
 use Rattle.cluster_types.specs.declared.verdict.Cause.{Cause}
-use Rattle.cluster_types.specs.declared.verdict.Cause.TheVariants.{Reply as ByReply, EngineError, ImpossibleDependency, InvalidDependency, TaskTimeout}
+use Rattle.cluster_types.specs.declared.verdict.Cause.TheVariants.{Reply as ByReply, EngineError, ImpossibleDependency, InvalidDependency, TaskTimeout, Abort}
 use Rattle.cluster_types.specs.declared.event.Event.{Event}
 use Rattle.cluster_types.specs.declared.event.Event.TheVariants.{Reply}
 use Rattle.cluster_types.specs.declared.entry.Input.TheVariants.{Open, Up, Down, In, Beat, Time}
@@ -95,6 +95,7 @@ by_stays f closed known e id h s EngineError = made_same _ _ s _ _ (number_stays
 by_stays f closed known e id h s ImpossibleDependency = made_same _ _ s _ _ (number_stays f e id (closed.listed id h)) (request_same f e id (known id (closed.listed id h)))
 by_stays f closed known e id h s InvalidDependency = made_same _ _ s _ _ (number_stays f e id (closed.listed id h)) (request_same f e id (known id (closed.listed id h)))
 by_stays f closed known e id h s TaskTimeout = made_same _ _ s _ _ (number_stays f e id (closed.listed id h)) (request_same f e id (known id (closed.listed id h)))
+by_stays f closed known e id h s Abort = made_same _ _ s _ _ (number_stays f e id (closed.listed id h)) (request_same f e id (known id (closed.listed id h)))
 
 abbrev outcome_at : Facts → Id → Option Settled → Option Message
 outcome_at g id o = option_and_then (λ s. outcome_by g id s s.cause) o

@@ -15,7 +15,7 @@ use Rattle.cluster_types.specs.declared.entry.Entry.TheVariants.{Input, Hand, Se
 use Rattle.cluster_defs.specs.Words.{Id, or_else, is_listed}
 use Rattle.cluster_defs.specs.Engines.{engine_on, left_engine}
 use Rattle.cluster_defs.specs.declared.settled.Settled.{Settled}
-use Rattle.cluster_defs.specs.Tasks.{settled_as, engine_of, handed, after_reply}
+use Rattle.cluster_defs.specs.Tasks.{settled_as, engine_of, handed, after_reply, after_end}
 use Rattle.cluster_defs.specs.Facts.{Facts, event_on, is_settled, is_direct_id}
 use Rattle.cluster_defs.specs.Steps.{next}
 use Rattle.cluster_defs.specs.Histories.{History, facts, Legal}
@@ -24,10 +24,11 @@ use Rattle.cluster_defs.specs.TaskRecords.{record_of, records_of}
 use Rattle.cluster_defs.specs.Laws.{EachOnce}
 use Rattle.cluster_defs.proofs.Options.{same_id, id_self, some_inj}
 use Rattle.cluster_laws.proofs.Safe.{hand_open}
-use Rattle.cluster_laws.proofs.Sound.{lost_engine, end_engine, reply_engine}
+use Rattle.cluster_laws.proofs.Sound.{abort_engine, lost_engine, end_engine, reply_engine}
 use Rattle.cluster_laws.proofs.Life.{get_map}
 use Rattle.cluster_laws.proofs.Apart.{known_once}
 use Rattle.cluster_laws.proofs.Held.{settled_answered}
+use Rattle.cluster_defs.specs.Aborts.{aborted_by}
 
 -- NUMBERS
 
@@ -115,7 +116,7 @@ input_engine f (Beat moment word) id = refl
 input_engine f (Time moment word) id = refl
 input_engine f (In conn moment word m) id =
     let event = event_on f conn m in
-    end_engine (left_engine f.engines.live conn event) (after_reply f.engines.live conn id (is_direct_id f id) event (f.task id)) ∙ reply_engine f.engines.live conn id (is_direct_id f id) event (f.task id)
+    abort_engine (aborted_by f event) id (after_end (left_engine f.engines.live conn event) (after_reply f.engines.live conn id (is_direct_id f id) event (f.task id))) ∙ end_engine (left_engine f.engines.live conn event) (after_reply f.engines.live conn id (is_direct_id f id) event (f.task id)) ∙ reply_engine f.engines.live conn id (is_direct_id f id) event (f.task id)
 
 placed_more : (older : History) (e : Entry) → Legal (e ∷ older) → Placed (facts older) → Placed (next (facts older) e)
 unfolding Placed

@@ -1,4 +1,4 @@
--- Purges and resubmissions come to the same off the records of all tasks.
+-- Purges, resubmissions and aborts come to the same off the records of all tasks.
 use Rattle.std.proofs.Common.{◌≡◌, suc, ◌+◌, List, [], ◌∷◌, length, map, Bool, true, false, cond, not, ◌&&◌, refl, sym, ap, ◌∙◌, Some, None}
 use Rattle.std.specs.Prelude.{nat_lt, is_some, is_none}
 use Rattle.std.proofs.lemmas.Bool.{false_from_ne_true, both_ways}
@@ -10,10 +10,11 @@ use Rattle.cluster_defs.specs.Purges.{Unknown, Inflight, Drops, inflight, gone_o
 use Rattle.cluster_defs.specs.Histories.{History, facts, Legal}
 use Rattle.cluster_defs.specs.TaskRecords.{record_of, records_of}
 use Rattle.cluster_defs.specs.RecordAnswers.{record_in, gone_as, is_settled_record}
-use Rattle.cluster_defs.specs.RecordPlans.{gone_in, inflight_in, purge_list_in, purge_in, unknown_in, purged_in, resubmit_in}
+use Rattle.cluster_defs.specs.RecordPlans.{gone_in, inflight_in, purge_list_in, purge_in, unknown_in, purged_in, resubmit_in, abort_in}
 use Rattle.cluster_laws.proofs.Closed.{Closed, closed}
 use Rattle.cluster_laws.proofs.RecordsTell.{some_map, picked, gone_told, record_is}
 use Rattle.cluster_types.proofs.Lists.{same_filter}
+use Rattle.cluster_defs.specs.Aborts.{Absent, TakesBack, aborting}
 
 -- whether an id is settled, by its record
 settled_as : (f : Facts) (id : Id) (b : Bool) → is_listed id f.known ≡ b → (is_settled f id ≡ true → is_listed id f.known ≡ true) → is_settled_record (cond b (Some (record_of f id)) None) ≡ is_settled f id
@@ -74,9 +75,18 @@ resubmit_told f closed ids =
     (cond (not (is_empty (b i))) (Gone (b i))
     (cond (not (is_empty (c i))) (Running (c i)) (cond (nat_lt most_ids (n i + length ids)) NoRoom (Makes (copies_from (n i + 1) ids)))))
 
+-- ABORT
+
+abort_told : (f : Facts) → Closed f → (ids : List Id) → abort_in (records_of f) ids ≡ aborting f ids
+abort_told f closed ids =
+    let a = gone_ids f ids in
+    let b = inflight_told f closed ids in
+    λ i. cond (not (is_empty (a i))) (Absent (a i)) (TakesBack (b i))
+
 pub records_plan : (h : History) (all : Bool) (ids : List Id) → Legal h →
     (purge_in (records_of (facts h)) (purge_list_in (records_of (facts h)) all ids) ≡ purging (facts h) (purge_list (facts h) all ids))
     × (resubmit_in (records_of (facts h)) most_ids (once ids) ≡ resubmitting (facts h) (once ids))
+    × (abort_in (records_of (facts h)) (once ids) ≡ aborting (facts h) (once ids))
 records_plan h all ids legal =
     let f = facts h in
-    (ap (purge_in (records_of f)) (list_told f all ids) ∙ purge_told f (closed h legal) (purge_list f all ids), resubmit_told f (closed h legal) (once ids))
+    (ap (purge_in (records_of f)) (list_told f all ids) ∙ purge_told f (closed h legal) (purge_list f all ids), resubmit_told f (closed h legal) (once ids), abort_told f (closed h legal) (once ids))

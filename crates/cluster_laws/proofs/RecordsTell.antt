@@ -9,12 +9,12 @@ use Rattle.cluster_types.specs.declared.config.Channel.{Channel}
 use Rattle.cluster_types.specs.declared.verdict.Verdict.{Verdict}
 use Rattle.cluster_types.specs.declared.verdict.Cause.{Cause}
 use Rattle.cluster_types.specs.declared.event.Query.{Query}
-use Rattle.cluster_types.specs.declared.event.Query.TheVariants.{Connection, Queue, Result as ResultQuery, History as HistoryQuery, Shutdown, Unknown, Bad}
+use Rattle.cluster_types.specs.declared.event.Query.TheVariants.{Connection, Queue, Result as ResultQuery, History as HistoryQuery, Shutdown, Db, Unknown, Bad}
 use Rattle.cluster_types.specs.declared.message.Message.{Message}
 use Rattle.cluster_types.specs.declared.record.Record.{Record}
 use Rattle.cluster_defs.specs.Texts.{queue_content, result_content, history_content, Settled as SettledText}
 use Rattle.cluster_defs.specs.declared.attempt.Attempt.{Attempt}
-use Rattle.cluster_defs.specs.declared.attempt.Attempt.TheVariants.{Never, Running, EndedOk, EndedBadly, Lost, Declined}
+use Rattle.cluster_defs.specs.declared.attempt.Attempt.TheVariants.{Never, Running, EndedOk, EndedBadly, Lost, Declined, Withdrawn}
 use Rattle.cluster_defs.specs.declared.engine.Engine.{Engine}
 use Rattle.cluster_defs.specs.Words.{Id, is_empty, is_listed, is_number, once}
 use Rattle.cluster_defs.specs.Engines.{lists_number}
@@ -66,6 +66,7 @@ runs_there n (EndedOk m) = refl
 runs_there n (EndedBadly m) = refl
 runs_there n (Lost m) = refl
 runs_there n (Declined m) = refl
+runs_there n (Withdrawn m) = refl
 
 finished_there : (f : Facts) (n : ℕ) (id : Id) → ((s : Settled) → f.settled id ≡ Some s → s.engine ≡ engine_of (f.task id).last) → (o : Option Settled) → f.settled id ≡ o →
     (is_some o && is_number n (engine_of (f.task id).last)) ≡ finished_on n o
@@ -221,6 +222,7 @@ query_told h legal channel (Queue targets verbose) msg_type = queue_told h legal
 query_told h legal channel (ResultQuery ids status_only) msg_type = result_told h legal (once ids) status_only
 query_told h legal channel HistoryQuery msg_type = ap (λ x. plain (history_content x)) (picked (facts h) (λ r. not r.purged) (λ id. not ((facts h).purged id)) (λ id. refl))
 query_told h legal channel Shutdown msg_type = refl
+query_told h legal channel (Db content) msg_type = refl
 query_told h legal channel Unknown msg_type = refl
 query_told h legal channel (Bad field) msg_type = refl
 

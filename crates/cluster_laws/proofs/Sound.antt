@@ -13,14 +13,14 @@ use Rattle.cluster_types.specs.declared.entry.Input.TheVariants.{Open, Up, Down,
 use Rattle.cluster_types.specs.declared.entry.Entry.{Entry}
 use Rattle.cluster_types.specs.declared.entry.Entry.TheVariants.{Input, Hand, Settle, Lose}
 use Rattle.cluster_defs.specs.declared.attempt.Attempt.{Attempt}
-use Rattle.cluster_defs.specs.declared.attempt.Attempt.TheVariants.{Never, Running, EndedOk, EndedBadly, Lost, Declined}
+use Rattle.cluster_defs.specs.declared.attempt.Attempt.TheVariants.{Never, Running, EndedOk, EndedBadly, Lost, Declined, Withdrawn}
 use Rattle.cluster_defs.specs.declared.engine.Engine.{Engine}
 use Rattle.cluster_defs.specs.Words.{Id, or_else}
 use Rattle.cluster_defs.specs.Engines.{engine_on, left_engine}
 use Rattle.cluster_defs.specs.declared.attempt.Ending.{Ending}
 use Rattle.cluster_defs.specs.declared.attempt.Ending.TheVariants.{Well, Badly, Declines}
 use Rattle.cluster_defs.specs.declared.settled.Settled.{Settled}
-use Rattle.cluster_defs.specs.Tasks.{Task, ending, settled_as, engine_of, lost, took, replied, after_reply, after_end, counts, handed, runs_at}
+use Rattle.cluster_defs.specs.Tasks.{Task, ending, settled_as, engine_of, lost, took, replied, after_reply, after_end, after_abort, counts, handed, runs_at}
 use Rattle.cluster_defs.specs.Requests.{Request}
 use Rattle.cluster_defs.specs.Facts.{Facts, event_on, is_direct_id}
 use Rattle.cluster_defs.specs.Acceptance.{Demand, accepted, request_from, request_made, request_direct, request_submit}
@@ -32,6 +32,8 @@ use Rattle.cluster_laws.proofs.Lists.{numbers-below}
 use Rattle.cluster_laws.proofs.Later.{came, next_rises}
 use Rattle.cluster_laws.proofs.Safe.{hand_live}
 use Rattle.cluster_types.proofs.Lists.{all-weaker}
+use Rattle.cluster_laws.proofs.Aborting.{abort_choice}
+use Rattle.cluster_defs.specs.Aborts.{aborted_by}
 
 pub record Sound (f : Facts) : Type 0 where
   pub live : (n : ℕ) → is_live f n ≡ true → n < f.engines.next
@@ -98,6 +100,7 @@ lost_engine (EndedOk n) t e = refl
 lost_engine (EndedBadly n) t e = refl
 lost_engine (Lost n) t e = refl
 lost_engine (Declined n) t e = refl
+lost_engine (Withdrawn n) t e = refl
 
 replied_engine : (header : List ℕ) (how : Ending) (n : ℕ) (t : Task) → engine_of (replied header how n t).last ≡ Some n
 replied_engine header Well n t = refl
@@ -111,6 +114,7 @@ took_engine header how (EndedOk n) t e = refl
 took_engine header how (EndedBadly n) t e = refl
 took_engine header how (Lost n) t e = refl
 took_engine header how (Declined n) t e = refl
+took_engine header how (Withdrawn n) t e = refl
 
 choice_engine : (b : Bool) (new old : Task) → engine_of new.last ≡ engine_of old.last → engine_of (cond b new old).last ≡ engine_of old.last
 choice_engine true new old e = e
@@ -119,6 +123,10 @@ choice_engine false new old e = refl
 pub end_engine : (o : Option ℕ) (t : Task) → engine_of (after_end o t).last ≡ engine_of t.last
 end_engine None t = refl
 end_engine (Some n) t = choice_engine (runs_at n t.last) _ t (lost_engine t.last t refl)
+
+-- what is withdrawn keeps the engine of its last attempt
+pub abort_engine : (ids : List Id) (id : Id) (t : Task) → engine_of (after_abort ids id t).last ≡ engine_of t.last
+abort_engine ids id t = abort_choice (λ x. engine_of x.last ≡ engine_of t.last) ids id t refl refl
 
 pub reply_engine : (live : List Engine) (conn : ℕ) (id : Id) (direct : Bool) (event : Option Event) (t : Task) → engine_of (after_reply live conn id direct event t).last ≡ engine_of t.last
 reply_engine live conn id direct None t = refl
@@ -141,7 +149,7 @@ task_sound f (Input (Beat moment word)) sound hand id n h = sound.attempt id n h
 task_sound f (Input (Time moment word)) sound hand id n h = sound.attempt id n h
 task_sound f (Input (In conn moment word m)) sound hand id n h =
     let event = event_on f conn m in
-    sound.attempt id n (sym (end_engine (left_engine f.engines.live conn event) (after_reply f.engines.live conn id (is_direct_id f id) event (f.task id)) ∙ reply_engine f.engines.live conn id (is_direct_id f id) event (f.task id)) ∙ h)
+    sound.attempt id n (sym (abort_engine (aborted_by f event) id (after_end (left_engine f.engines.live conn event) (after_reply f.engines.live conn id (is_direct_id f id) event (f.task id))) ∙ end_engine (left_engine f.engines.live conn event) (after_reply f.engines.live conn id (is_direct_id f id) event (f.task id)) ∙ reply_engine f.engines.live conn id (is_direct_id f id) event (f.task id)) ∙ h)
 
 made_engine : (f : Facts) → Sound f → (b : Bool) (v : Verdict) (c : Cause) (id : Id) (o : Option Settled) → f.settled id ≡ o → (s : Settled) (n : ℕ) → or_else o (cond b (Some (settled_as v c f.moment (f.task id))) None) ≡ Some s → s.engine ≡ Some n → n < f.engines.next
 made_engine f sound b v c id (Some q) is s n h e = sound.settled id s n (is ∙ h) e

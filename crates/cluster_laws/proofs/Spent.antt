@@ -5,12 +5,12 @@ use Rattle.std.specs.List.{list_any}
 use Rattle.std.proofs.lemmas.Bool.{and_parts}
 use Rattle.cluster_types.specs.declared.message.Message.{Message}
 use Rattle.cluster_types.specs.declared.event.Event.{Event}
-use Rattle.cluster_types.specs.declared.event.Event.TheVariants.{Submit, Direct, Reply, Join, Leave, Pong, Purge, Resubmit, Ask}
+use Rattle.cluster_types.specs.declared.event.Event.TheVariants.{Submit, Direct, Reply, Join, Leave, Pong, Purge, Resubmit, Abort, Ask}
 use Rattle.cluster_types.specs.declared.entry.Input.TheVariants.{Open, Up, Down, In, Beat, Time}
 use Rattle.cluster_types.specs.declared.entry.Entry.{Entry}
 use Rattle.cluster_types.specs.declared.entry.Entry.TheVariants.{Input, Hand, Settle, Lose}
 use Rattle.cluster_defs.specs.declared.attempt.Attempt.{Attempt}
-use Rattle.cluster_defs.specs.declared.attempt.Attempt.TheVariants.{Never, Running, EndedOk, EndedBadly, Lost, Declined}
+use Rattle.cluster_defs.specs.declared.attempt.Attempt.TheVariants.{Never, Running, EndedOk, EndedBadly, Lost, Declined, Withdrawn}
 use Rattle.cluster_defs.specs.declared.engine.Engine.{Engine}
 use Rattle.cluster_defs.specs.Words.{Id, is_number}
 use Rattle.cluster_defs.specs.Engines.{left_engine}
@@ -24,6 +24,8 @@ use Rattle.cluster_defs.specs.Lives.{is_open}
 use Rattle.cluster_laws.specs.Counts.{beginnings, is_badly, is_decline, replies, ends_at, spends_in, spends, declines}
 use Rattle.cluster_types.proofs.Booleans.{or_false}
 use Rattle.cluster_defs.proofs.Attempts.{at_runs}
+use Rattle.cluster_laws.proofs.Aborting.{abort_choice}
+use Rattle.cluster_defs.specs.Aborts.{aborted_by}
 
 abbrev one_if : Bool → ℕ
 one_if true = 1
@@ -39,6 +41,7 @@ lost_spends (EndedOk n) t = omega arith
 lost_spends (EndedBadly n) t = omega arith
 lost_spends (Lost n) t = omega arith
 lost_spends (Declined n) t = omega arith
+lost_spends (Withdrawn n) t = omega arith
 
 lost_excludes : (a : Attempt) (t : Task) → (lost a t).excluded ≡ t.excluded
 lost_excludes (Running n) t = refl
@@ -47,6 +50,7 @@ lost_excludes (EndedOk n) t = refl
 lost_excludes (EndedBadly n) t = refl
 lost_excludes (Lost n) t = refl
 lost_excludes (Declined n) t = refl
+lost_excludes (Withdrawn n) t = refl
 
 end_spends : (f : Facts) (end : Option ℕ) (id : Id) → (after_end end (f.task id)).spent ≡ (f.task id).spent + one_if (ends_at f end id)
 end_spends f None id = omega arith
@@ -77,6 +81,7 @@ took_spends live conn header way (EndedOk n) t is counted = let home = counts_ho
 took_spends live conn header way (EndedBadly n) t is counted = let home = counts_home live conn header (EndedBadly n) t is counted in cc
 took_spends live conn header way (Lost n) t is counted = let home = counts_home live conn header (Lost n) t is counted in cc
 took_spends live conn header way (Declined n) t is counted = let home = counts_home live conn header (Declined n) t is counted in cc
+took_spends live conn header way (Withdrawn n) t is counted = let home = counts_home live conn header (Withdrawn n) t is counted in cc
 
 -- a reply that counts where its name is the task's
 reply_spends : (live : List Engine) (conn : ℕ) (header : List ℕ) (way : Ending) (t : Task) (b : Bool) → (b ≡ true → counts live conn header t ≡ true) → (cond b (took header way t.last t) t).spent ≡ t.spent + one_if (b && is_badly way)
@@ -99,6 +104,7 @@ took_excludes header way (EndedOk m) t n = no_decline (is_decline way) (excludes
 took_excludes header way (EndedBadly m) t n = no_decline (is_decline way) (excludes n t)
 took_excludes header way (Lost m) t n = no_decline (is_decline way) (excludes n t)
 took_excludes header way (Declined m) t n = no_decline (is_decline way) (excludes n t)
+took_excludes header way (Withdrawn m) t n = no_decline (is_decline way) (excludes n t)
 
 reply_excludes : (header : List ℕ) (way : Ending) (t : Task) (n : ℕ) (b : Bool) → excludes n (cond b (took header way t.last t) t) ≡ (((b && is_decline way) && runs_at n t.last) || excludes n t)
 reply_excludes header way t n true = took_excludes header way t.last t n
@@ -138,6 +144,10 @@ in_steps f conn moment word m (Some Leave) id = record {
 in_steps f conn moment word m (Some (Pong beat)) id = record { spent = nothing_spent (f.task id).spent; excluded = λ n. refl }
 in_steps f conn moment word m (Some (Purge all ids)) id = record { spent = nothing_spent (f.task id).spent; excluded = λ n. refl }
 in_steps f conn moment word m (Some (Resubmit ids)) id = record { spent = nothing_spent (f.task id).spent; excluded = λ n. refl }
+in_steps f conn moment word m (Some (Abort ids)) id = record {
+  spent = abort_choice (λ t. t.spent ≡ (f.task id).spent + 0) (aborted_by f (Some (Abort ids))) id (f.task id) (nothing_spent (f.task id).spent) (nothing_spent (f.task id).spent);
+  excluded = λ n. abort_choice (λ t. excludes n t ≡ excludes n (f.task id)) (aborted_by f (Some (Abort ids))) id (f.task id) refl refl;
+}
 in_steps f conn moment word m (Some (Ask query)) id = record { spent = nothing_spent (f.task id).spent; excluded = λ n. refl }
 
 hand_steps : (f : Facts) (name id : Id) (n : ℕ) → Steps f (Hand name n) None id

@@ -4,7 +4,7 @@ use Rattle.std.specs.Option.{option_and_then}
 use Rattle.cluster_types.specs.declared.config.Channel.{Channel}
 use Rattle.cluster_types.specs.declared.message.Message.{Message}
 use Rattle.cluster_types.specs.declared.event.Event.{Event}
-use Rattle.cluster_types.specs.declared.event.Event.TheVariants.{Submit, Direct, Reply, Join, Leave, Pong, Purge, Resubmit, Ask}
+use Rattle.cluster_types.specs.declared.event.Event.TheVariants.{Submit, Direct, Reply, Join, Leave, Pong, Purge, Resubmit, Abort, Ask}
 use Rattle.cluster_types.specs.declared.event.Reason.{Reason}
 use Rattle.cluster_defs.specs.Event.{event_of}
 use Rattle.cluster_defs.specs.declared.acceptance.Acceptance.{Acceptance}
@@ -173,4 +173,5 @@ thin_message gone purged f conn m (Some Leave) is = thinned_self gone purged f c
 thin_message gone purged f conn m (Some (Pong b)) is = thinned_self gone purged f conn m (Some (Pong b)) is
 thin_message gone purged f conn m (Some (Purge all ids)) is = thinned_self gone purged f conn m (Some (Purge all ids)) is
 thin_message gone purged f conn m (Some (Resubmit ids)) is = thinned_self gone purged f conn m (Some (Resubmit ids)) is
+thin_message gone purged f conn m (Some (Abort ids)) is = thinned_self gone purged f conn m (Some (Abort ids)) is
 thin_message gone purged f conn m (Some (Ask q)) is = thinned_self gone purged f conn m (Some (Ask q)) is

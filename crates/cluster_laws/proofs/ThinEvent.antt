@@ -7,14 +7,15 @@ use Rattle.cluster_types.specs.declared.config.Channel.{Channel}
 use Rattle.cluster_types.specs.declared.config.Channel.TheVariants.{Hub, Task, Mux, Engine}
 use Rattle.cluster_types.specs.declared.message.Message.{Message}
 use Rattle.cluster_types.specs.declared.event.Event.{Event}
-use Rattle.cluster_types.specs.declared.event.Event.TheVariants.{Submit, Direct, Reply, Leave}
+use Rattle.cluster_types.specs.declared.event.Event.TheVariants.{Submit, Direct, Reply, Leave, Ask}
+use Rattle.cluster_types.specs.declared.event.Query.TheVariants.{Db}
 use Rattle.cluster_types.specs.declared.event.Reason.{Reason}
 use Rattle.cluster_types.specs.declared.event.Reason.TheVariants.{BadHeader, BadType, NoTarget, BadReply}
 use Rattle.cluster_defs.specs.declared.header.Header.{Header as HeaderType}
 use Rattle.cluster_defs.specs.declared.content.SubmitMeta.{SubmitMeta}
 use Rattle.cluster_defs.specs.declared.content.ReplyMeta.{ReplyMeta}
 use Rattle.cluster_defs.specs.declared.content.HubContent.{HubContent}
-use Rattle.cluster_defs.specs.declared.content.HubContent.TheVariants.{Connection as ConnectionContent, History as HistoryContent, Shutdown as ShutdownContent, Queue as QueueContent, Result as ResultContent, Purge as PurgeContent, Resubmit as ResubmitContent, Join, Pong}
+use Rattle.cluster_defs.specs.declared.content.HubContent.TheVariants.{Connection as ConnectionContent, History as HistoryContent, Shutdown as ShutdownContent, Queue as QueueContent, Result as ResultContent, Purge as PurgeContent, Resubmit as ResubmitContent, Abort as AbortContent, Join, Pong}
 use Rattle.cluster_defs.specs.declared.hub_request.RequestType.{RequestType}
 use Rattle.cluster_defs.specs.declared.hub_request.RequestType.TheVariants.{Registration, Beat}
 use Rattle.cluster_defs.specs.Json.{Reading, reading_then}
@@ -22,7 +23,7 @@ use Rattle.cluster_defs.specs.Header.{read_header}
 use Rattle.cluster_defs.specs.Submit.{read_submit}
 use Rattle.cluster_defs.specs.Reply.{read_reply, read_task, read_declined, read_status}
 use Rattle.cluster_defs.specs.Hub.{request_of, read_content}
-use Rattle.cluster_defs.specs.Event.{event_of, event_under, event_of_content as content_event, request_event, hub_request, hub_event, submitted, task_event, mux_event, engine_event, reply_event, replied, echo_event, is_registration, is_echo, is_leave, is_reply, is_request, direct_meta, submission}
+use Rattle.cluster_defs.specs.Event.{event_of, event_under, event_of_content as content_event, request_event, hub_request, hub_event, hub_meaning, is_db, submitted, task_event, mux_event, engine_event, reply_event, replied, echo_event, is_registration, is_echo, is_leave, is_reply, is_request, direct_meta, submission}
 use Rattle.cluster_defs.specs.Thin.{short_reply}
 
 -- a message with another content and other buffers
@@ -48,6 +49,7 @@ content_plain (QueueContent targets verbose) = (refl, refl)
 content_plain (ResultContent ids status_only) = (refl, refl)
 content_plain (PurgeContent all ids) = (refl, refl)
 content_plain (ResubmitContent ids) = (refl, refl)
+content_plain (AbortContent ids) = (refl, refl)
 content_plain (Join uuid) = (refl, refl)
 content_plain (Pong beat) = (refl, refl)
 
@@ -58,6 +60,13 @@ asked_plain (Err fault) = (refl, refl)
 hub_plain : (content : List ℕ) (r : Option RequestType) → (is_demand (hub_event content r) ≡ false) × (is_answer (hub_event content r) ≡ false)
 hub_plain content None = (refl, refl)
 hub_plain content (Some request) = asked_plain (read_content request content)
+
+hub_meaning_plain : (msg_type content : List ℕ) → (is_demand (hub_meaning msg_type content) ≡ false) × (is_answer (hub_meaning msg_type content) ≡ false)
+hub_meaning_plain msg_type content =
+    elim (is_db msg_type) as (λ b. (is_demand (cond b (Ask (Db content)) (hub_event content (hub_request (request_of msg_type)))) ≡ false) × (is_answer (cond b (Ask (Db content)) (hub_event content (hub_request (request_of msg_type)))) ≡ false)) [
+      | true ↦ (refl, refl)
+      | false ↦ hub_plain content (hub_request (request_of msg_type))
+    ]
 
 ok_same : {A B : Type 0} (x y : A) → ◌≡◌ {A = Result A B} (Ok x) (Ok y) → x ≡ y
 ok_same {A} {B} x y h = ap or_this h
@@ -103,7 +112,7 @@ engine_demand header m e h on =
 
 under_demand : (channel : Channel) (m : Message) (content : List ℕ) (buffers : List (List ℕ)) (r : Reading HeaderType) (e : Event) → event_under channel m r ≡ Ok e → is_demand e ≡ true → event_under channel (with_body content buffers m) r ≡ Ok e
 under_demand channel m content buffers (Err fault) e h on = absurd (never e BadHeader h)
-under_demand Hub m content buffers (Ok header) e h on = absurd (clash is_demand _ e ((hub_plain m.content (hub_request (request_of header.msg_type))).0) h on)
+under_demand Hub m content buffers (Ok header) e h on = absurd (clash is_demand _ e ((hub_meaning_plain header.msg_type m.content).0) h on)
 under_demand Task m content buffers (Ok header) e h on = h
 under_demand Mux m content buffers (Ok header) e h on = h
 under_demand Engine m content buffers (Ok header) e h on = absurd (engine_demand header m e h on)
@@ -192,7 +201,7 @@ mux_reply header target e h on =
 under_reply : (channel : Channel) (m : Message) (buffers : List (List ℕ)) (r : Reading HeaderType) (name id : List ℕ) (ok declined : Bool) → event_under channel m r ≡ Ok (Reply name id ok declined) →
     event_under channel (with_body (short_reply ok) buffers m) r ≡ Ok (Reply name id ok declined)
 under_reply channel m buffers (Err fault) name id ok declined h = absurd (never _ BadHeader h)
-under_reply Hub m buffers (Ok header) name id ok declined h = absurd (clash is_answer _ _ ((hub_plain m.content (hub_request (request_of header.msg_type))).1) h refl)
+under_reply Hub m buffers (Ok header) name id ok declined h = absurd (clash is_answer _ _ ((hub_meaning_plain header.msg_type m.content).1) h refl)
 under_reply Task m buffers (Ok header) name id ok declined h = absurd (task_reply header m.metadata _ h refl)
 under_reply Mux m buffers (Ok header) name id ok declined h = absurd (mux_reply header m.target _ h refl)
 under_reply Engine m buffers (Ok header) name id ok declined h = engine_reply header m buffers name id ok declined h

@@ -8,11 +8,11 @@ use Rattle.cluster_types.specs.declared.config.Channel.{Channel}
 use Rattle.cluster_types.specs.declared.config.Scheme.{Scheme}
 use Rattle.cluster_types.specs.declared.message.Message.{Message}
 use Rattle.cluster_types.specs.declared.verdict.Cause.{Cause}
-use Rattle.cluster_types.specs.declared.verdict.Cause.TheVariants.{Reply as ByReply, EngineError, ImpossibleDependency, InvalidDependency, TaskTimeout}
+use Rattle.cluster_types.specs.declared.verdict.Cause.TheVariants.{Reply as ByReply, EngineError, ImpossibleDependency, InvalidDependency, TaskTimeout, Abort as ByAbort}
 use Rattle.cluster_types.specs.declared.event.Query.{Query}
-use Rattle.cluster_types.specs.declared.event.Query.TheVariants.{Connection as ConnectionQuery, Queue, Result as ResultQuery, History as HistoryQuery, Shutdown, Unknown as UnknownQuery, Bad}
+use Rattle.cluster_types.specs.declared.event.Query.TheVariants.{Connection as ConnectionQuery, Queue, Result as ResultQuery, History as HistoryQuery, Shutdown, Db, Unknown as UnknownQuery, Bad}
 use Rattle.cluster_types.specs.declared.event.Event.{Event}
-use Rattle.cluster_types.specs.declared.event.Event.TheVariants.{Submit, Direct, Reply, Join, Leave, Pong, Purge, Resubmit, Ask}
+use Rattle.cluster_types.specs.declared.event.Event.TheVariants.{Submit, Direct, Reply, Join, Leave, Pong, Purge, Resubmit, Abort, Ask}
 use Rattle.cluster_types.specs.declared.out.Out.{Out}
 use Rattle.cluster_types.specs.declared.entry.Input.TheVariants.{Open, Up, Down, In, Beat, Time}
 use Rattle.cluster_types.specs.declared.entry.Entry.{Entry}
@@ -32,7 +32,7 @@ use Rattle.cluster_defs.specs.Purges.{gone_or_unknown}
 use Rattle.cluster_defs.specs.Steps.{step}
 use Rattle.cluster_defs.specs.Histories.{History, facts, Legal, place}
 use Rattle.cluster_defs.specs.Outcomes.{handed_with, outcome, outcome_by}
-use Rattle.cluster_defs.specs.Queries.{demand_answer, answer_query, answer_event, answer_type, limited, refusal, left_by, left_as, results_of, result_with, result_answer}
+use Rattle.cluster_defs.specs.Queries.{demand_answer, answer_query, answer_event, answer_type, limited, plain, refusal, left_by, left_as, results_of, result_with, result_answer}
 use Rattle.cluster_defs.specs.Outs.{pass_to, owner_conn, repeat_out, repeated, answer_out, message_outs, outs_as, outs}
 use Rattle.cluster_defs.specs.Thin.{with_bodies}
 use Rattle.cluster_defs.proofs.Says.{due_says}
@@ -41,6 +41,9 @@ use Rattle.cluster_laws.proofs.Closed.{Closed, closed}
 use Rattle.cluster_laws.proofs.Copies.{none_pass}
 use Rattle.cluster_laws.proofs.Thin.{Bodies, Replies, Like}
 use Rattle.cluster_laws.proofs.Gone.{Covers, not_yet, opened}
+use Rattle.cluster_defs.specs.FilterContents.{query_content}
+use Rattle.cluster_defs.specs.TaskRecords.{record_of, records_of}
+use Rattle.cluster_types.proofs.Lists.{same_map}
 
 -- OUTCOMES
 
@@ -50,6 +53,7 @@ by_same f b r id s EngineError h = refl
 by_same f b r id s ImpossibleDependency h = refl
 by_same f b r id s InvalidDependency h = refl
 by_same f b r id s TaskTimeout h = refl
+by_same f b r id s ByAbort h = refl
 
 outcome_at : (f : Facts) (b : Bodies) (r : Replies) (id : Id) (o : Option Settled) → r id ≡ f.reply_of id → option_and_then (λ s. outcome_by (with_bodies f b r) id s s.cause) o ≡ option_and_then (λ s. outcome_by f id s s.cause) o
 outcome_at f b r id None h = refl
@@ -162,12 +166,27 @@ result_same f b r agrees ids status_only = go (is_empty (gone_or_unknown f ids))
         let all = all-filter (λ id. not (f.purged id)) (is_settled f) ids (unpurged f ids (none_pass (λ id. not (is_listed id f.known) || f.purged id) ids is)) in
         ap (λ x. cond (not (is_empty (gone_or_unknown f ids))) refused (result_with f ids x)) (results_same f b r agrees status_only (filter (is_settled f) ids) all)
 
+-- RECORDS
+
+-- of what is purged the outcome isn't told, and of what isn't it is the same
+told_outcome : (f : Facts) (b : Bodies) (r : Replies) → Agrees f b r → (id : Id) (p : Bool) → f.purged id ≡ p → cond (f.purged id) None (outcome (with_bodies f b r) id) ≡ cond (f.purged id) None (outcome f id)
+unfolding Agrees
+told_outcome f b r agrees id true is = rw is refl
+told_outcome f b r agrees id false is = ap (cond (f.purged id) None) (outcome_same f b r id (agrees id is).reply)
+
+record_same : (f : Facts) (b : Bodies) (r : Replies) → Agrees f b r → (id : Id) → record_of (with_bodies f b r) id ≡ record_of f id
+record_same f b r agrees id = ap (λ o. record (record_of f id) { outcome = o }) (told_outcome f b r agrees id (f.purged id) refl)
+
+records_same : (f : Facts) (b : Bodies) (r : Replies) → Agrees f b r → records_of (with_bodies f b r) ≡ records_of f
+records_same f b r agrees = same_map (record_of (with_bodies f b r)) (record_of f) (record_same f b r agrees) f.known
+
 query_same : (f : Facts) (b : Bodies) (r : Replies) → Agrees f b r → (channel : Channel) (query : Query) (msg_type : List ℕ) → answer_query (with_bodies f b r) channel query msg_type ≡ answer_query f channel query msg_type
 query_same f b r agrees channel ConnectionQuery msg_type = refl
 query_same f b r agrees channel (Queue targets verbose) msg_type = refl
 query_same f b r agrees channel (ResultQuery ids status_only) msg_type = result_same f b r agrees (once ids) status_only
 query_same f b r agrees channel HistoryQuery msg_type = refl
 query_same f b r agrees channel Shutdown msg_type = refl
+query_same f b r agrees channel (Db content) msg_type = ap (λ records. plain (query_content records content)) (records_same f b r agrees)
 query_same f b r agrees channel UnknownQuery msg_type = refl
 query_same f b r agrees channel (Bad field) msg_type = refl
 
@@ -193,6 +212,7 @@ event_same f b r agrees at conn moment m channel Leave = refl
 event_same f b r agrees at conn moment m channel (Pong beat) = refl
 event_same f b r agrees at conn moment m channel (Purge all ids) = refl
 event_same f b r agrees at conn moment m channel (Resubmit ids) = refl
+event_same f b r agrees at conn moment m channel (Abort ids) = refl
 
 message_same : (f : Facts) (b : Bodies) (r : Replies) → Agrees f b r → (at conn moment : ℕ) (m : Message) (c : Option Connection) (o : Option Event) → message_outs at (with_bodies f b r) conn moment m c o ≡ message_outs at f conn moment m c o
 message_same f b r agrees at conn moment m None o = refl

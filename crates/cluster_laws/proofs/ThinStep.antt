@@ -8,7 +8,7 @@ use Rattle.cluster_types.specs.declared.entry.Entry.{Entry}
 use Rattle.cluster_types.specs.declared.entry.Entry.TheVariants.{Input, Hand, Settle, Lose}
 use Rattle.cluster_defs.specs.Words.{Id, or_else}
 use Rattle.cluster_defs.specs.Engines.{joined, left_engine}
-use Rattle.cluster_defs.specs.Tasks.{after_reply, after_end}
+use Rattle.cluster_defs.specs.Tasks.{after_reply, after_end, after_abort}
 use Rattle.cluster_defs.specs.Facts.{Facts, event_on, event_in, is_direct_id}
 use Rattle.cluster_defs.specs.Acceptance.{accepted, accepted_id, request_from, body_from}
 use Rattle.cluster_defs.specs.Purges.{Copy, purged_by, drops, copied_by, copied_ids, copied_from, request_copied}
@@ -17,6 +17,7 @@ use Rattle.cluster_defs.specs.Histories.{History, facts}
 use Rattle.cluster_defs.specs.Thin.{thin_request, thin_reply, thin_entry, thin_by, with_bodies}
 use Rattle.cluster_laws.proofs.ThinEvent.{with_body}
 use Rattle.cluster_laws.proofs.Thin.{Bodies, Replies, accepted_alike, changes_alike, Like, Thinned, thinned_self, thin_message}
+use Rattle.cluster_defs.specs.Aborts.{aborted_by}
 
 -- a copy of what isn't let go was made of what isn't
 unfoldable pub Shut : (Id → Bool) → Option (List Copy) → Type 0
@@ -53,7 +54,7 @@ next_alike f b r content buffers conn moment word m o =
       known = f.known ++ accepted_id (acc i) ++ copied_ids (copied_by f o);
       request_of = λ id. or_else (f.request_of id) (or_else (request_from f conn moment m id (acc i)) (request_copied f moment id (copied_by f o)));
       body_of = λ id. body_after there (Input (In conn moment word n)) o id;
-      task = λ id. after_end (left_engine f.engines.live conn o) (after_reply f.engines.live conn id (is_direct_id f id) o (f.task id));
+      task = λ id. after_abort (aborted_by f o) id (after_end (left_engine f.engines.live conn o) (after_reply f.engines.live conn id (is_direct_id f id) o (f.task id)));
       reply_of = λ id. reply_after there (Input (In conn moment word n)) o id;
       settled = f.settled;
       purged = λ id. f.purged id || drops id (purged_by f o);

@@ -4,10 +4,10 @@ use Rattle.std.specs.Prelude.{is_some}
 use Rattle.std.proofs.lemmas.Bool.{false_from_ne_true, both_ways}
 use Rattle.cluster_types.specs.declared.verdict.Verdict.{Verdict}
 use Rattle.cluster_types.specs.declared.verdict.Cause.{Cause}
-use Rattle.cluster_types.specs.declared.verdict.Cause.TheVariants.{Reply, EngineError, ImpossibleDependency, InvalidDependency, TaskTimeout}
+use Rattle.cluster_types.specs.declared.verdict.Cause.TheVariants.{Reply, EngineError, ImpossibleDependency, InvalidDependency, TaskTimeout, Abort}
 use Rattle.cluster_types.specs.declared.entry.Entry.TheVariants.{Hand, Settle, Lose}
 use Rattle.cluster_defs.specs.declared.attempt.Attempt.{Attempt}
-use Rattle.cluster_defs.specs.declared.attempt.Attempt.TheVariants.{Never, Running, EndedOk, EndedBadly, Lost, Declined}
+use Rattle.cluster_defs.specs.declared.attempt.Attempt.TheVariants.{Never, Running, EndedOk, EndedBadly, Lost, Declined, Withdrawn}
 use Rattle.cluster_defs.specs.Words.{Id, or_else}
 use Rattle.cluster_defs.specs.declared.settled.Settled.{Settled}
 use Rattle.cluster_defs.specs.Tasks.{Task, runs, runs_at, lost, after_end, settled_as}
@@ -71,6 +71,7 @@ settle_here f id v c is off =
     by_cause ImpossibleDependency none gone = rw (none, gone, id_self id) refl
     by_cause InvalidDependency none gone = rw (none, gone, id_self id) refl
     by_cause TaskTimeout none gone = rw (none, gone, id_self id) refl
+    by_cause Abort none gone = rw (none, gone, id_self id) refl
 
 pub settle_plain : (h : History) (id : Id) (v : Verdict) (c : Cause) → Legal (Settle id v c ∷ h) → plain_of (facts (Settle id v c ∷ h)) ≡ settled_out id v c (plain_of (facts h))
 settle_plain h id v c legal =
@@ -92,6 +93,7 @@ idle_end n t off = by_last t.last off
     by_last (EndedBadly m) h = refl
     by_last (Lost m) h = refl
     by_last (Declined m) h = refl
+    by_last (Withdrawn m) h = refl
 
 -- what is seen of an id whose engine may have ended
 pub end_seen : (f : Facts) (id : Id) (n : ℕ) → Closed f →

@@ -6,7 +6,7 @@ use Rattle.cluster_types.specs.declared.config.Scheme.{Scheme}
 use Rattle.cluster_types.specs.declared.entry.Input.TheVariants.{Open, Up, Down, Beat, Time}
 use Rattle.cluster_types.specs.declared.entry.Entry.TheVariants.{Input}
 use Rattle.cluster_defs.specs.declared.attempt.Attempt.{Attempt}
-use Rattle.cluster_defs.specs.declared.attempt.Attempt.TheVariants.{Never, Running, EndedOk, EndedBadly, Lost, Declined}
+use Rattle.cluster_defs.specs.declared.attempt.Attempt.TheVariants.{Never, Running, EndedOk, EndedBadly, Lost, Declined, Withdrawn}
 use Rattle.cluster_defs.specs.Words.{Id}
 use Rattle.cluster_defs.specs.Engines.{engine_on}
 use Rattle.cluster_defs.specs.declared.settled.Settled.{Settled}
@@ -31,6 +31,7 @@ idle_lost t (EndedOk n) h = refl
 idle_lost t (EndedBadly n) h = refl
 idle_lost t (Lost n) h = refl
 idle_lost t (Declined n) h = refl
+idle_lost t (Withdrawn n) h = refl
 
 open_look : (f : Facts) (moment : ℕ) (scheme : Scheme) (hwm misses : ℕ) → Closed f → (id : Id) → look (step f (Input (Open moment scheme hwm misses)) None) id ≡ on_unsettled lost_all (look f id)
 open_look f moment scheme hwm misses is id =

@@ -1,3 +1,4 @@
+pub mod Aborting
 pub mod Accepting
 pub mod Adding
 pub mod Blank

@@ -1,13 +1,19 @@
 -- Lists of what is seen, where one id or all of them change.
-use Rattle.std.proofs.Common.{◌≡◌, List, [], ◌∷◌, map, Bool, true, false, cond, ◌||◌, refl, sym, ap, subst, bytes_eq}
-use Rattle.std.proofs.lemmas.Bool.{false_from_ne_true, both_ways, or_right, or_left}
-use Rattle.cluster_defs.specs.Words.{Id, is_listed}
+use Rattle.std.proofs.Common.{◌≡◌, List, [], ◌∷◌, map, length, suc, Bool, true, false, cond, ◌||◌, refl, sym, ap, subst, bytes_eq, arith}
+use Rattle.std.specs.Prelude.{◌==◌}
+use Rattle.std.proofs.lemmas.Bool.{false_from_ne_true, both_ways, or_right, or_left, ne_eqb}
+use Rattle.cluster_defs.specs.Words.{Id, is_empty, is_listed}
 use Rattle.cluster_defs.specs.Facts.{Facts}
 use Rattle.cluster_defs.specs.Laws.{EachOnce}
 use Rattle.cluster_defs.proofs.Options.{same_id, id_self}
 use Rattle.task_table.specs.Seen.{Seen, changed}
 use Rattle.cluster_state.specs.Plain.{look}
 use Rattle.cluster_laws.proofs.Apart.{turned}
+
+-- a list is empty where its length is 0
+pub none_listed : {X : Type 0} (xs : List X) → (length xs == 0) ≡ is_empty xs
+none_listed [] = refl
+none_listed (x ∷ xs) = ne_eqb (suc (length xs)) 0 (λ e. omega arith)
 
 -- all listed ids look the same
 pub map_listed : (a b : Id → Seen) (ids : List Id) → ((i : Id) → is_listed i ids ≡ true → a i ≡ b i) → map a ids ≡ map b ids

@@ -4,7 +4,7 @@ use Rattle.std.specs.Prelude.{option_map, if◌then◌else◌}
 use Rattle.std.specs.Option.{option_and_then}
 use Rattle.cluster_types.specs.declared.message.Message.{Message}
 use Rattle.cluster_types.specs.declared.verdict.Cause.{Cause}
-use Rattle.cluster_types.specs.declared.verdict.Cause.TheVariants.{Reply, EngineError, ImpossibleDependency, InvalidDependency, TaskTimeout}
+use Rattle.cluster_types.specs.declared.verdict.Cause.TheVariants.{Reply, EngineError, ImpossibleDependency, InvalidDependency, TaskTimeout, Abort}
 use Rattle.cluster_defs.specs.Words.{Id}
 use Rattle.cluster_defs.specs.declared.settled.Settled.{Settled}
 use Rattle.cluster_defs.specs.Tasks.{Task, engine_of, runs}
@@ -51,6 +51,7 @@ by_cause f id s EngineError = refl
 by_cause f id s ImpossibleDependency = refl
 by_cause f id s InvalidDependency = refl
 by_cause f id s TaskTimeout = refl
+by_cause f id s Abort = refl
 
 outcome_at : (f : Facts) (id : Id) (o : Option Settled) → option_and_then (λ s. outcome_by f id s s.cause) o ≡ outcome_from (number_of f id) (f.request_of id) (f.reply_of id) o
 outcome_at f id None = refl

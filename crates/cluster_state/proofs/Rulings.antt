@@ -5,15 +5,18 @@ use Rattle.cluster_types.specs.Limits.{most_engines}
 use Rattle.cluster_defs.specs.declared.engine.Engine.{Engine}
 use Rattle.cluster_defs.specs.declared.engine.Joining.TheVariants.{Repeat, AlreadyJoined, UsedUp, Accepted}
 use Rattle.cluster_defs.specs.Engines.{Engines, joining, joining_new, joining_at, is_joined, engine_on, engine_named}
+use Rattle.cluster_defs.specs.Aborts.{Aborting}
 use Rattle.cluster_defs.specs.Purges.{Purging, Resubmitting, NeverKnown, Gone, Running, NoRoom, Makes, made}
+use Rattle.resubmission.specs.declared.abort.AbortPlan.{AbortPlan}
 use Rattle.resubmission.specs.declared.plan.Renaming.{Renaming}
 use Rattle.resubmission.specs.declared.plan.ResubmitRefusal.{ResubmitRefusal}
 use Rattle.resubmission.specs.declared.purge.PurgePlan.{PurgePlan}
+use Rattle.resubmission.specs.Aborting.{aborting_of}
 use Rattle.resubmission.specs.Plans.{refusal_of}
 use Rattle.resubmission.specs.Purging.{purging_of}
 use Rattle.cluster_state.specs.declared.ruling.Ruling.{Ruling}
-use Rattle.cluster_state.specs.declared.ruling.Ruling.TheVariants.{Demand, Join, Leave, Purge, Resubmit, Settle, Other}
-use Rattle.cluster_state.specs.Ruled.{IsPurge, IsResubmit, copies_planned, is_purge, is_resubmit}
+use Rattle.cluster_state.specs.declared.ruling.Ruling.TheVariants.{Demand, Join, Leave, Purge, Resubmit, Abort, Settle, Other}
+use Rattle.cluster_state.specs.Ruled.{IsPurge, IsResubmit, IsAbort, copies_planned, is_purge, is_resubmit, is_abort}
 
 pub purge_there : (what : Purging) (r : Ruling) → IsPurge what r → is_purge r ≡ true
 purge_there what (Purge plan) is = refl
@@ -21,6 +24,7 @@ purge_there what (Demand a) is = absurd is
 purge_there what (Join j) is = absurd is
 purge_there what (Leave engine) is = absurd is
 purge_there what (Resubmit planned) is = absurd is
+purge_there what (Abort plan) is = absurd is
 purge_there what (Settle settling) is = absurd is
 purge_there what Other is = absurd is
 
@@ -33,6 +37,7 @@ resubmit_there what (Demand a) is = absurd is
 resubmit_there what (Join j) is = absurd is
 resubmit_there what (Leave engine) is = absurd is
 resubmit_there what (Purge plan) is = absurd is
+resubmit_there what (Abort plan) is = absurd is
 resubmit_there what (Settle settling) is = absurd is
 resubmit_there what Other is = absurd is
 
@@ -56,6 +61,19 @@ some_copies (Err refused) = refl
 
 pub resubmit_told : (what : Resubmitting) (r : Ruling) (planned : Result (List Renaming) ResubmitRefusal) → IsResubmit what r → r ≡ Resubmit planned → is_ok planned ≡ is_some (made what)
 resubmit_told what r planned h is = sym (some_copies planned) ∙ ap is_some (resubmit_is what r planned h is)
+
+pub abort_there : (what : Aborting) (r : Ruling) → IsAbort what r → is_abort r ≡ true
+abort_there what (Abort plan) is = refl
+abort_there what (Demand a) is = absurd is
+abort_there what (Join j) is = absurd is
+abort_there what (Leave engine) is = absurd is
+abort_there what (Purge plan) is = absurd is
+abort_there what (Resubmit planned) is = absurd is
+abort_there what (Settle settling) is = absurd is
+abort_there what Other is = absurd is
+
+pub abort_is : (what : Aborting) (r : Ruling) (plan : AbortPlan) → IsAbort what r → r ≡ Abort plan → aborting_of plan ≡ what
+abort_is what r plan h is = subst (IsAbort what) is h
 
 -- an engine that joins has a number
 pub has_number : (engines : Engines) (conn : ℕ) (uuid : List ℕ) → is_joined (joining engines conn uuid) ≡ true → (engines.next == most_engines) ≡ false

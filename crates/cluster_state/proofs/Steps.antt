@@ -4,7 +4,7 @@ use Rattle.std.specs.Option.{is_some}
 use Rattle.std.proofs.lemmas.Bool.{both_ways}
 use Rattle.cluster_types.specs.declared.message.Message.{Message}
 use Rattle.cluster_types.specs.declared.event.Event.{Event}
-use Rattle.cluster_types.specs.declared.event.Event.TheVariants.{Submit, Direct, Reply, Join, Leave, Pong, Purge, Resubmit, Ask}
+use Rattle.cluster_types.specs.declared.event.Event.TheVariants.{Submit, Direct, Reply, Join, Leave, Pong, Purge, Resubmit, Abort, Ask}
 use Rattle.cluster_types.specs.declared.entry.Input.TheVariants.{Open, Up, Down, In, Beat, Time}
 use Rattle.cluster_types.specs.declared.entry.Entry.{Entry}
 use Rattle.cluster_types.specs.declared.entry.Entry.TheVariants.{Input, Hand, Settle, Lose}
@@ -22,6 +22,7 @@ use Rattle.cluster_state.proofs.Exact.{exact}
 use Rattle.cluster_state.proofs.Inputs.{open_plain, up_plain, down_plain, beat_plain, time_plain}
 use Rattle.cluster_state.proofs.Told.{ask_plain, leave_plain, pong_plain, join_plain, reply_plain}
 use Rattle.cluster_state.proofs.Adding.{submit_plain, direct_plain}
+use Rattle.cluster_state.proofs.Aborting.{abort_plain}
 use Rattle.cluster_state.proofs.Dropping.{purge_plain}
 use Rattle.cluster_state.proofs.Multiplying.{resubmit_plain}
 
@@ -44,6 +45,7 @@ message_plain h conn moment word m Leave legal is = leave_plain (facts h) conn m
 message_plain h conn moment word m (Pong beat) legal is = pong_plain (facts h) conn moment word m beat
 message_plain h conn moment word m (Purge all ids) legal is = purge_plain h conn moment word m all ids
 message_plain h conn moment word m (Resubmit ids) legal is = resubmit_plain h conn moment word m ids legal (known_again h conn moment word m ids is)
+message_plain h conn moment word m (Abort ids) legal is = abort_plain h conn moment word m ids
 message_plain h conn moment word m (Ask query) legal is = ask_plain (facts h) conn moment word m query
 
 -- ALL ENTRIES

@@ -1,5 +1,5 @@
 -- What each message makes of the data.
-use Rattle.std.proofs.Common.{◌≡◌, ℕ, List, append-nil, map, Bool, true, false, cond, ◌||◌, refl, sym, ap, ◌∙◌, subst, bytes_eq, Option, Some, None}
+use Rattle.std.proofs.Common.{◌≡◌, ℕ, List, [], append-nil, map, Bool, true, false, cond, ◌||◌, refl, sym, ap, ◌∙◌, subst, bytes_eq, Option, Some, None}
 use Rattle.std.specs.Prelude.{if◌then◌else◌}
 use Rattle.std.proofs.lemmas.Bool.{false_from_ne_true, both_ways}
 use Rattle.cluster_types.specs.declared.message.Message.{Message}
@@ -15,6 +15,7 @@ use Rattle.cluster_defs.specs.Tasks.{counts, ending, after_reply, after_end}
 use Rattle.cluster_defs.specs.Requests.{parts_of}
 use Rattle.cluster_defs.specs.Facts.{Facts, is_direct_id}
 use Rattle.cluster_defs.specs.Acceptance.{accepted}
+use Rattle.cluster_defs.specs.Aborts.{aborted_by}
 use Rattle.cluster_defs.specs.Purges.{purged_by, copied_by}
 use Rattle.cluster_defs.specs.Steps.{step, changes, engines_in, with_joined, reply_from}
 use Rattle.cluster_defs.specs.Outcomes.{number_of}
@@ -28,7 +29,7 @@ use Rattle.cluster_state.proofs.Inputs.{ends_seen}
 use Rattle.cluster_types.proofs.Booleans.{or_false}
 use Rattle.cluster_types.proofs.Options.{none_of}
 
--- the facts after a message that makes no task and lets none go
+-- the facts after a message that makes no task, lets none go and takes none back
 abbrev pub after_quiet : Facts → ℕ → ℕ → ℕ → Message → Option Event → Facts
 after_quiet f conn moment word m event = record f {
   moment = if changes f conn m event then moment else f.moment;
@@ -39,17 +40,19 @@ after_quiet f conn moment word m event = record f {
   reply_of = λ id. reply_from f conn m id event (f.reply_of id);
 }
 
-quiet : (f : Facts) (conn moment word : ℕ) (m : Message) (event : Option Event) → accepted f m event ≡ None → copied_by f event ≡ None → purged_by f event ≡ None →
+quiet : (f : Facts) (conn moment word : ℕ) (m : Message) (event : Option Event) → accepted f m event ≡ None → copied_by f event ≡ None → purged_by f event ≡ None → aborted_by f event ≡ [] →
     step f (Input (In conn moment word m)) event ≡ after_quiet f conn moment word m event
-quiet f conn moment word m event no_task no_copy no_purge =
+quiet f conn moment word m event no_task no_copy no_purge no_abort =
     let known = known_same in
     let request = λ (id : Id). request_same id in
     let body = λ (id : Id). body_same id in
+    let task = λ (id : Id). task_same id in
     let gone = λ (id : Id). purged_same id in
     λ i. record (step f (Input (In conn moment word m)) event) {
       known = known i;
       request_of = λ id. request id i;
       body_of = λ id. body id i;
+      task = λ id. task id i;
       purged = λ id. gone id i;
     }
   where
@@ -61,6 +64,9 @@ quiet f conn moment word m event no_task no_copy no_purge =
 
     body_same : (id : Id) → (step f (Input (In conn moment word m)) event).body_of id ≡ f.body_of id
     body_same id = rw (no_task, no_copy) (or_else-None (f.body_of id))
+
+    task_same : (id : Id) → (step f (Input (In conn moment word m)) event).task id ≡ (after_quiet f conn moment word m event).task id
+    task_same id = rw no_abort refl
 
     purged_same : (id : Id) → (step f (Input (In conn moment word m)) event).purged id ≡ f.purged id
     purged_same id = rw no_purge (or_false (f.purged id))
@@ -77,7 +83,7 @@ pub ask_plain : (f : Facts) (conn moment word : ℕ) (m : Message) (query : Quer
 ask_plain f conn moment word m query =
     let g = after_quiet f conn moment word m (Some (Ask query)) in
     let tasks : map (look g) f.known ≡ map (look f) f.known = map_all (look g) (look f) f.known (λ id. look_is g id ∙ sym (look_is f id)) in
-    ap plain_of (quiet f conn moment word m (Some (Ask query)) refl refl refl) ∙ rw tasks refl
+    ap plain_of (quiet f conn moment word m (Some (Ask query)) refl refl refl refl) ∙ rw tasks refl
 
 -- LEAVE
 
@@ -87,7 +93,7 @@ leave_plain f conn moment word m is =
     let g = after_quiet f conn moment word m (Some Leave) in
     let end = left_engine f.engines.live conn (Some Leave) in
     let tasks = ends_seen f g end is (λ id. look_is g id) in
-    ap plain_of (quiet f conn moment word m (Some Leave) refl refl refl) ∙ rw tasks refl
+    ap plain_of (quiet f conn moment word m (Some Leave) refl refl refl refl) ∙ rw tasks refl
     ∙ noted_is (changes f conn m (Some Leave)) moment word (engine_ended end (plain_of f))
 
 -- PONG
@@ -97,7 +103,7 @@ pub pong_plain : (f : Facts) (conn moment word : ℕ) (m : Message) (beat : ℕ)
 pong_plain f conn moment word m beat =
     let g = after_quiet f conn moment word m (Some (Pong beat)) in
     let tasks : map (look g) f.known ≡ map (look f) f.known = map_all (look g) (look f) f.known (λ id. look_is g id ∙ sym (look_is f id)) in
-    ap plain_of (quiet f conn moment word m (Some (Pong beat)) refl refl refl) ∙ rw tasks refl
+    ap plain_of (quiet f conn moment word m (Some (Pong beat)) refl refl refl refl) ∙ rw tasks refl
     ∙ noted_is (changes f conn m (Some (Pong beat))) moment word (echoed_by conn (echoed f.engines.live conn f.beats (Some (Pong beat))) (plain_of f))
 
 -- JOIN
@@ -113,7 +119,7 @@ join_plain f conn moment word m uuid =
     let event = Some (Join uuid) in
     let g = after_quiet f conn moment word m (Some (Join uuid)) in
     let tasks : map (look g) f.known ≡ map (look f) f.known = map_all (look g) (look f) f.known (λ id. look_is g id ∙ sym (look_is f id)) in
-    ap plain_of (quiet f conn moment word m (Some (Join uuid)) refl refl refl) ∙ rw tasks refl
+    ap plain_of (quiet f conn moment word m (Some (Join uuid)) refl refl refl refl) ∙ rw tasks refl
     ∙ noted_is (changes f conn m (Some (Join uuid))) moment word (record (plain_of f) { engines = engines_in f conn (Some (Join uuid)); by_use = with_joined f.engines.next (joined f.engines conn (Some (Join uuid))) f.by_use })
     ∙ ap (noted (changes f conn m (Some (Join uuid))) moment word) (joined_is f conn (joined f.engines conn (Some (Join uuid))))
 
@@ -174,6 +180,6 @@ pub reply_plain : (f : Facts) (conn moment word : ℕ) (m : Message) (name : Id)
     ≡ noted (changes f conn m (Some (Reply name header ok declined))) moment word (told f conn moment m (Reply name header ok declined) (plain_of f))
 reply_plain f conn moment word m name header ok declined is once =
     let event = Some (Reply name header ok declined) in
-    ap plain_of (quiet f conn moment word m (Some (Reply name header ok declined)) refl refl refl)
+    ap plain_of (quiet f conn moment word m (Some (Reply name header ok declined)) refl refl refl refl)
     ∙ noted_is (changes f conn m (Some (Reply name header ok declined))) moment word (record (plain_of f) { tasks = map (look (after_quiet f conn moment word m (Some (Reply name header ok declined)))) f.known })
     ∙ ap (noted (changes f conn m (Some (Reply name header ok declined))) moment word) (reply_tasks f conn moment word m name header ok declined is once)

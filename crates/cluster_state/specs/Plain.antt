@@ -5,7 +5,7 @@ use Rattle.cluster_types.specs.declared.config.Channel.{Channel}
 use Rattle.cluster_types.specs.declared.config.Scheme.{Scheme}
 use Rattle.cluster_types.specs.declared.message.Message.{Message}
 use Rattle.cluster_types.specs.declared.event.Event.{Event}
-use Rattle.cluster_types.specs.declared.event.Event.TheVariants.{Submit, Direct, Reply as ReplyEvent, Join, Leave, Pong, Purge, Resubmit, Ask}
+use Rattle.cluster_types.specs.declared.event.Event.TheVariants.{Submit, Direct, Reply as ReplyEvent, Join, Leave, Pong, Purge, Resubmit, Abort, Ask}
 use Rattle.cluster_types.specs.declared.entry.Input.TheVariants.{Open, Up, Down, In, Beat, Time}
 use Rattle.cluster_types.specs.declared.entry.Entry.{Entry}
 use Rattle.cluster_types.specs.declared.entry.Entry.TheVariants.{Input, Hand, Settle, Lose}
@@ -24,12 +24,13 @@ use Rattle.cluster_defs.specs.Requests.{Request, Body, body_of, parts_of}
 use Rattle.cluster_defs.specs.Facts.{Facts, is_settled, is_direct_id}
 use Rattle.cluster_types.specs.Limits.{last_moment}
 use Rattle.cluster_defs.specs.Acceptance.{Demand, accepted, request_made}
+use Rattle.cluster_defs.specs.Aborts.{aborted_by}
 use Rattle.cluster_defs.specs.Purges.{Copy, purged_by, copied_by, resubmitted}
 use Rattle.cluster_defs.specs.Steps.{changes, moved}
 use Rattle.cluster_types.specs.Chance.{next_word}
 use Rattle.cluster_defs.specs.Outcomes.{made_outcome}
 use Rattle.cluster_defs.specs.TaskRecords.{record_of}
-use Rattle.task_table.specs.Seen.{Seen, begun as begun_task, handed_to, ended_on, lost_all, replied_with, settled_with, purged_out, seen_in, changed, on_unsettled}
+use Rattle.task_table.specs.Seen.{Seen, begun as begun_task, handed_to, ended_on, lost_all, replied_with, aborted_out, settled_with, purged_out, seen_in, changed, on_unsettled}
 
 pub record Plain : Type 0 where
   pub begun : Bool
@@ -209,6 +210,15 @@ abbrev pub dropped_by : Option (List Id) → Plain → Plain
 dropped_by None p = p
 dropped_by (Some ids) p = record p { tasks = purged_tasks ids p.tasks }
 
+-- the tasks, once some ids are taken back
+abbrev pub aborted_tasks : List Id → List Seen → List Seen
+aborted_tasks [] ts = ts
+aborted_tasks (id ∷ ids) ts = aborted_tasks ids (changed id aborted_out ts)
+
+-- an abort, which takes these ids back
+abbrev pub withdrawn_by : List Id → Plain → Plain
+withdrawn_by ids p = record p { tasks = aborted_tasks ids p.tasks }
+
 -- a copy of a task, under a number of its own
 abbrev pub copy_of : (Id → Request → Request) → ℕ → Id → Option Seen → List Seen
 copy_of again number new None = []
@@ -238,6 +248,7 @@ told f conn moment m Leave p = engine_ended (left_engine f.engines.live conn (So
 told f conn moment m (Pong beat) p = echoed_by conn (echoed f.engines.live conn f.beats (Some (Pong beat))) p
 told f conn moment m (Purge all ids) p = dropped_by (purged_by f (Some (Purge all ids))) p
 told f conn moment m (Resubmit ids) p = copied_out (resubmitted f moment) (copied_by f (Some (Resubmit ids))) p
+told f conn moment m (Abort ids) p = withdrawn_by (aborted_by f (Some (Abort ids))) p
 told f conn moment m (Ask query) p = p
 
 -- the moment and the word of a message, where it is kept

@@ -12,14 +12,16 @@ use Rattle.cluster_defs.specs.Words.{once}
 use Rattle.cluster_defs.specs.Acceptance.{acceptance}
 use Rattle.cluster_defs.specs.Engines.{joining, left_engine}
 use Rattle.cluster_defs.specs.Facts.{Facts}
+use Rattle.cluster_defs.specs.Aborts.{Aborting, aborting}
 use Rattle.cluster_defs.specs.Purges.{Copy, Purging, purge_list, purging, Resubmitting, resubmitting, Makes}
+use Rattle.resubmission.specs.Aborting.{aborting_of}
 use Rattle.resubmission.specs.declared.plan.Renaming.{Renaming}
 use Rattle.resubmission.specs.declared.plan.ResubmitRefusal.{ResubmitRefusal}
 use Rattle.resubmission.specs.Plans.{copy_of, refusal_of}
 use Rattle.resubmission.specs.Purging.{purging_of}
 use Rattle.cluster_state.specs.declared.settling.Settling.{Settling}
 use Rattle.cluster_state.specs.declared.ruling.Ruling.{Ruling}
-use Rattle.cluster_state.specs.declared.ruling.Ruling.TheVariants.{Demand, Join, Leave, Purge, Resubmit, Settle, Other}
+use Rattle.cluster_state.specs.declared.ruling.Ruling.TheVariants.{Demand, Join, Leave, Purge, Resubmit, Abort, Settle, Other}
 use Rattle.task_table.specs.Seen.{Seen, seen_in}
 use Rattle.cluster_state.specs.Plain.{Plain, facts_in}
 use Rattle.cluster_state.specs.Settling.{IsSettling}
@@ -35,6 +37,10 @@ IsResubmit what (Resubmit (Ok renamed)) = what ≡ Makes (map copy_of renamed)
 IsResubmit what (Resubmit (Err refused)) = refusal_of what ≡ Some refused
 IsResubmit what _ = ⊥
 
+abbrev pub IsAbort : Aborting → Ruling → Type 0
+IsAbort what (Abort plan) = aborting_of plan ≡ what
+IsAbort what _ = ⊥
+
 abbrev pub IsSettle : Verdict → Cause → ℕ → Option Seen → Ruling → Type 0
 IsSettle verdict cause moment task (Settle settling) = IsSettling verdict cause moment task settling
 IsSettle verdict cause moment task _ = ⊥
@@ -47,6 +53,7 @@ IsTold f conn m (events.Join uuid) r = r ≡ Join (joining f.engines conn uuid)
 IsTold f conn m events.Leave r = r ≡ Leave (left_engine f.engines.live conn (Some events.Leave))
 IsTold f conn m (events.Purge all ids) r = IsPurge (purging f (purge_list f all ids)) r
 IsTold f conn m (events.Resubmit ids) r = IsResubmit (resubmitting f (once ids)) r
+IsTold f conn m (events.Abort ids) r = IsAbort (aborting f (once ids)) r
 IsTold f conn m _ r = r ≡ Other
 
 -- of an entry with this meaning, where the data are these
@@ -81,6 +88,10 @@ is_purge _ = false
 abbrev pub is_resubmit : Ruling → Bool
 is_resubmit (Resubmit _) = true
 is_resubmit _ = false
+
+abbrev pub is_abort : Ruling → Bool
+is_abort (Abort _) = true
+is_abort _ = false
 
 abbrev pub is_settle : Ruling → Bool
 is_settle (Settle _) = true

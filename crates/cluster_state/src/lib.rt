@@ -1,6 +1,7 @@
 //! What is known of a cluster after a history, as plain data, and how each further entry changes it.
 #![tactic(auto)]
 
+pub mod aborts;
 pub mod acceptance;
 pub mod copies;
 pub mod engines;

@@ -65,7 +65,7 @@ impl State {
     }
 
     /// Takes what a message means, and tells whether it changes anything.
-    #[tactic(auto, using(crate::proofs::Changes::changes_submit, crate::proofs::Changes::changes_direct, crate::proofs::Changes::changes_join, crate::proofs::Changes::changes_leave, crate::proofs::Changes::changes_pong, crate::proofs::Changes::changes_purge, crate::proofs::Changes::changes_resubmit, crate::proofs::Rulings::purge_there, crate::proofs::Rulings::resubmit_there, crate::proofs::Rulings::purge_is, crate::proofs::Rulings::resubmit_is, crate::proofs::Rulings::resubmit_told))]
+    #[tactic(auto, using(crate::proofs::Changes::changes_submit, crate::proofs::Changes::changes_direct, crate::proofs::Changes::changes_reply, crate::proofs::Changes::changes_join, crate::proofs::Changes::changes_leave, crate::proofs::Changes::changes_pong, crate::proofs::Changes::changes_purge, crate::proofs::Changes::changes_resubmit, crate::proofs::Changes::changes_abort, crate::proofs::Rulings::purge_there, crate::proofs::Rulings::resubmit_there, crate::proofs::Rulings::abort_there, crate::proofs::Rulings::purge_is, crate::proofs::Rulings::resubmit_is, crate::proofs::Rulings::abort_is, crate::proofs::Rulings::resubmit_told))]
     pub fn take_event(
         &mut self,
         conn: u32,
@@ -99,6 +99,7 @@ impl State {
             Event::Pong { beat } => Ok(self.take_pong(conn, *beat)),
             Event::Purge { all: _, ids: _ } => self.take_purge(ruling.purge()),
             Event::Resubmit { ids: _ } => self.take_resubmit(moment, ruling.resubmit()),
+            Event::Abort { ids: _ } => self.take_abort(ruling.abort()),
             Event::Ask(_) => Ok(false),
         }
     }

@@ -74,7 +74,7 @@ fn made_outcome(
 {
     let value = cause_text(alloc, settled.cause, settled.engine)?;
     let header = outcome_header(alloc, number, &request.msg_type, settled.moment)?;
-    let content = outcome_content(alloc, settled.cause.name(), value.as_str())?;
+    let content = outcome_content(alloc, settled.cause.ename(), value.as_str())?;
     SharedMessage::new(
         alloc,
         b"",

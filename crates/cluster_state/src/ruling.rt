@@ -2,11 +2,12 @@
 
 ghost use Rattle.std.specs.Prelude.{◌≡◌, true};
 ghost use Rattle.cluster_state.specs.declared.ruling.Ruling.{Ruling as RulingType};
-ghost use Rattle.cluster_state.specs.Ruled.{is_demand, is_join, is_leave, is_purge, is_resubmit, is_settle};
+ghost use Rattle.cluster_state.specs.Ruled.{is_demand, is_join, is_leave, is_purge, is_resubmit, is_abort, is_settle};
 
 use crate::settling::Settling;
 use cluster_defs::acceptance::Acceptance;
 use cluster_defs::engine::Joining;
+use resubmission::abort::AbortPlan;
 use resubmission::plan::{Renamed, ResubmitRefusal};
 use resubmission::purge::PurgePlan;
 
@@ -21,6 +22,7 @@ pub enum Ruling {
     Leave(Option<u32>),
     Purge(PurgePlan),
     Resubmit(Result<Renamed, ResubmitRefusal>),
+    Abort(AbortPlan),
     /// A settle: how the task is settled, if there is one.
     Settle(Option<Settling>),
     /// Of all others nothing is worked out.
@@ -36,6 +38,7 @@ impl Drop for Ruling {
             Ruling::Leave(_) => {},
             Ruling::Purge(it) => drop(it),
             Ruling::Resubmit(it) => drop(it),
+            Ruling::Abort(it) => drop(it),
             Ruling::Settle(it) => drop(it),
             Ruling::Other => {}
         }
@@ -94,6 +97,17 @@ impl Ruling {
     {
         match self {
             Ruling::Resubmit(planned) => planned,
+            _ => unreachable!(),
+        }
+    }
+
+    /// What an abort comes to.
+    pub fn abort(&self) -> &AbortPlan
+        requires { is_abort self.now ≡ true }
+        ensures { self.now ≡ RulingType.Abort result.now }
+    {
+        match self {
+            Ruling::Abort(plan) => plan,
             _ => unreachable!(),
         }
     }

@@ -14,7 +14,8 @@ use Rattle.cluster_types.specs.declared.config.Channel.{Channel}
 use Rattle.cluster_types.specs.declared.config.Channel.TheVariants.{Hub, Task, Mux, Engine}
 use Rattle.cluster_types.specs.declared.message.Message.{Message}
 use Rattle.cluster_types.specs.declared.event.Event.{Event}
-use Rattle.cluster_types.specs.declared.event.Event.TheVariants.{Submit, Direct, Reply, Join as JoinEvent, Leave, Pong as PongEvent, Purge as PurgeEvent, Resubmit as ResubmitEvent, Ask}
+use Rattle.cluster_types.specs.declared.event.Query.TheVariants.{Db}
+use Rattle.cluster_types.specs.declared.event.Event.TheVariants.{Submit, Direct, Reply, Join as JoinEvent, Leave, Pong as PongEvent, Purge as PurgeEvent, Resubmit as ResubmitEvent, Abort as AbortEvent, Ask}
 use Rattle.cluster_types.specs.declared.event.Reason.{Reason}
 use Rattle.cluster_types.specs.declared.event.Reason.TheVariants.{BadType, NoTarget}
 use Rattle.cluster_types.specs.declared.entry.Input.TheVariants.{Open, Up, Down, In, Beat, Time}
@@ -24,7 +25,7 @@ use Rattle.cluster_defs.specs.declared.header.Header.{Header as HeaderType}
 use Rattle.cluster_defs.specs.declared.content.SubmitMeta.{SubmitMeta}
 use Rattle.cluster_defs.specs.declared.content.ReplyMeta.{ReplyMeta}
 use Rattle.cluster_defs.specs.declared.content.HubContent.{HubContent}
-use Rattle.cluster_defs.specs.declared.content.HubContent.TheVariants.{Connection as ConnectionContent, History as HistoryContent, Shutdown as ShutdownContent, Queue as QueueContent, Result as ResultContent, Purge as PurgeContent, Resubmit as ResubmitContent, Join, Pong}
+use Rattle.cluster_defs.specs.declared.content.HubContent.TheVariants.{Connection as ConnectionContent, History as HistoryContent, Shutdown as ShutdownContent, Queue as QueueContent, Result as ResultContent, Purge as PurgeContent, Resubmit as ResubmitContent, Abort as AbortContent, Join, Pong}
 use Rattle.cluster_defs.specs.declared.hub_request.RequestType.{RequestType}
 use Rattle.cluster_defs.specs.declared.hub_request.RequestType.TheVariants.{Registration, Beat as BeatRequest}
 use Rattle.cluster_defs.specs.Json.{Reading, reading_then, read_object}
@@ -34,7 +35,7 @@ use Rattle.cluster_defs.specs.Submit.{read_submit}
 use Rattle.cluster_defs.specs.Reply.{read_reply}
 use Rattle.cluster_defs.specs.Hub.{request_of, read_content}
 use Rattle.cluster_defs.specs.Texts.{resubmit_id}
-use Rattle.cluster_defs.specs.Event.{event_of, event_under, event_of_content, request_event, hub_request, hub_event, submitted, mux_event, echo_event, replied, reply_event, engine_event, submission, direct_meta, is_request, is_leave, is_reply, is_registration, is_echo}
+use Rattle.cluster_defs.specs.Event.{event_of, event_under, event_of_content, request_event, hub_request, hub_event, hub_meaning, is_db, submitted, mux_event, echo_event, replied, reply_event, engine_event, submission, direct_meta, is_request, is_leave, is_reply, is_registration, is_echo}
 use Rattle.record_codec.specs.Spelling.{IsName}
 use Rattle.cluster_defs.specs.Words.{Id}
 use Rattle.cluster_defs.specs.Connections.{channel_on}
@@ -115,6 +116,7 @@ content_names (QueueContent targets verbose) = tt
 content_names (ResultContent ids status_only) = tt
 content_names (PurgeContent all ids) = tt
 content_names (ResubmitContent ids) = tt
+content_names (AbortContent ids) = tt
 content_names (Join uuid) = tt
 content_names (Pong beat) = tt
 
@@ -125,6 +127,13 @@ request_names (Err fault) = tt
 hub_names : (content : List ℕ) (request : Option RequestType) → Names (hub_event content request)
 hub_names content None = tt
 hub_names content (Some request) = request_names (read_content request content)
+
+choice_names : (b : Bool) (x y : Event) → Names x → Names y → Names (cond b x y)
+choice_names true x y h k = h
+choice_names false x y h k = k
+
+meaning_names : (msg_type content : List ℕ) → Names (hub_meaning msg_type content)
+meaning_names msg_type content = choice_names (is_db msg_type) (Ask (Db content)) (hub_event content (hub_request (request_of msg_type))) tt (hub_names content (hub_request (request_of msg_type)))
 
 choice_said : (b : Bool) (x y : Result Event Reason) → Said x → Said y → Said (cond b x y)
 choice_said true x y h k = h
@@ -157,7 +166,7 @@ engine_said header m =
 
 under_said : (channel : Channel) (m : Message) (header : Reading HeaderType) → HeaderNames header → Said (event_under channel m header)
 under_said channel m (Err fault) h = tt
-under_said Hub m (Ok header) h = hub_names m.content (hub_request (request_of header.msg_type))
+under_said Hub m (Ok header) h = meaning_names header.msg_type m.content
 under_said Task m (Ok header) h = choice_said (is_request header.msg_type) (Ok (submitted header (read_submit m.metadata))) (Err BadType) (submit_names header h (read_submit m.metadata)) tt
 under_said Mux m (Ok header) h = mux_said header h m.target
 under_said Engine m (Ok header) h = engine_said header m
@@ -203,6 +212,7 @@ demand_names (Some Leave) h = tt
 demand_names (Some (PongEvent beat)) h = tt
 demand_names (Some (PurgeEvent all ids)) h = tt
 demand_names (Some (ResubmitEvent ids)) h = tt
+demand_names (Some (AbortEvent ids)) h = tt
 demand_names (Some (Ask query)) h = tt
 
 accepted_one : (d : Demand) → IsName d.submission.id → (b : Bool) → Each IsName (accepted_id (cond b (Some d) None))

@@ -2,7 +2,7 @@
 use Rattle.std.specs.Prelude.{ℕ, ◌&&◌, List, [], ◌∷◌, length, nat_lt, nat_le, Option, Some, None, bytes_eq, codes, if◌then◌else◌, option_and_then, option_map}
 use Rattle.command_words.specs.declared.command.ReplayOptions.{ReplayOptions}
 use Rattle.command_words.specs.declared.standing.Action.{Action}
-use Rattle.command_words.specs.declared.standing.Action.TheVariants.{Run, Result, Purge, Resubmit, Queue, History, Shutdown}
+use Rattle.command_words.specs.declared.standing.Action.TheVariants.{Run, Result, Purge, Resubmit, Abort, Queue, History, Shutdown}
 use Rattle.command_words.specs.declared.standing.StandingCommand.{StandingCommand}
 use Rattle.command_words.specs.declared.standing.StandingCommand.TheVariants.{Serve, Engine, Client}
 use Rattle.command_words.specs.Items.{Item, known_items, places, values}
@@ -31,6 +31,9 @@ purge_word = codes "purge"
 
 unfoldable pub resubmit_word : List ℕ
 resubmit_word = codes "resubmit"
+
+unfoldable pub abort_word : List ℕ
+abort_word = codes "abort"
 
 unfoldable pub queue_word : List ℕ
 queue_word = codes "queue"
@@ -77,6 +80,7 @@ action_about word argument =
     else if bytes_eq word result_word then option_map Result (id_from argument)
     else if bytes_eq word purge_word then option_map Purge (id_from argument)
     else if bytes_eq word resubmit_word then option_map Resubmit (id_from argument)
+    else if bytes_eq word abort_word then option_map Abort (id_from argument)
     else None
 
 -- an action, with what it is about behind it where it is about something

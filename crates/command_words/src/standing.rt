@@ -27,6 +27,8 @@ pub enum Action {
     Purge { id: Text },
     /// A task is to be run again.
     Resubmit { id: Text },
+    /// A task is to be taken back, if it hasn't ended.
+    Abort { id: Text },
     /// What the engines have to do.
     Queue,
     /// The ids of all tasks.
@@ -134,7 +136,7 @@ fn action_alone(word: &[u8]) -> Option<Action>
 }
 
 /// The action that is about a program or a task, by its word.
-#[tactic(auto, unfolding(crate::specs::Standing::run_word, crate::specs::Standing::result_word, crate::specs::Standing::purge_word, crate::specs::Standing::resubmit_word))]
+#[tactic(auto, unfolding(crate::specs::Standing::run_word, crate::specs::Standing::result_word, crate::specs::Standing::purge_word, crate::specs::Standing::resubmit_word, crate::specs::Standing::abort_word))]
 fn action_about(alloc: Global, word: &[u8], argument: &str) -> Result<Action, CommandError>
     ensures ok { IfOk result (λ a. action_about word.now argument.now ≡ Some a) }
     ensures usage { result ≡ Err CommandError.Usage → action_about word.now argument.now ≡ None }
@@ -154,6 +156,10 @@ fn action_about(alloc: Global, word: &[u8], argument: &str) -> Result<Action, Co
     if word == b"resubmit".as_slice() {
         let id = id_from(alloc, argument)?;
         return Ok(Action::Resubmit { id });
+    }
+    if word == b"abort".as_slice() {
+        let id = id_from(alloc, argument)?;
+        return Ok(Action::Abort { id });
     }
     Err(CommandError::Usage)
 }

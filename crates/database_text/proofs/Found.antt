@@ -9,12 +9,12 @@ use Rattle.std.proofs.lemmas.List.Elements.{All-append, All-cons, All-head, All-
 use Rattle.std.proofs.lemmas.Nat.{from_be_bytes-to_be_bytes_4}
 use Rattle.cluster_types.specs.declared.entry.Entry.{Entry}
 use Rattle.edges.specs.Spelling.{be32}
-use Rattle.edges.specs.Difference.{difference}
 use Rattle.record_codec.specs.Spelling.{spelling, HasRecord}
 use Rattle.record_codec.specs.Records.{spellings}
 use Rattle.record_codec.proofs.Lengths.{length-be32}
 use Rattle.task_journal.specs.declared.gate.GateState.TheVariants.{Open}
-use Rattle.task_journal.specs.Journal.{holding, records_at, gate_in, found_from, head, StandsFor}
+use Rattle.task_journal.specs.declared.version.Version.TheVariants.{Second}
+use Rattle.task_journal.specs.Journal.{holding, records_at, gate_in, found_from, head, head_fault, StandsFor}
 use Rattle.task_journal.proofs.Batches.{records_again, count_fits}
 use Rattle.task_journal.proofs.Crash.{closed_gate, number_is}
 use Rattle.task_journal.proofs.Gates.{found_skip}
@@ -47,8 +47,8 @@ gate es rest short =
     rw (long, first, second, number_is (length (spellings es)) (b ++ rest) short, number_is (length es) rest (omega (arith, count_fits es, short))) refl
 
 -- a batch is found in front of what is found behind it
-open_found : (size : ℕ) (es : List Entry) (rest : List ℕ) (entries : List Entry) (places : List ℕ) → All HasRecord es → FitsBatch es → found_from size 0 rest ≡ Ok (holding entries places)
-    → (before : List ℕ) × (found_from size 0 (open_batch es ++ rest) ≡ Ok (holding (es ++ entries) before))
+open_found : (size : ℕ) (es : List Entry) (rest : List ℕ) (entries : List Entry) (places : List ℕ) → All HasRecord es → FitsBatch es → found_from Second size 0 rest ≡ Ok (holding entries places)
+    → (before : List ℕ) × (found_from Second size 0 (open_batch es ++ rest) ≡ Ok (holding (es ++ entries) before))
 unfolding found_from
 open_found size es rest entries places each short behind =
     let n = length (spellings es) in
@@ -58,10 +58,10 @@ open_found size es rest entries places each short behind =
     let r = records_again es end each in
     let body : take n (drop 9 x) ≡ spellings es = ap (take n) nine ∙ take_at (spellings es) rest n refl in
     let left : drop (9 + n) x ≡ rest = sym (drop-drop n 9 x) ∙ ap (drop n) nine ∙ drop_at (spellings es) rest n refl in
-    let records : records_at (length es) end (take n (drop 9 x)) ≡ Ok (holding es r.0) = ap (λ (z : List ℕ). records_at (length es) end z) body ∙ r.1 in
-    let next : found_from size (9 + n) x ≡ Ok (holding entries places) = found_skip size (9 + n) x ∙ ap (λ (z : List ℕ). found_from size 0 z) left ∙ behind in
+    let records : records_at Second (length es) end (take n (drop 9 x)) ≡ Ok (holding es r.0) = ap (λ (z : List ℕ). records_at Second (length es) end z) body ∙ r.1 in
+    let next : found_from Second size (9 + n) x ≡ Ok (holding entries places) = found_skip Second size (9 + n) x ∙ ap (λ (z : List ℕ). found_from Second size 0 z) left ∙ behind in
     let opens = gate es (spellings es ++ rest) short in
-    (r.0 ++ places, ap (λ (z : List ℕ). found_from size 0 z) (parts es rest) ∙ rw (opens, records, next) refl)
+    (r.0 ++ places, ap (λ (z : List ℕ). found_from Second size 0 z) (parts es rest) ∙ rw (opens, records, next) refl)
 
 -- ---- all batches
 
@@ -77,7 +77,7 @@ chosen b batch e es = if b then batches_from (batch ++ e ∷ []) es else batch �
 
 -- a list is found in batches in front of what no record follows
 abbrev Found : ℕ → List ℕ → List (List Entry) → List Entry → Type 0
-Found size rest batched list = (before : List ℕ) × (found_from size 0 (flat_map open_batch batched ++ rest) ≡ Ok (holding list before))
+Found size rest batched list = (before : List ℕ) × (found_from Second size 0 (flat_map open_batch batched ++ rest) ≡ Ok (holding list before))
 
 by_choice : (b : Bool) (size : ℕ) (batch : List Entry) (e : Entry) (es : List Entry) (rest : List ℕ) → All HasRecord batch → All FitsBatch (chosen b batch e es)
     → (All FitsBatch (batches_from (batch ++ e ∷ []) es) → Found size rest (batches_from (batch ++ e ∷ []) es) ((batch ++ e ∷ []) ++ es))
@@ -88,12 +88,12 @@ by_choice true size batch e es rest front short joined apart =
 by_choice false size batch e es rest front short joined apart =
     let more = apart (All-tail FitsBatch batch (batches_from (e ∷ []) es) short) in
     let one = open_found size batch (flat_map open_batch (batches_from (e ∷ []) es) ++ rest) (e ∷ es) more.0 front (All-head FitsBatch batch (batches_from (e ∷ []) es) short) more.1 in
-    (one.0, ap (λ (z : List ℕ). found_from size 0 z) (append_assoc (open_batch batch) (flat_map open_batch (batches_from (e ∷ []) es)) rest) ∙ one.1)
+    (one.0, ap (λ (z : List ℕ). found_from Second size 0 z) (append_assoc (open_batch batch) (flat_map open_batch (batches_from (e ∷ []) es)) rest) ∙ one.1)
 
-all_found : (size : ℕ) (batch es : List Entry) (rest places : List ℕ) → All HasRecord batch → All HasRecord es → All FitsBatch (batches_from batch es) → found_from size 0 rest ≡ Ok (holding [] places) → Found size rest (batches_from batch es) (batch ++ es)
+all_found : (size : ℕ) (batch es : List Entry) (rest places : List ℕ) → All HasRecord batch → All HasRecord es → All FitsBatch (batches_from batch es) → found_from Second size 0 rest ≡ Ok (holding [] places) → Found size rest (batches_from batch es) (batch ++ es)
 all_found size batch [] rest places front each short behind =
     let one = open_found size batch rest [] places front (All-head FitsBatch batch [] short) behind in
-    (one.0, ap (λ (z : List ℕ). found_from size 0 (z ++ rest)) (append-nil (open_batch batch)) ∙ one.1)
+    (one.0, ap (λ (z : List ℕ). found_from Second size 0 (z ++ rest)) (append-nil (open_batch batch)) ∙ one.1)
 all_found size batch (e ∷ es) rest places front each short behind =
     let one : All HasRecord (e ∷ []) = All-cons HasRecord e [] (All-head HasRecord e es each) (All-nil HasRecord) in
     let others : All HasRecord es = All-tail HasRecord e es each in
@@ -117,23 +117,23 @@ enough batch (e ∷ es) = enough_of (has_room batch e) batch e es (enough (batch
 -- ---- the journal
 
 -- what stands behind a head is found in the journal
-headed : (rest : List ℕ) (list : List Entry) → 2 ≤ length rest → ((size : ℕ) → (places : List ℕ) × (found_from size 0 rest ≡ Ok (holding list places))) → StandsFor (head ++ rest) list
+headed : (rest : List ℕ) (list : List Entry) → 2 ≤ length rest → ((size : ℕ) → (places : List ℕ) × (found_from Second size 0 rest ≡ Ok (holding list places))) → StandsFor (head ++ rest) list
 headed rest list long found =
     let size = length (head ++ rest) in
-    let same : difference 0 head (head ++ rest) ≡ None = refl in
+    let same : head_fault (head ++ rest) ≡ None = refl in
     let h : length head ≡ 31 = refl in
     let all : 33 ≤ length (head ++ rest) = omega (arith, length-append head rest, h, long) in
     let f = found size in
-    (f.0, journal_headed (head ++ rest) all same ∙ found_skip size 31 (head ++ rest) ∙ ap (λ (z : List ℕ). found_from size 0 z) (drop_at head rest 31 refl) ∙ f.1)
+    (f.0, journal_headed (head ++ rest) all same ∙ found_skip Second size 31 (head ++ rest) ∙ ap (λ (z : List ℕ). found_from Second size 0 z) (drop_at head rest 31 refl) ∙ f.1)
 
 pub stands : (list : List Entry) → All HasRecord list → HasJournal list → StandsFor (compacted list) list
 unfolding compacted
-stands [] each short = headed (0 ∷ 0 ∷ []) [] (omega arith) (λ size. ((size - 1 - 1) ∷ [], closed_gate size 0 (0 ∷ []) refl))
+stands [] each short = headed (0 ∷ 0 ∷ []) [] (omega arith) (λ size. ((size - 1 - 1) ∷ [], closed_gate Second size 0 (0 ∷ []) refl))
 stands (e ∷ es) each short =
     let body = flat_map open_batch (batches_from (e ∷ []) es) in
     subst (λ (z : List ℕ). StandsFor z (e ∷ es)) (sym (append_assoc head body (0 ∷ [])))
     (headed (body ++ 0 ∷ []) (e ∷ es) (omega (arith, enough (e ∷ []) es, length-append body (0 ∷ [])))
-    (λ size. all_found size (e ∷ []) es (0 ∷ []) ((size - 0 - 1) ∷ []) (All-cons HasRecord e [] (All-head HasRecord e es each) (All-nil HasRecord)) (All-tail HasRecord e es each) short (closed_gate size 0 [] refl)))
+    (λ size. all_found size (e ∷ []) es (0 ∷ []) ((size - 0 - 1) ∷ []) (All-cons HasRecord e [] (All-head HasRecord e es each) (All-nil HasRecord)) (All-tail HasRecord e es each) short (closed_gate Second size 0 [] refl)))
 
 -- ---- which entries have a journal
 

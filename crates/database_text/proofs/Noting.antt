@@ -3,7 +3,7 @@ use Rattle.std.proofs.Common.{◌≡◌, ℕ, List, [], Bool, true, false, cond,
 use Rattle.std.specs.Option.{is_some}
 use Rattle.cluster_types.specs.declared.message.Message.{Message}
 use Rattle.cluster_types.specs.declared.event.Event.{Event}
-use Rattle.cluster_types.specs.declared.event.Event.TheVariants.{Submit, Direct, Reply, Join, Leave, Pong, Purge, Resubmit, Ask}
+use Rattle.cluster_types.specs.declared.event.Event.TheVariants.{Submit, Direct, Reply, Join, Leave, Pong, Purge, Resubmit, Abort, Ask}
 use Rattle.cluster_types.specs.declared.entry.Input.TheVariants.{Open, Up, Down, In, Beat, Time}
 use Rattle.cluster_types.specs.declared.entry.Entry.{Entry}
 use Rattle.cluster_types.specs.declared.entry.Entry.TheVariants.{Input, Hand, Settle, Lose}
@@ -33,7 +33,7 @@ no_copies n event none false = refl
 asked : (gone purged : Id → Bool) (n : ℕ) (m : Message) (d : Demand) (event : Event) →
     thin_message gone purged (note_as n true (Some event)) m ≡ thin_request gone (Some d) m → (b : Bool) →
     thin_request gone (cond b (Some d) None) m
-    ≡ thin_message gone purged (note_as n (is_some (cond b (Some d) None) || false || false || false || false || false || false) (Some event)) m
+    ≡ thin_message gone purged (note_as n (is_some (cond b (Some d) None) || false || false || false || false || false || false || false) (Some event)) m
 asked gone purged n m d event is true = sym is
 asked gone purged n m d event is false = refl
 
@@ -64,9 +64,10 @@ message_is gone purged f conn m (Some Leave) = same_message gone purged (length 
 message_is gone purged f conn m (Some (Pong b)) = same_message gone purged (length f.known) (Pong b) m refl (changes f conn m (Some (Pong b)))
 message_is gone purged f conn m (Some (Purge all ids)) = same_message gone purged (length f.known) (Purge all ids) m refl (changes f conn m (Some (Purge all ids)))
 message_is gone purged f conn m (Some (Resubmit ids)) = same_message gone purged (length f.known) (Resubmit ids) m refl (changes f conn m (Some (Resubmit ids)))
+message_is gone purged f conn m (Some (Abort ids)) = same_message gone purged (length f.known) (Abort ids) m refl (changes f conn m (Some (Abort ids)))
 message_is gone purged f conn m (Some (Ask q)) = same_message gone purged (length f.known) (Ask q) m refl (changes f conn m (Some (Ask q)))
 
-resubmitted_is : (f : Facts) (ids : List Id) (o : Option (List Copy)) → made (resubmitting f (once ids)) ≡ o → copies_of o ≡ copies_in (note_as (length f.known) (is_some o || false) (Some (Resubmit ids)))
+resubmitted_is : (f : Facts) (ids : List Id) (o : Option (List Copy)) → made (resubmitting f (once ids)) ≡ o → copies_of o ≡ copies_in (note_as (length f.known) (is_some o || false || false) (Some (Resubmit ids)))
 resubmitted_is f ids None is = refl
 resubmitted_is f ids (Some copies) is = (made_of f (once ids) copies is).are
 
@@ -80,6 +81,7 @@ copies_are f conn m (Some Leave) = no_copies (length f.known) Leave refl (change
 copies_are f conn m (Some (Pong b)) = no_copies (length f.known) (Pong b) refl (changes f conn m (Some (Pong b)))
 copies_are f conn m (Some (Purge all ids)) = no_copies (length f.known) (Purge all ids) refl (changes f conn m (Some (Purge all ids)))
 copies_are f conn m (Some (Resubmit ids)) = resubmitted_is f ids (made (resubmitting f (once ids))) refl
+copies_are f conn m (Some (Abort ids)) = no_copies (length f.known) (Abort ids) refl (changes f conn m (Some (Abort ids)))
 copies_are f conn m (Some (Ask q)) = no_copies (length f.known) (Ask q) refl (changes f conn m (Some (Ask q)))
 
 -- ENTRIES

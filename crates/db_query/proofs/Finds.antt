@@ -1,10 +1,10 @@
 -- The records that are found among one record more.
 use Rattle.std.proofs.Common.{◌≡◌, ◌≤◌, ◌+◌, ℕ, suc, zero, List, [], ◌∷◌, ◌++◌, length, take, slice_get, Bool, true, false, if◌then◌else◌, refl, ap, ◌∙◌, arith}
 use Rattle.cluster_types.specs.declared.record.Record.{Record}
-use Rattle.db_query.specs.Filter.{is_found, found}
+use Rattle.cluster_defs.specs.Filter.{is_found, found}
 use Rattle.db_query.specs.Found.{found_one}
-use Rattle.db_query.specs.declared.query.Asked.{Asked}
-use Rattle.db_query.specs.declared.query.Tests.{Tests}
+use Rattle.cluster_defs.specs.declared.filter.Asked.{Asked}
+use Rattle.cluster_defs.specs.declared.filter.Tests.{Tests}
 
 more_kept : (b : Bool) (r : Record) (rs qs more : List Record) → rs ≡ qs ++ more → (if b then r ∷ rs else rs) ≡ (if b then r ∷ qs else qs) ++ more
 more_kept true r rs qs more h = ap (λ z. r ∷ z) h

@@ -6,9 +6,9 @@ use Rattle.cluster_types.specs.declared.record.Record.{Record}
 use Rattle.cluster_defs.specs.Texts.{parted}
 use Rattle.jupyter_header.specs.Comma.{comma}
 use Rattle.jupyter_header.proofs.CommasMore.{members_more}
-use Rattle.db_query.specs.Asked.{with_new, once}
-use Rattle.db_query.specs.Found.{field_member}
-use Rattle.db_query.specs.declared.query.Field.{Field}
+use Rattle.cluster_defs.specs.FilterWords.{with_new, once}
+use Rattle.cluster_defs.specs.FilterContents.{field_member}
+use Rattle.cluster_defs.specs.declared.filter.Field.{Field}
 
 pub once_more : (fields : List Field) (i : ℕ) (d : Field) → i < length fields → with_new (once (take i fields)) (get_or fields i d) ≡ once (take (i + 1) fields)
 once_more fields i d inside = sym (ap once (take_more fields i d inside) ∙ fold-append with_new [] (take i fields) (get_or fields i d ∷ []))

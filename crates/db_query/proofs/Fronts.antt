@@ -1,6 +1,7 @@
 -- The beginning of an answer is no longer than the answer.
-use Rattle.std.proofs.Common.{◌≡◌, ◌≤◌, ℕ, List, [], ◌∷◌, ◌++◌, length, take, drop, map, nat_lt, ◌+◌, ◌||◌, Bool, true, false, refl, sym, ap, ◌∙◌, arith, length-append, take-append-drop}
+use Rattle.std.proofs.Common.{◌≡◌, ◌≤◌, ℕ, List, [], ◌∷◌, ◌++◌, length, take, drop, map, nat_lt, ◌+◌, ◌||◌, ◌&&◌, Bool, true, false, refl, sym, ap, ◌∙◌, arith, length-append, take-append-drop}
 use Rattle.std.specs.List.{flat_map}
+use Rattle.std.proofs.lemmas.Bool.{and_parts}
 use Rattle.std.proofs.lemmas.Bool.Decides.{nat_tests}
 use Rattle.std.proofs.lemmas.List.{map-append}
 use Rattle.std.proofs.lemmas.List.Concat.{flat_map-append}
@@ -8,10 +9,12 @@ use Rattle.std.proofs.lemmas.List.Elements.{filter-append}
 use Rattle.cluster_types.specs.declared.record.Record.{Record}
 use Rattle.cluster_defs.specs.Queries.{plain, is_too_long}
 use Rattle.cluster_defs.specs.Texts.{parted}
-use Rattle.db_query.specs.Filter.{is_found, found}
-use Rattle.db_query.specs.Found.{record_text, front_text, end_text, records_content, listed}
-use Rattle.db_query.specs.declared.query.Field.{Field}
-use Rattle.db_query.specs.declared.query.Tests.{Tests}
+use Rattle.cluster_defs.specs.Filter.{is_found, found}
+use Rattle.cluster_defs.specs.FilterContents.{record_text, front_text, end_text, records_content}
+use Rattle.db_query.specs.Found.{listed}
+use Rattle.db_query.specs.Limited.{is_over}
+use Rattle.cluster_defs.specs.declared.filter.Field.{Field}
+use Rattle.cluster_defs.specs.declared.filter.Tests.{Tests}
 
 parted_front : (xs ys : List (List ℕ)) → length (parted xs) ≤ length (parted (xs ++ ys))
 parted_front [] ys = omega arith
@@ -53,3 +56,12 @@ too_long keys t rs k h =
     let all = parted (map (record_text keys) (found t rs)) in
     limit_of_content (records_content keys (found t rs))
     ∙ passes_too 16777216 (length (front_text ++ front)) (length (front_text ++ (all ++ end_text))) (within front_text front all end_text (records_front keys t rs k)) h
+
+-- a beginning that is given up makes the whole pass the limits that it has to keep to
+pub given_up : (is_limited : Bool) (keys : List Field) (t : Tests) (rs : List Record) (k : ℕ)
+    → (is_limited && nat_lt 16777216 (length (listed keys (found t (take k rs))).text)) ≡ true → is_over is_limited (records_content keys (found t rs)) ≡ true
+given_up is_limited keys t rs k h =
+    let both = and_parts is_limited (nat_lt 16777216 (length (listed keys (found t (take k rs))).text)) h in
+    let on : is_limited ≡ true = both.0 in
+    let long : is_too_long (plain (records_content keys (found t rs))) ≡ true = too_long keys t rs k both.1 in
+    rw (on, long) refl

@@ -7,10 +7,10 @@ use Rattle.std.specs.Ordering.{match_ordering}
 use Rattle.json.specs.Json as json
 use Rattle.serde_json.specs.Data.{Data, Members, no_members, member, put}
 use Rattle.jupyter_header.specs.Borrowed.{data_of, members}
-use Rattle.db_query.specs.Asked.{is_word}
+use Rattle.cluster_defs.specs.FilterWords.{is_word}
 use Rattle.db_query.specs.Members.{each_name, only_names}
-use Rattle.db_query.specs.Readings.{each_key, has_only}
-use Rattle.db_query.specs.declared.keys.Vocabulary.{Vocabulary}
+use Rattle.cluster_defs.specs.FilterReadings.{each_key, has_only}
+use Rattle.cluster_defs.specs.declared.filter.Vocabulary.{Vocabulary}
 
 swapped : (a b c : Bool) → (a && (b && c)) ≡ (b && (a && c))
 swapped true true c = refl

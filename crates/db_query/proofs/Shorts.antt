@@ -4,7 +4,7 @@ use Rattle.serde_json.specs.Events.{items_len}
 use Rattle.json.specs.declared.value.Value.{Value}
 use Rattle.jupyter_header.specs.Borrowed.{items_view}
 use Rattle.cluster_defs.specs.Fields.{each_of}
-use Rattle.db_query.specs.Readings.{scalar_in, at_most_4096}
+use Rattle.cluster_defs.specs.FilterReadings.{scalar_in, at_most_4096}
 
 length_of : {A : Type 0} (values : List (Value A)) → items_len (items_view values) ≡ length values
 length_of [] = refl

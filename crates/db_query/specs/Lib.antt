@@ -1,6 +1,5 @@
-pub mod Asked
-pub mod Filter
 pub mod Found
+pub mod Laid
+pub mod Limited
 pub mod Members
-pub mod Readings
 pub mod Shown

@@ -1,8 +1,8 @@
 -- The keys of an object as it is written, where a key may stand twice.
 use Rattle.std.specs.Prelude.{Bool, true, false, ◌&&◌}
 use Rattle.json.specs.Json as json
-use Rattle.db_query.specs.Asked.{is_word}
-use Rattle.db_query.specs.declared.keys.Vocabulary.{Vocabulary}
+use Rattle.cluster_defs.specs.FilterWords.{is_word}
+use Rattle.cluster_defs.specs.declared.filter.Vocabulary.{Vocabulary}
 
 -- whether the name of each member is one of some words
 abbrev pub each_name : Vocabulary → json.Members → Bool

@@ -1,6 +1,6 @@
 -- The value that one with a borrowed text is.
-use Rattle.db_query.specs.declared.query.Scalar.{Scalar}
-use Rattle.db_query.specs.declared.query.Scalar.TheVariants.{Null, Text, Number}
+use Rattle.cluster_defs.specs.declared.filter.Scalar.{Scalar}
+use Rattle.cluster_defs.specs.declared.filter.Scalar.TheVariants.{Null, Text, Number}
 use Rattle.db_query.specs.declared.shown.Shown.{Shown}
 use Rattle.db_query.specs.declared.shown.Shown.TheVariants.{Null as NullShown, Text as TextShown, Number as NumberShown}
 

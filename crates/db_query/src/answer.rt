@@ -1,17 +1,20 @@
 //! The answer to a query.
 
-ghost use Rattle.std.specs.Prelude.{◌≡◌, ◌⊎◌, [], true, false, Err, length, nat_lt, IfOk, IfErr, codes};
+ghost use Rattle.std.specs.Prelude.{◌≡◌, ◌⊎◌, ◌&&◌, [], true, false, Err, length, nat_lt, IfOk, IfErr, codes};
 ghost use Rattle.cluster_types.specs.Limits.{body_limit};
 ghost use Rattle.cluster_defs.specs.Queries.{plain, is_too_long};
 ghost use Rattle.cluster_defs.specs.Event.{fault_field};
-ghost use Rattle.db_query.specs.Filter.{found};
-ghost use Rattle.db_query.specs.Found.{records_content, content_for, query_content, listed};
+ghost use Rattle.cluster_defs.specs.Filter.{found};
+ghost use Rattle.cluster_defs.specs.FilterContents.{records_content, content_for, query_content};
+ghost use Rattle.db_query.specs.Found.{listed};
+ghost use Rattle.db_query.specs.Limited.{is_over};
 
+use crate::choices::lookups_of;
 use crate::fault::DbError;
 use crate::listing::Listing;
-use crate::query::Asked;
 use crate::reading::read_query;
 use cluster_defs::fault::ReadError;
+use cluster_defs::filter::Asked;
 use cluster_types::limits::BODY_OCTETS;
 use cluster_types::octets::Octets;
 use cluster_types::record::Records;
@@ -43,26 +46,47 @@ fn is_too_long(content: &Octets) -> bool
     passes(content.len())
 }
 
-/// The answer with a content, where that is within the limits of a reply.
-fn within(content: Octets) -> Result<DbAnswer, DbError>
-    ensures ok { IfOk result (λ a. (a.content ≡ content) × (is_too_long (plain content) ≡ false)) }
-    ensures err { IfErr result (λ e. (e ≡ DbError.TooLong) × (is_too_long (plain content) ≡ true)) }
+/// Whether a content passes the limits of a reply, where it has to keep to them.
+fn is_over(is_limited: bool, content: &Octets) -> bool
+    ensures { result ≡ is_over is_limited content.now }
 {
-    if is_too_long(&content) {
+    is_limited && is_too_long(content)
+}
+
+/// Whether a text with so many octets is given up: it has to keep to the limits of a reply, and passes the first of them.
+fn gives_up(is_limited: bool, octets: usize) -> bool
+    ensures { result ≡ (is_limited && nat_lt body_limit octets) }
+{
+    is_limited && passes(octets)
+}
+
+/// The answer with a content, unless that passes limits that it has to keep to.
+fn within(is_limited: bool, content: Octets) -> Result<DbAnswer, DbError>
+    ensures ok { IfOk result (λ a. (a.content ≡ content) × (is_over is_limited content ≡ false)) }
+    ensures err { IfErr result (λ e. (e ≡ DbError.TooLong) × (is_over is_limited content ≡ true)) }
+{
+    if is_over(is_limited, &content) {
         return Err(DbError::TooLong);
     }
     Ok(DbAnswer { content })
 }
 
-/// The beginning of the answer, up to the last record that is found. It is given up once it passes the limit.
-fn listing_of<R: Records>(alloc: Global, table: &R, asked: &Asked) -> Result<Listing, DbError>
+/// The beginning of the answer, up to the last record that is found. Where it has to keep to the limits of a reply, it is given
+/// up once it passes them.
+fn listing_of<R: Records>(
+    alloc: Global,
+    table: &R,
+    asked: &Asked,
+    is_limited: bool,
+) -> Result<Listing, DbError>
     ensures ok { IfOk result (λ l. l ≡ listed asked.now.keys (found asked.now.tests (R.records table.now))) }
-    ensures err { IfErr result (λ e. (e ≡ DbError.OutOfMemory) ⊎ ((e ≡ DbError.TooLong) × (is_too_long (plain (records_content asked.now.keys (found asked.now.tests (R.records table.now)))) ≡ true))) }
+    ensures err { IfErr result (λ e. (e ≡ DbError.OutOfMemory) ⊎ ((e ≡ DbError.TooLong) × (is_over is_limited (records_content asked.now.keys (found asked.now.tests (R.records table.now))) ≡ true))) }
 {
+    let lookups = lookups_of(alloc, &asked.tests)?;
     let mut listing = Listing::new(alloc)?;
     for place in 0..table.count() {
-        listing.add_found(alloc, asked, table.at(place))?;
-        if passes(listing.len()) {
+        listing.add_found(alloc, asked, &lookups, table.at(place))?;
+        if gives_up(is_limited, listing.len()) {
             return Err(DbError::TooLong);
         }
     }
@@ -70,14 +94,19 @@ fn listing_of<R: Records>(alloc: Global, table: &R, asked: &Asked) -> Result<Lis
 }
 
 /// The answer with the records that are found.
-fn found_answer<R: Records>(alloc: Global, table: &R, asked: &Asked) -> Result<DbAnswer, DbError>
+fn found_answer<R: Records>(
+    alloc: Global,
+    table: &R,
+    asked: &Asked,
+    is_limited: bool,
+) -> Result<DbAnswer, DbError>
     ensures ok { IfOk result (λ a. a.content ≡ records_content asked.now.keys (found asked.now.tests (R.records table.now))) }
-    ensures within { IfOk result (λ a. is_too_long (plain a.content) ≡ false) }
-    ensures err { IfErr result (λ e. (e ≡ DbError.OutOfMemory) ⊎ ((e ≡ DbError.TooLong) × (is_too_long (plain (records_content asked.now.keys (found asked.now.tests (R.records table.now)))) ≡ true))) }
+    ensures within { IfOk result (λ a. is_over is_limited a.content ≡ false) }
+    ensures err { IfErr result (λ e. (e ≡ DbError.OutOfMemory) ⊎ ((e ≡ DbError.TooLong) × (is_over is_limited (records_content asked.now.keys (found asked.now.tests (R.records table.now))) ≡ true))) }
 {
-    let listing = listing_of(alloc, table, asked)?;
+    let listing = listing_of(alloc, table, asked, is_limited)?;
     let content = Octets::from_string(listing.finish()?)?;
-    within(content)
+    within(is_limited, content)
 }
 
 /// The field that a fault names, or the whole content.
@@ -99,19 +128,35 @@ fn refused(alloc: Global, fault: ReadError) -> Result<Octets, AllocError>
     error_content(alloc, "BadContent", field.as_str(), &Sequence::new(alloc))
 }
 
-/// The answer to a query, off the records of all tasks. A content that doesn't read is answered too, by a refusal.
+/// The answer to a query that came where answers may have limits, off the records of all tasks. A content that doesn't read is
+/// answered too, by a refusal.
 ///
-/// `TooLong` comes where the answer's content would pass the limits of a reply. It is written no further than that, so it takes
-/// no more memory than a reply may have.
+/// `TooLong` comes where the answer is limited and its content would pass the limits of a reply. It is written no further than
+/// that, so it takes no more memory than a reply may have.
+pub fn answer_within<R: Records>(
+    alloc: Global,
+    table: &R,
+    content: &Octets,
+    is_limited: bool,
+) -> Result<DbAnswer, DbError>
+    ensures ok { IfOk result (λ a. a.content ≡ query_content (R.records table.now) content.now) }
+    ensures within { IfOk result (λ a. is_over is_limited a.content ≡ false) }
+    ensures err { IfErr result (λ e. (e ≡ DbError.OutOfMemory) ⊎ ((e ≡ DbError.TooLong) × (is_over is_limited (query_content (R.records table.now) content.now) ≡ true))) }
+{
+    let mut scratch = Scratch::new(alloc);
+    match read_query(alloc, content.as_slice(), &mut scratch) {
+        Ok(asked) => found_answer(alloc, table, &asked, is_limited),
+        Err(ReadError::OutOfMemory) => Err(DbError::OutOfMemory),
+        Err(fault) => within(is_limited, refused(alloc, fault)?),
+    }
+}
+
+/// The answer to a query, off the records of all tasks, within the limits of a reply. `TooLong` comes where its content would
+/// pass them.
 pub fn answer<R: Records>(alloc: Global, table: &R, content: &Octets) -> Result<DbAnswer, DbError>
     ensures ok { IfOk result (λ a. a.content ≡ query_content (R.records table.now) content.now) }
     ensures within { IfOk result (λ a. is_too_long (plain a.content) ≡ false) }
     ensures err { IfErr result (λ e. (e ≡ DbError.OutOfMemory) ⊎ ((e ≡ DbError.TooLong) × (is_too_long (plain (query_content (R.records table.now) content.now)) ≡ true))) }
 {
-    let mut scratch = Scratch::new(alloc);
-    match read_query(alloc, content.as_slice(), &mut scratch) {
-        Ok(asked) => found_answer(alloc, table, &asked),
-        Err(ReadError::OutOfMemory) => Err(DbError::OutOfMemory),
-        Err(fault) => within(refused(alloc, fault)?),
-    }
+    answer_within(alloc, table, content, true)
 }

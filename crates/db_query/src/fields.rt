@@ -2,30 +2,28 @@
 
 ghost use Rattle.std.specs.Prelude.{◌≡◌, IfOk, OnOk};
 ghost use Rattle.std.specs.List.{list_any};
-ghost use Rattle.db_query.specs.Asked.{field_name, field_of, is_field, all_fields, with_new, once};
+ghost use Rattle.cluster_defs.specs.FilterWords.{field_name, field_of, is_field, all_fields, with_new, once};
 
-use crate::query::{Field, Fields};
+use cluster_defs::filter::{Field, Fields};
 use cluster_types::sequence::Sequence;
 use std::alloc::{AllocError, Global};
 
-impl Field {
-    /// The name that it has in a query and in an answer.
-    pub fn name(self) -> &'static str
-        ensures { result.now ≡ field_name self }
-    {
-        match self {
-            Field::MsgId => "msg_id",
-            Field::Number => "number",
-            Field::Kind => "kind",
-            Field::Engine => "engine",
-            Field::State => "state",
-            Field::Cause => "cause",
-        }
+/// The name that a field has in a query and in an answer.
+pub fn field_name(field: Field) -> &'static str
+    ensures { result.now ≡ field_name field }
+{
+    match field {
+        Field::MsgId => "msg_id",
+        Field::Number => "number",
+        Field::Kind => "kind",
+        Field::Engine => "engine",
+        Field::State => "state",
+        Field::Cause => "cause",
     }
 }
 
 /// The field that a name names.
-#[tactic(auto, unfolding(crate::specs::Asked::field_of))]
+#[tactic(auto, unfolding(cluster_defs::specs::FilterWords::field_of))]
 pub fn field_of(name: &str) -> Option<Field>
     ensures { result ≡ field_of name.now }
 {
@@ -50,7 +48,7 @@ pub fn field_of(name: &str) -> Option<Field>
 fn is_field(field: Field, other: Field) -> bool
     ensures { result ≡ is_field field other }
 {
-    field.name() == other.name()
+    field_name(field) == field_name(other)
 }
 
 /// Whether a field stands in a list.

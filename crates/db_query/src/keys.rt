@@ -3,24 +3,16 @@
 ghost use Rattle.std.specs.Prelude.{◌≡◌};
 ghost use Rattle.json.specs.Value.{value_view, members_view as json_members};
 ghost use Rattle.jupyter_header.specs.Borrowed.{view};
-ghost use Rattle.db_query.specs.Asked.{is_operator, is_word};
-ghost use Rattle.db_query.specs.Readings.{has_only};
+ghost use Rattle.cluster_defs.specs.FilterWords.{is_operator, is_word};
+ghost use Rattle.cluster_defs.specs.FilterReadings.{has_only};
 ghost use Rattle.db_query.specs.Members.{each_name, only_names};
 
 use crate::fields::field_of;
+use cluster_defs::filter::Vocabulary;
 use json::Value;
 
-/// The words that the keys of an object may be.
-#[derive(Clone, Copy, Debug, PartialEq, Eq)]
-pub enum Vocabulary {
-    /// The names of the fields of a record.
-    Fields,
-    /// The operators of a test.
-    Operators,
-}
-
 /// Whether a text is an operator.
-#[tactic(auto, unfolding(crate::specs::Asked::is_operator))]
+#[tactic(auto, unfolding(cluster_defs::specs::FilterWords::is_operator))]
 fn is_operator(name: &str) -> bool
     ensures { result ≡ is_operator name.now }
 {

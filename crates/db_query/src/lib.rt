@@ -2,13 +2,11 @@
 #![tactic(auto)]
 
 pub mod answer;
+mod choices;
 pub mod fault;
 mod fields;
 mod keys;
 mod listing;
 mod matching;
-mod object;
-mod query;
 mod reading;
 mod shown;
-mod values;

@@ -5,12 +5,15 @@ ghost use Rattle.std.specs.Option.{option_copied};
 ghost use Rattle.cluster_types.specs.declared.record.Record.{Record};
 ghost use Rattle.cluster_defs.specs.Texts.{parted};
 ghost use Rattle.jupyter_header.specs.Comma.{comma};
-ghost use Rattle.db_query.specs.Found.{scalar_text, key_text, field_member, record_text, front_text, end_text, listed, found_one};
+ghost use Rattle.cluster_defs.specs.FilterContents.{scalar_text, key_text, field_member, record_text, front_text, end_text};
+ghost use Rattle.db_query.specs.Found.{listed, found_one};
+ghost use Rattle.db_query.specs.Laid.{AreLookups};
 ghost use Rattle.db_query.specs.Shown.{shown_as};
 
+use crate::choices::Lookups;
 use crate::matching::is_found;
-use crate::query::{Asked, Field, Fields};
 use crate::shown::{Shown, value_in};
+use cluster_defs::filter::{Asked, Field, Fields};
 use cluster_types::record::Record;
 use jupyter_header::contents::push_comma;
 use jupyter_header::write::quoted;
@@ -51,7 +54,7 @@ fn push_shown(text: &mut String, alloc: Global, shown: Shown<'_>) -> Result<(), 
 }
 
 /// The name of a field as JSON writes it, with a colon behind it.
-#[tactic(auto, unfolding(crate::specs::Found::key_text, json::specs::Print::escape_byte))]
+#[tactic(auto, unfolding(cluster_defs::specs::FilterContents::key_text, json::specs::Print::escape_byte))]
 fn key_text(field: Field) -> &'static str
     ensures { result.now ≡ key_text field }
 {
@@ -113,7 +116,7 @@ fn push_record(
 
 impl Listing {
     /// The beginning up to the first record.
-    #[tactic(auto, unfolding(crate::specs::Found::front_text))]
+    #[tactic(auto, unfolding(cluster_defs::specs::FilterContents::front_text))]
     pub fn new(alloc: Global) -> Result<Listing, AllocError>
         ensures { (keys : List Field) → IfOk result (λ l. l ≡ listed keys []) }
     {
@@ -142,21 +145,23 @@ impl Listing {
         &mut self,
         alloc: Global,
         asked: &Asked,
+        lookups: &Lookups<'_>,
         task: Option<&Record>,
     ) -> Result<(), AllocError>
+        requires { AreLookups asked.now.tests lookups.now }
         ensures { (rs : List Record) → length rs + 1 < 2 ^ 64 → self.old ≡ listed asked.now.keys rs → OnOk result (self.new ≡ listed asked.now.keys (rs ++ found_one asked.now (option_copied task.entry))) }
     {
         let Some(task) = task else {
             return Ok(());
         };
-        if is_found(&asked.tests, task) {
+        if is_found(&asked.tests, lookups, task) {
             self.add(alloc, &asked.keys, task)?;
         }
         Ok(())
     }
 
     /// The whole answer.
-    #[tactic(auto, unfolding(crate::specs::Found::end_text))]
+    #[tactic(auto, unfolding(cluster_defs::specs::FilterContents::end_text))]
     pub fn finish(self) -> Result<String, AllocError>
         ensures { IfOk result (λ s. string_bytes s ≡ self.text ++ end_text) }
     {

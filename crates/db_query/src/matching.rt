@@ -1,12 +1,14 @@
 //! Whether a record passes the tests of a query.
 
 ghost use Rattle.std.specs.Prelude.{◌≡◌};
-ghost use Rattle.std.specs.List.{list_any};
-ghost use Rattle.db_query.specs.Filter.{is_same, is_below, meets, holds, holds_of, matches, is_found, where_there, value_of};
+ghost use Rattle.std.specs.Option.{option_and_then};
+ghost use Rattle.cluster_defs.specs.Filter.{is_same, is_below, meets, holds, holds_of, matches, is_found, where_there, value_of};
+ghost use Rattle.db_query.specs.Laid.{has, AreChoices, among_in, AreLookups};
 ghost use Rattle.db_query.specs.Shown.{shown_as};
 
-use crate::query::{Conditions, Field, Scalar, Test, Tests};
+use crate::choices::{Choices, Lookups};
 use crate::shown::{Shown, value_in};
+use cluster_defs::filter::{Conditions, Field, Scalar, Test, Tests};
 use cluster_types::record::Record;
 
 /// Whether a value is equal to one that a record has.
@@ -42,20 +44,23 @@ fn is_above(shown: Shown<'_>, bound: &Scalar) -> bool
     }
 }
 
-/// Whether one that a record has is among some values.
-fn is_among(scalars: &[Scalar], shown: Shown<'_>) -> bool
-    ensures { result ≡ list_any (λ choice. is_same choice (shown_as shown.entry)) scalars.now }
+/// Whether one that a record has is among the values to choose from, where there are such.
+fn is_among(choices: &Option<Choices<'_>>, shown: Shown<'_>) -> bool
+    ensures { result ≡ where_there (λ c. has c (shown_as shown.entry)) choices.now }
 {
-    scalars.iter().any(|choice| is_same(choice, shown))
+    match choices {
+        Some(choices) => choices.has(shown),
+        None => true,
+    }
 }
 
 /// Whether it meets all conditions.
-fn meets(shown: Shown<'_>, conditions: &Conditions) -> bool
+#[tactic(auto, using(crate::proofs::Layings::among_is))]
+fn meets(shown: Shown<'_>, conditions: &Conditions, choices: &Option<Choices<'_>>) -> bool
+    requires { AreChoices conditions.now.among choices.now }
     ensures { result ≡ meets (shown_as shown.entry) conditions.now }
 {
-    if let Some(scalars) = &conditions.among
-        && !is_among(scalars.as_slice(), shown)
-    {
+    if !is_among(choices, shown) {
         return false;
     }
     if let Some(other) = &conditions.other_than
@@ -77,40 +82,44 @@ fn meets(shown: Shown<'_>, conditions: &Conditions) -> bool
 }
 
 /// Whether a test holds.
-fn holds(shown: Shown<'_>, test: &Test) -> bool
+fn holds(shown: Shown<'_>, test: &Test, choices: &Option<Choices<'_>>) -> bool
+    requires { AreChoices (among_in test.now) choices.now }
     ensures { result ≡ holds (shown_as shown.entry) test.now }
 {
     match test {
         Test::Is(scalar) => is_same(scalar, shown),
-        Test::Meets(conditions) => meets(shown, conditions),
+        Test::Meets(conditions) => meets(shown, conditions, choices),
     }
 }
 
 /// Whether a test of a field holds, if there is one.
-fn holds_of(field: Field, task: &Record, test: &Option<Test>) -> bool
+fn holds_of(field: Field, task: &Record, test: &Option<Test>, choices: &Option<Choices<'_>>) -> bool
+    requires { AreChoices (option_and_then among_in test.now) choices.now }
     ensures { result ≡ holds_of field task.now test.now }
 {
     match test {
-        Some(test) => holds(value_in(field, task), test),
+        Some(test) => holds(value_in(field, task), test, choices),
         None => true,
     }
 }
 
 /// Whether each test holds of its field.
-fn matches(tests: &Tests, task: &Record) -> bool
+fn matches(tests: &Tests, lookups: &Lookups<'_>, task: &Record) -> bool
+    requires { AreLookups tests.now lookups.now }
     ensures { result ≡ matches tests.now task.now }
 {
-    holds_of(Field::MsgId, task, &tests.msg_id)
-        && holds_of(Field::Number, task, &tests.number)
-        && holds_of(Field::Kind, task, &tests.kind)
-        && holds_of(Field::Engine, task, &tests.engine)
-        && holds_of(Field::State, task, &tests.state)
-        && holds_of(Field::Cause, task, &tests.cause)
+    holds_of(Field::MsgId, task, &tests.msg_id, &lookups.msg_id)
+        && holds_of(Field::Number, task, &tests.number, &lookups.number)
+        && holds_of(Field::Kind, task, &tests.kind, &lookups.kind)
+        && holds_of(Field::Engine, task, &tests.engine, &lookups.engine)
+        && holds_of(Field::State, task, &tests.state, &lookups.state)
+        && holds_of(Field::Cause, task, &tests.cause, &lookups.cause)
 }
 
 /// Whether a query finds a record: one that isn't purged and passes its tests.
-pub fn is_found(tests: &Tests, task: &Record) -> bool
+pub fn is_found(tests: &Tests, lookups: &Lookups<'_>, task: &Record) -> bool
+    requires { AreLookups tests.now lookups.now }
     ensures { result ≡ is_found tests.now task.now }
 {
-    !task.purged && matches(tests, task)
+    !task.purged && matches(tests, lookups, task)
 }

@@ -4,31 +4,24 @@ ghost use Rattle.std.specs.Prelude.{◌≡◌, ◌⊎◌, Ok, Err, Some, None, I
 ghost use Rattle.serde_json.specs.Find.{get};
 ghost use Rattle.cluster_defs.specs.Fields.{each_of, list_in, or_bad};
 ghost use Rattle.jupyter_header.specs.Borrowed.{view, items_view};
-ghost use Rattle.db_query.specs.Readings.{bound_in, scalar_in, at_most_4096, choices_in, optional_from, conditions_in, test_from, test_of, tests_in, tests_from, no_tests, field_in, keys_from, asked_from, read_query};
+ghost use Rattle.cluster_defs.specs.FilterReadings.{bound_in, scalar_in, at_most_4096, choices_in, optional_from, conditions_in, test_from, test_of, tests_in, tests_from, no_tests, field_in, keys_from, asked_from, read_query};
 
-use crate::fields::{all_fields, field_of, once};
-use crate::keys::{Vocabulary, has_only};
-use crate::object::read_object;
-use crate::query::{Asked, Conditions, Field, Fields, Scalar, Scalars, Test, Tests};
-use crate::values::{get, is_null, is_object, items, text, whole};
+use crate::fields::{all_fields, field_name, field_of, once};
+use crate::keys::has_only;
 use cluster_defs::fault::ReadError;
+use cluster_defs::filter::{
+    Asked, Conditions, Field, Fields, Scalar, Scalars, Test, Tests, Vocabulary,
+};
 use cluster_types::sequence::Sequence;
 use cluster_types::text::Text;
 use json::{Scratch, Value};
+use jupyter_header::fields::bad;
+use jupyter_header::object::read_object;
+use jupyter_header::values::{get, is_null, is_object, items, text, whole};
 use std::alloc::{AllocError, Global};
 
 /// The greatest number of values to choose from.
 const MOST_CHOICES: usize = 4_096;
-
-/// The fault of a field.
-fn bad(alloc: Global, field: &str) -> ReadError
-    ensures { (result ≡ ReadError.OutOfMemory) ⊎ (result ≡ ReadError.BadField field.now) }
-{
-    match Text::new(alloc, field) {
-        Ok(field) => ReadError::BadField(field),
-        Err(_) => ReadError::OutOfMemory,
-    }
-}
 
 /// The text or the whole number that a value is.
 fn bound_in(alloc: Global, value: &Value<'_>) -> Result<Option<Scalar>, AllocError>
@@ -183,7 +176,7 @@ fn test_of(alloc: Global, value: &Value<'_>, field: Field) -> Result<Option<Test
     ensures ok { IfOk result (λ t. test_of field (view value.now) ≡ Ok t) }
     ensures err { IfErr result (λ e. (e ≡ ReadError.OutOfMemory) ⊎ (test_of field (view value.now) ≡ Err e)) }
 {
-    let Some(found) = get(value, field.name()) else {
+    let Some(found) = get(value, field_name(field)) else {
         return Ok(None);
     };
     let test = test_from(alloc, found)?;
@@ -298,7 +291,7 @@ fn asked_from(alloc: Global, value: &Value<'_>) -> Result<Asked, ReadError>
 }
 
 /// The query that a content is. `query` is looked at before `keys`; each may be absent.
-#[tactic(auto, unfolding(crate::specs::Readings::read_query))]
+#[tactic(auto, unfolding(cluster_defs::specs::FilterReadings::read_query))]
 pub fn read_query(alloc: Global, content: &[u8], scratch: &mut Scratch) -> Result<Asked, ReadError>
     ensures ok { IfOk result (λ a. read_query content.now ≡ Ok a) }
     ensures err { IfErr result (λ e. (e ≡ ReadError.OutOfMemory) ⊎ (read_query content.now ≡ Err e)) }

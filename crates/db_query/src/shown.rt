@@ -3,10 +3,10 @@
 ghost use Rattle.std.specs.Prelude.{◌≡◌, Option};
 ghost use Rattle.cluster_types.specs.declared.verdict.Cause.{Cause};
 ghost use Rattle.cluster_types.specs.declared.verdict.Verdict.{Verdict};
-ghost use Rattle.db_query.specs.Filter.{kind_name, state_name, engine_value, cause_value, value_of};
+ghost use Rattle.cluster_defs.specs.Filter.{kind_name, state_name, engine_value, cause_value, value_of};
 ghost use Rattle.db_query.specs.Shown.{shown_as};
 
-use crate::query::Field;
+use cluster_defs::filter::Field;
 use cluster_types::record::Record;
 use cluster_types::verdict::{Cause, Verdict};
 

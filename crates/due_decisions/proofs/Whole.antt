@@ -7,7 +7,7 @@ use Rattle.cluster_types.specs.declared.verdict.Verdict.TheVariants.{Failed}
 use Rattle.cluster_types.specs.declared.verdict.Cause.{Cause}
 use Rattle.cluster_types.specs.declared.entry.Entry.TheVariants.{Settle}
 use Rattle.cluster_defs.specs.declared.attempt.Attempt.{Attempt}
-use Rattle.cluster_defs.specs.declared.attempt.Attempt.TheVariants.{Never, Running, EndedOk, EndedBadly, Lost, Declined}
+use Rattle.cluster_defs.specs.declared.attempt.Attempt.TheVariants.{Never, Running, EndedOk, EndedBadly, Lost, Declined, Withdrawn}
 use Rattle.cluster_defs.specs.Words.{Id, is_empty}
 use Rattle.cluster_defs.specs.Engines.{lists_number}
 use Rattle.cluster_defs.specs.declared.settled.Settled.{Settled}
@@ -94,6 +94,7 @@ load_cases n (EndedOk m) true other idle = refl
 load_cases n (EndedBadly m) true other idle = refl
 load_cases n (Lost m) true other idle = refl
 load_cases n (Declined m) true other idle = refl
+load_cases n (Withdrawn m) true other idle = refl
 
 load_same : (f : Facts) → Told f → (n : ℕ) → load_in (tasks_of f) n ≡ load f n
 load_same f is n =

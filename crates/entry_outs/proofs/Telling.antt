@@ -10,9 +10,9 @@ use Rattle.cluster_types.specs.declared.message.Message.{Message}
 use Rattle.cluster_types.specs.declared.record.Record.{Record}
 use Rattle.cluster_types.specs.declared.verdict.Verdict.{Verdict}
 use Rattle.cluster_types.specs.declared.verdict.Cause.{Cause}
-use Rattle.cluster_types.specs.declared.verdict.Cause.TheVariants.{Reply, EngineError, ImpossibleDependency, InvalidDependency, TaskTimeout}
+use Rattle.cluster_types.specs.declared.verdict.Cause.TheVariants.{Reply, EngineError, ImpossibleDependency, InvalidDependency, TaskTimeout, Abort}
 use Rattle.cluster_types.specs.declared.event.Query.{Query}
-use Rattle.cluster_types.specs.declared.event.Query.TheVariants.{Connection, Queue, Result as ResultQuery, History as HistoryQuery, Shutdown, Unknown, Bad}
+use Rattle.cluster_types.specs.declared.event.Query.TheVariants.{Connection, Queue, Result as ResultQuery, History as HistoryQuery, Shutdown, Db, Unknown, Bad}
 use Rattle.cluster_types.specs.declared.entry.Entry.{Entry}
 use Rattle.cluster_types.specs.declared.entry.Entry.TheVariants.{Settle}
 use Rattle.cluster_defs.specs.declared.acceptance.Acceptance.{Acceptance}
@@ -25,6 +25,7 @@ use Rattle.cluster_defs.specs.Requests.{Request}
 use Rattle.cluster_defs.specs.Facts.{Facts, nothing_yet, is_settled}
 use Rattle.cluster_types.specs.Limits.{most_ids}
 use Rattle.cluster_defs.specs.Acceptance.{Demand, acceptance, reserved_front}
+use Rattle.cluster_defs.specs.Aborts.{aborting}
 use Rattle.cluster_defs.specs.Purges.{purge_list, purging, Resubmitting, NeverKnown, Gone, Running, NoRoom, Makes, resubmitting}
 use Rattle.cluster_defs.specs.Steps.{step}
 use Rattle.cluster_defs.specs.Histories.{History, facts, Legal}
@@ -34,7 +35,7 @@ use Rattle.cluster_defs.specs.Queries.{answer, demand_answer}
 use Rattle.cluster_defs.specs.Outs.{pass_to, owner_conn, answer_out, repeat_out}
 use Rattle.cluster_defs.specs.TaskRecords.{record_of, records_of}
 use Rattle.cluster_defs.specs.RecordAnswers.{answer_in}
-use Rattle.cluster_defs.specs.RecordPlans.{purge_list_in, purge_in, resubmit_in}
+use Rattle.cluster_defs.specs.RecordPlans.{purge_list_in, purge_in, resubmit_in, abort_in}
 use Rattle.cluster_defs.proofs.Options.{some_inj, id_self}
 use Rattle.cluster_defs.proofs.Says.{due_says}
 use Rattle.cluster_laws.proofs.Apart.{live_ascend}
@@ -131,6 +132,7 @@ asked_ascends p (Queue targets verbose) r = ascends p.engines.live (live_ascends
 asked_ascends p (ResultQuery ids status_only) r = tt
 asked_ascends p HistoryQuery r = tt
 asked_ascends p Shutdown r = tt
+asked_ascends p (Db content) r = tt
 asked_ascends p Unknown r = tt
 asked_ascends p (Bad field) r = tt
 
@@ -141,6 +143,7 @@ asked_all rs live channel (Queue targets verbose) t = refl
 asked_all rs live channel (ResultQuery ids status_only) t = refl
 asked_all rs live channel HistoryQuery t = refl
 asked_all rs live channel Shutdown t = refl
+asked_all rs live channel (Db content) t = refl
 asked_all rs live channel Unknown t = refl
 asked_all rs live channel (Bad field) t = refl
 
@@ -161,6 +164,11 @@ pub resubmit_told : (p : Plain) (ids : List Id) → Reached p → resubmit_in (m
 resubmit_told p ids r =
     ap (λ rs. resubmit_in rs most_ids (once ids)) (rows_are p r)
     ∙ subst (λ f. resubmit_in (records_of f) most_ids (once ids) ≡ resubmitting f (once ids)) (sym (facts_are p r)) (records_plan r.history true ids r.legal).1
+
+pub abort_told : (p : Plain) (ids : List Id) → Reached p → abort_in (map (λ (s : Seen). s.row) p.tasks) (once ids) ≡ aborting (facts_in p) (once ids)
+abort_told p ids r =
+    ap (λ rs. abort_in rs (once ids)) (rows_are p r)
+    ∙ subst (λ f. abort_in (records_of f) (once ids) ≡ aborting f (once ids)) (sym (facts_are p r)) (records_plan r.history true ids r.legal).2
 
 -- OUTCOMES
 
@@ -198,6 +206,7 @@ settle_look f id v c off = by_cause c (none_of (f.settled id) off)
     by_cause ImpossibleDependency none = rw (none, id_self id) refl
     by_cause InvalidDependency none = rw (none, id_self id) refl
     by_cause TaskTimeout none = rw (none, id_self id) refl
+    by_cause Abort none = rw (none, id_self id) refl
 
 settle_then : (h : History) (id : Id) (v : Verdict) (c : Cause) (t : Seen) → Legal h → seen_in (tasks_of (facts h)) id ≡ Some t → is_settled (facts_in (plain_of (facts h))) id ≡ false →
     outcome_for (settled_as v c (facts h).moment t.attempts) c t ≡ outcome (step (facts_in (plain_of (facts h))) (Settle id v c) None) id

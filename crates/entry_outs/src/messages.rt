@@ -4,12 +4,13 @@ ghost use Rattle.std.specs.Prelude.{◌≡◌, ◌≢◌, [], IfOk, Some, Err, c
 ghost use Rattle.cluster_defs.specs.Header.{message_type};
 ghost use Rattle.cluster_defs.specs.Texts.{ok_content, join_content};
 ghost use Rattle.cluster_defs.specs.Purges.{Resubmitting};
-ghost use Rattle.cluster_defs.specs.Queries.{plain as plain_answer, refusal, limited, join_answer, leave_answer, purge_answer, resubmit_answer};
+ghost use Rattle.cluster_defs.specs.Queries.{plain as plain_answer, refusal, limited, join_answer, leave_answer, purge_answer, resubmit_answer, abort_answer};
 ghost use Rattle.cluster_defs.specs.Outs.{answer_out};
 ghost use Rattle.cluster_state.specs.Plain.{facts_in};
 ghost use Rattle.cluster_state.specs.Stands.{plain};
 ghost use Rattle.cluster_state.specs.declared.ruling.Ruling.{Ruling as RulingType};
 ghost use Rattle.cluster_state.specs.Ruled.{IsResubmit, IsTold};
+ghost use Rattle.resubmission.specs.Aborting.{aborting_of};
 ghost use Rattle.resubmission.specs.Purging.{purging_of};
 ghost use Rattle.entry_outs.specs.Reached.{Reached};
 ghost use Rattle.entry_outs.specs.Sends.{event_sends, slip_out};
@@ -28,9 +29,11 @@ use cluster_types::octets::Octets;
 use cluster_types::out::Outs;
 use cluster_types::shared_message::SharedMessage;
 use cluster_types::text::Text;
+use hub_queries::aborts::abort_answer;
 use hub_queries::answer::ok_answer;
 use hub_queries::limits::{plain, refusal};
 use hub_queries::resubmissions::{purge_answer, refused_answer, renamed_answer};
+use resubmission::abort::AbortPlan;
 use resubmission::plan::{Renamed, ResubmitRefusal};
 use resubmission::purge::PurgePlan;
 use std::alloc::{AllocError, Global};
@@ -167,8 +170,20 @@ fn resubmit_outs(
     answered_as(alloc, asked.slip, "resubmit_reply", message, answer)
 }
 
+fn abort_outs(
+    alloc: Global,
+    asked: Asked,
+    plan: &AbortPlan,
+    message: &SharedMessage,
+) -> Result<Outs, AllocError>
+    ensures { IfOk result (λ outs. outs ≡ slip_out asked.slip (codes "abort_reply") message.now.header (Some (limited asked.channel (abort_answer (aborting_of plan.now))))) }
+{
+    let answer = abort_answer(alloc, asked.channel, plan)?;
+    answered_as(alloc, asked.slip, "abort_reply", message, answer)
+}
+
 /// What a message of a type with a meaning sends, which comes to this: its answer, or the outcome that it asks for again.
-#[tactic(auto, using(cluster_state::proofs::Rulings::purge_there, cluster_state::proofs::Rulings::resubmit_there, cluster_state::proofs::Rulings::purge_is, crate::proofs::Telling::resubmit_had, crate::proofs::Telling::resubmit_kept))]
+#[tactic(auto, using(cluster_state::proofs::Rulings::purge_there, cluster_state::proofs::Rulings::resubmit_there, cluster_state::proofs::Rulings::abort_there, cluster_state::proofs::Rulings::purge_is, cluster_state::proofs::Rulings::abort_is, crate::proofs::Telling::resubmit_had, crate::proofs::Telling::resubmit_kept))]
 pub fn event_outs(
     asked: Asked,
     state: &State,
@@ -197,6 +212,7 @@ pub fn event_outs(
         Event::Leave => leave_outs(alloc, slip, ruling.leave(), message),
         Event::Purge { all: _, ids: _ } => { purge_outs(alloc, asked, ruling.purge(), message) }
         Event::Resubmit { ids: _ } => { resubmit_outs(alloc, asked, ruling.resubmit(), message) }
+        Event::Abort { ids: _ } => { abort_outs(alloc, asked, ruling.abort(), message) }
         Event::Ask(query) => query_outs(asked, state, query, message, msg_type),
         Event::Pong { beat: _ } => Ok(Outs::new(alloc)),
         Event::Reply {

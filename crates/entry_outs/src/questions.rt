@@ -80,6 +80,7 @@ fn query_type(
         } => Text::new(alloc, "result_reply"),
         Query::History => Text::new(alloc, "history_reply"),
         Query::Shutdown => Text::new(alloc, "shutdown_reply"),
+        Query::Db { content: _ } => Text::new(alloc, "db_reply"),
         Query::Unknown => reply_type(alloc, msg_type),
         Query::Bad { field: _ } => bad_type(alloc, channel, msg_type),
     }

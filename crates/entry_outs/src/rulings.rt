@@ -2,10 +2,11 @@
 
 ghost use Rattle.std.specs.Prelude.{◌≡◌, ◌≤◌, ◌⊎◌, IfOk, Some};
 ghost use Rattle.cluster_types.specs.Limits.{last_moment};
+ghost use Rattle.cluster_defs.specs.Aborts.{aborting};
 ghost use Rattle.cluster_defs.specs.Purges.{purge_list, purging, Resubmitting, resubmitting};
 ghost use Rattle.cluster_defs.specs.Words.{once};
 ghost use Rattle.cluster_state.specs.Plain.{facts_in};
-ghost use Rattle.cluster_state.specs.Ruled.{IsPurge, IsResubmit, IsTold, IsRuled};
+ghost use Rattle.cluster_state.specs.Ruled.{IsPurge, IsResubmit, IsAbort, IsTold, IsRuled};
 ghost use Rattle.cluster_state.specs.Stands.{plain};
 ghost use Rattle.resubmission.specs.Plans.{refusal_of};
 ghost use Rattle.entry_outs.specs.Memory.{is_memory};
@@ -19,6 +20,7 @@ use cluster_types::event::Event;
 use cluster_types::limits::MOST_IDS;
 use cluster_types::message::Ids;
 use cluster_types::shared_message::SharedMessage;
+use resubmission::abort::plan_abort;
 use resubmission::plan::{ResubmitRefusal, plan};
 use resubmission::purge::plan_purge;
 use std::alloc::AllocError;
@@ -65,6 +67,16 @@ fn purge_ruling(state: &State, all: bool, ids: &Ids) -> Result<Ruling, AllocErro
     Ok(Ruling::Purge(plan))
 }
 
+/// What an abort comes to.
+fn abort_ruling(state: &State, ids: &Ids) -> Result<Ruling, AllocError>
+    requires { Reached (plain state.now) }
+    ensures { IfOk result (λ r. IsAbort (aborting (facts_in (plain state.now)) (once ids.now)) r) }
+{
+    let rows = Rows::new(state);
+    let plan = plan_abort(state.allocator(), &rows, ids)?;
+    Ok(Ruling::Abort(plan))
+}
+
 /// What a message on a connection comes to, by what it means.
 fn told_ruling(
     state: &State,
@@ -89,6 +101,7 @@ fn told_ruling(
         Event::Leave => Ok(Ruling::Leave(state.engines.number_on(conn))),
         Event::Purge { all, ids } => purge_ruling(state, *all, ids),
         Event::Resubmit { ids } => resubmit_ruling(state, ids),
+        Event::Abort { ids } => abort_ruling(state, ids),
         Event::Reply {
             task: _,
             header_id: _,

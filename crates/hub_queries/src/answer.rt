@@ -1,6 +1,7 @@
 //! The answer to a question.
 
 ghost use Rattle.std.specs.Prelude.{◌≡◌, [], codes, map, IfOk};
+ghost use Rattle.cluster_defs.specs.FilterContents.{query_content};
 ghost use Rattle.cluster_defs.specs.Texts.{ok_content};
 ghost use Rattle.cluster_defs.specs.Queries.{plain, refusal, bad_name, limited};
 ghost use Rattle.cluster_defs.specs.RecordAnswers.{answer_in};
@@ -9,15 +10,18 @@ ghost use Rattle.hub_queries.specs.Ascending.{Ascends};
 
 use crate::engines::LiveEngines;
 use crate::lengths::QueueCounts;
-use crate::limits::{limited, plain, refusal};
+use crate::limits::{is_hub, limited, plain, refusal, too_long};
 use crate::queues::{connection_answer, history_answer, queues_answer};
 use crate::results::result_answer;
 use cluster_defs::answer::Answer;
 use cluster_types::config::Channel;
 use cluster_types::event::Query;
 use cluster_types::octets::Octets;
+use cluster_types::record::Records;
 use cluster_types::sequence::Sequence;
 use cluster_types::text::Text;
+use db_query::answer::answer_within;
+use db_query::fault::DbError;
 use std::alloc::{AllocError, Global};
 
 /// The name of the refusal of a request that doesn't read.
@@ -63,6 +67,23 @@ fn bad_request(alloc: Global, channel: Channel, field: &Text) -> Result<Answer, 
     )
 }
 
+/// The answer to a question to the database, within the limits of its channel. Where it would pass them, it is given up while
+/// it is written.
+fn db_answer<R: Records>(
+    alloc: Global,
+    channel: Channel,
+    table: &R,
+    content: &Octets,
+) -> Result<Answer, AllocError>
+    ensures { IfOk result (λ a. a ≡ limited channel (plain (query_content (R.records table.now) content.now))) }
+{
+    match answer_within(alloc, table, content, is_hub(channel)) {
+        Ok(found) => Ok(plain(alloc, found.content)),
+        Err(DbError::TooLong) => too_long(alloc),
+        Err(DbError::OutOfMemory) => Err(AllocError),
+    }
+}
+
 /// The answer that was made, within the limits of its channel.
 fn within(
     alloc: Global,
@@ -99,6 +120,7 @@ pub fn answer<R: QueueCounts>(
         }
         Query::History => within(alloc, channel, history_answer(alloc, table)),
         Query::Shutdown => within(alloc, channel, ok_answer(alloc)),
+        Query::Db { content } => db_answer(alloc, channel, table, content),
         Query::Unknown => within(alloc, channel, unknown_request(alloc, msg_type)),
         Query::Bad { field } => within(alloc, channel, bad_request(alloc, channel, field)),
     }

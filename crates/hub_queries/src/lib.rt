@@ -1,6 +1,8 @@
-//! Answers to questions about the cluster, off the records of all tasks and the live engines, and to purges and resubmissions.
+//! Answers to questions about the cluster, off the records of all tasks and the live engines, and to purges, resubmissions and
+//! aborts.
 #![tactic(auto)]
 
+pub mod aborts;
 pub mod answer;
 pub mod engines;
 pub mod lengths;

@@ -4,7 +4,7 @@ ghost use Rattle.std.specs.Prelude.{◌≡◌, ◌⊎◌, Ok, Err, Some, None, I
 ghost use Rattle.serde_json.specs.Find.{get, as_str, as_array};
 ghost use Rattle.jupyter_header.specs.Borrowed.{view, items_view};
 ghost use Rattle.cluster_defs.specs.Fields.{whole_in};
-ghost use Rattle.cluster_defs.specs.Hub.{request_of, queue_from, result_from, is_all, is_no_items, lists_none, none_listed, ids_or_all, purge_from, resubmit_from, join_from, number_from, pong_from, unread, content_from, read_content, read_hub};
+ghost use Rattle.cluster_defs.specs.Hub.{request_of, queue_from, result_from, is_all, is_no_items, lists_none, none_listed, ids_or_all, purge_from, resubmit_from, abort_from, join_from, number_from, pong_from, unread, content_from, read_content, read_hub};
 
 use crate::fields::{bad, flag_field, id_field, missing};
 use crate::kinds::request_of;
@@ -116,6 +116,15 @@ fn resubmit_content(alloc: Global, value: &Value<'_>) -> Result<HubContent, Read
     Ok(HubContent::Resubmit { ids })
 }
 
+/// What an abort lists.
+fn abort_content(alloc: Global, value: &Value<'_>) -> Result<HubContent, ReadError>
+    ensures ok { IfOk result (λ c. abort_from (view value.now) ≡ Ok c) }
+    ensures err { IfErr result (λ e. (e ≡ ReadError.OutOfMemory) ⊎ (abort_from (view value.now) ≡ Err e)) }
+{
+    let ids = ids_field(alloc, value, "msg_ids")?;
+    Ok(HubContent::Abort { ids })
+}
+
 /// The engine that a registration names.
 fn join_content(alloc: Global, value: &Value<'_>) -> Result<HubContent, ReadError>
     ensures ok { IfOk result (λ c. join_from (view value.now) ≡ Ok c) }
@@ -177,6 +186,7 @@ fn read_fields(
         RequestType::Results => result_content(alloc, value),
         RequestType::Purge => purge_content(alloc, value),
         RequestType::Resubmit => resubmit_content(alloc, value),
+        RequestType::Abort => abort_content(alloc, value),
         RequestType::Registration => join_content(alloc, value),
         RequestType::Beat => pong_content(alloc, value),
     }

@@ -1,7 +1,7 @@
 //! What a `msg_type` tells.
 
 ghost use Rattle.std.specs.Prelude.{◌≡◌, IfOk};
-ghost use Rattle.cluster_defs.specs.Event.{is_request, is_reply, is_leave};
+ghost use Rattle.cluster_defs.specs.Event.{is_request, is_reply, is_leave, is_db};
 ghost use Rattle.cluster_defs.specs.Hub.{request_of};
 ghost use Rattle.cluster_defs.specs.Texts.{stem_of, reply_type};
 
@@ -33,6 +33,14 @@ pub fn is_leave(msg_type: &Text) -> bool
     msg_type.as_str() == "unregistration_request"
 }
 
+/// Whether it is `db_request`.
+#[tactic(auto, unfolding(cluster_defs::specs::Event::is_db))]
+pub fn is_db(msg_type: &Text) -> bool
+    ensures { result ≡ is_db msg_type.now }
+{
+    msg_type.as_str() == "db_request"
+}
+
 /// The request whose content is read that it names.
 #[tactic(auto, unfolding(cluster_defs::specs::Hub::request_of))]
 pub fn request_of(msg_type: &str) -> Option<RequestType>
@@ -52,6 +60,8 @@ pub fn request_of(msg_type: &str) -> Option<RequestType>
         Some(RequestType::Purge)
     } else if msg_type == "resubmit_request" {
         Some(RequestType::Resubmit)
+    } else if msg_type == "abort_request" {
+        Some(RequestType::Abort)
     } else if msg_type == "registration_request" {
         Some(RequestType::Registration)
     } else if msg_type == "beat_reply" {

@@ -5,14 +5,14 @@
 
 pub mod contents;
 pub mod distinct;
-mod fields;
+pub mod fields;
 pub mod header;
 pub mod hub;
 pub mod kinds;
 mod lists;
-mod object;
+pub mod object;
 mod points;
 pub mod reply;
 pub mod submit;
-mod values;
+pub mod values;
 pub mod write;

@@ -6,7 +6,7 @@ use Rattle.cluster_types.specs.Limits.{last_moment}
 use Rattle.cluster_types.specs.declared.event.Dep.{Dep}
 use Rattle.cluster_types.specs.declared.message.Message.{Message}
 use Rattle.command_words.specs.declared.standing.Action.{Action}
-use Rattle.command_words.specs.declared.standing.Action.TheVariants.{Run, Result, Purge, Resubmit, Queue, History, Shutdown}
+use Rattle.command_words.specs.declared.standing.Action.TheVariants.{Run, Result, Purge, Resubmit, Abort, Queue, History, Shutdown}
 use Rattle.cluster_defs.specs.declared.content.SubmitMeta.{SubmitMeta}
 use Rattle.cluster_defs.specs.Texts.{texts_list, empty_object}
 use Rattle.edges.specs.Spelling.{be64}
@@ -36,6 +36,9 @@ purge_request = codes "purge_request"
 unfoldable pub resubmit_request : List ℕ
 resubmit_request = codes "resubmit_request"
 
+unfoldable pub abort_request : List ℕ
+abort_request = codes "abort_request"
+
 unfoldable pub queue_request : List ℕ
 queue_request = codes "queue_request"
 
@@ -50,6 +53,7 @@ request_for (Run code) = task_request plain_meta code
 request_for (Result id) = hub_request result_request (about id)
 request_for (Purge id) = hub_request purge_request (about id)
 request_for (Resubmit id) = hub_request resubmit_request (about id)
+request_for (Abort id) = hub_request abort_request (about id)
 request_for Queue = hub_request queue_request empty_object
 request_for History = hub_request history_request empty_object
 request_for Shutdown = hub_request shutdown_request empty_object

@@ -124,7 +124,7 @@ pub fn channel_for(action: &Action) -> u8
 }
 
 /// The message for an action, under the id of random octets.
-#[tactic(auto, unfolding(crate::specs::Actions::result_request, crate::specs::Actions::purge_request, crate::specs::Actions::resubmit_request, crate::specs::Actions::queue_request, crate::specs::Actions::history_request, crate::specs::Actions::shutdown_request, cluster_defs::specs::Texts::empty_object))]
+#[tactic(auto, unfolding(crate::specs::Actions::result_request, crate::specs::Actions::purge_request, crate::specs::Actions::resubmit_request, crate::specs::Actions::abort_request, crate::specs::Actions::queue_request, crate::specs::Actions::history_request, crate::specs::Actions::shutdown_request, cluster_defs::specs::Texts::empty_object))]
 pub fn message_for(
     alloc: Global,
     action: &Action,
@@ -140,6 +140,7 @@ pub fn message_for(
         Action::Result { id } => request_about(alloc, "result_request", id, random, moment),
         Action::Purge { id } => request_about(alloc, "purge_request", id, random, moment),
         Action::Resubmit { id } => request_about(alloc, "resubmit_request", id, random, moment),
+        Action::Abort { id } => request_about(alloc, "abort_request", id, random, moment),
         Action::Queue => hub_request(alloc, "queue_request", "{}", random, moment),
         Action::History => hub_request(alloc, "history_request", "{}", random, moment),
         Action::Shutdown => hub_request(alloc, "shutdown_request", "{}", random, moment),

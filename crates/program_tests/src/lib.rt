@@ -5,18 +5,10 @@
 #[cfg(test)]
 mod choosing;
 #[cfg(test)]
-mod database_standing;
-#[cfg(test)]
-mod databases;
-#[cfg(test)]
 mod generation;
-#[cfg(test)]
-mod histories;
 #[cfg(test)]
 mod program;
 #[cfg(test)]
 mod tapes;
-#[cfg(test)]
-mod words;
 #[cfg(test)]
 mod works;

@@ -35,7 +35,7 @@ fn running<R: Abort>(rt: &R, alloc: Global, name: &str, number: u64, engine: u32
 }
 
 /// A task that ended on an engine.
-fn settled<R: Abort>(
+pub(crate) fn settled<R: Abort>(
     rt: &R,
     alloc: Global,
     name: &str,

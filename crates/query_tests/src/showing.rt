@@ -1,6 +1,7 @@
 //! What an answer shows of a record.
 
-use crate::common::{add, five_tasks, is_told, three_tasks, waiting};
+use crate::common::{add, five_tasks, is_told, settled, three_tasks, waiting};
+use cluster_types::verdict::{Cause, Verdict};
 use resubmission::list::RecordList;
 
 #[test]
@@ -26,6 +27,18 @@ fn all_fields(rt: HostRuntime) {
             "at {query}"
         );
     }
+}
+
+#[test]
+fn an_aborted_task(rt: HostRuntime) {
+    let alloc = rt.alloc();
+    let mut table = RecordList::new(alloc);
+    let aborted = (Verdict::Aborted, Cause::Abort);
+    add(&rt, &mut table, settled(&rt, alloc, "a", 1, 0, aborted));
+    let query = "{\"query\":{\"state\":\"aborted\"}}";
+    let text =
+        "{\"status\":\"ok\",\"records\":[{\"msg_id\":\"a\",\"number\":1,\"kind\":\"task\",\"engine\":0,\"state\":\"aborted\",\"cause\":\"Abort\"}]}";
+    assert!(rt; is_told(&rt, alloc, &table, query.as_bytes(), text));
 }
 
 #[test]

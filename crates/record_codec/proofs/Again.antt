@@ -47,6 +47,7 @@ verdict_again : (verdict : Verdict) (rest : List ℕ) → verdict_at (verdict_co
 unfolding verdict_at
 verdict_again verdicts.Completed rest = refl
 verdict_again verdicts.Failed rest = refl
+verdict_again verdicts.Aborted rest = refl
 
 cause_again : (cause : Cause) (rest : List ℕ) → cause_at (cause_code cause ∷ rest) ≡ Ok (cause, rest)
 unfolding cause_at
@@ -55,6 +56,7 @@ cause_again causes.EngineError rest = refl
 cause_again causes.ImpossibleDependency rest = refl
 cause_again causes.InvalidDependency rest = refl
 cause_again causes.TaskTimeout rest = refl
+cause_again causes.Abort rest = refl
 
 blobs_again : (buffers : List (List ℕ)) (rest : List ℕ) → All (λ buffer. length buffer < 2 ^ 32) buffers → blobs_at (length buffers) (blobs buffers ++ rest) ≡ Ok (buffers, rest)
 unfolding blobs_at

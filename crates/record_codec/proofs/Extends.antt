@@ -31,12 +31,12 @@ scheme_codes = in_turn octet_at _ octets (λ x. eithers (x == 0) _ _ (gives sche
 
 verdict_codes : Extends verdict_at
 unfolding verdict_at
-verdict_codes = in_turn octet_at _ octets (λ x. eithers (x == 1) _ _ (gives verdicts.Completed) (eithers (x == 2) _ _ (gives verdicts.Failed) refuses))
+verdict_codes = in_turn octet_at _ octets (λ x. eithers (x == 1) _ _ (gives verdicts.Completed) (eithers (x == 2) _ _ (gives verdicts.Failed) (eithers (x == 3) _ _ (gives verdicts.Aborted) refuses)))
 
 cause_codes : Extends cause_at
 unfolding cause_at
 cause_codes = in_turn octet_at _ octets (λ x. eithers (x == 0) _ _ (gives causes.Reply) (eithers (x == 1) _ _ (gives causes.EngineError) (eithers (x == 2) _ _ (gives causes.ImpossibleDependency)
-    (eithers (x == 3) _ _ (gives causes.InvalidDependency) (eithers (x == 4) _ _ (gives causes.TaskTimeout) refuses)))))
+    (eithers (x == 3) _ _ (gives causes.InvalidDependency) (eithers (x == 4) _ _ (gives causes.TaskTimeout) (eithers (x == 5) _ _ (gives causes.Abort) refuses))))))
 
 many_blobs : (n : ℕ) → Extends (blobs_at n)
 unfolding blobs_at

@@ -122,13 +122,13 @@ channel = record {
 verdict : Reads verdict_at (Coded verdict_code)
 unfolding verdict_at
 verdict = record {
-  takes = coded verdict_code _ (λ x. by_code verdict_code x 1 verdicts.Completed _ refl (by_code verdict_code x 2 verdicts.Failed refuse refl (takes_refuse (λ b t. (verdict_code b ≡ x) × (t ≡ [])))));
+  takes = coded verdict_code _ (λ x. by_code verdict_code x 1 verdicts.Completed _ refl (by_code verdict_code x 2 verdicts.Failed _ refl (by_code verdict_code x 3 verdicts.Aborted refuse refl (takes_refuse (λ b t. (verdict_code b ≡ x) × (t ≡ []))))));
 }
 
 cause : Reads cause_at (Coded cause_code)
 unfolding cause_at
 cause = record {
-  takes = coded cause_code _ (λ x. by_code cause_code x 0 causes.Reply _ refl (by_code cause_code x 1 causes.EngineError _ refl (by_code cause_code x 2 causes.ImpossibleDependency _ refl (by_code cause_code x 3 causes.InvalidDependency _ refl (by_code cause_code x 4 causes.TaskTimeout refuse refl (takes_refuse (λ b t. (cause_code b ≡ x) × (t ≡ []))))))));
+  takes = coded cause_code _ (λ x. by_code cause_code x 0 causes.Reply _ refl (by_code cause_code x 1 causes.EngineError _ refl (by_code cause_code x 2 causes.ImpossibleDependency _ refl (by_code cause_code x 3 causes.InvalidDependency _ refl (by_code cause_code x 4 causes.TaskTimeout _ refl (by_code cause_code x 5 causes.Abort refuse refl (takes_refuse (λ b t. (cause_code b ≡ x) × (t ≡ [])))))))));
 }
 
 -- ---- messages

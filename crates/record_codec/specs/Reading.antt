@@ -48,6 +48,7 @@ verdict_at octets = do
   code ← octet_at octets
   if code.0 == 1 then Ok (verdicts.Completed, code.1)
       else if code.0 == 2 then Ok (verdicts.Failed, code.1)
+      else if code.0 == 3 then Ok (verdicts.Aborted, code.1)
       else Err Bad
 
 unfoldable pub cause_at : List ℕ → Read Cause
@@ -58,6 +59,7 @@ cause_at octets = do
       else if code.0 == 2 then Ok (causes.ImpossibleDependency, code.1)
       else if code.0 == 3 then Ok (causes.InvalidDependency, code.1)
       else if code.0 == 4 then Ok (causes.TaskTimeout, code.1)
+      else if code.0 == 5 then Ok (causes.Abort, code.1)
       else Err Bad
 
 -- so many blobs

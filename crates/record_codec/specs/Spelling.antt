@@ -24,6 +24,7 @@ scheme_code schemes.TwoBin = 3
 abbrev pub verdict_code : Verdict → ℕ
 verdict_code verdicts.Completed = 1
 verdict_code verdicts.Failed = 2
+verdict_code verdicts.Aborted = 3
 
 abbrev pub cause_code : Cause → ℕ
 cause_code causes.Reply = 0
@@ -31,6 +32,7 @@ cause_code causes.EngineError = 1
 cause_code causes.ImpossibleDependency = 2
 cause_code causes.InvalidDependency = 3
 cause_code causes.TaskTimeout = 4
+cause_code causes.Abort = 5
 
 -- buffers, each behind its length
 abbrev pub blobs : List (List ℕ) → List ℕ

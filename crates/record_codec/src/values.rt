@@ -71,6 +71,7 @@ pub fn verdict(octets: &[u8]) -> Result<(Verdict, &[u8]), Stop>
     match code {
         1 => Ok((Verdict::Completed, rest)),
         2 => Ok((Verdict::Failed, rest)),
+        3 => Ok((Verdict::Aborted, rest)),
         _ => Err(Stop::Bad),
     }
 }
@@ -87,6 +88,7 @@ pub fn cause(octets: &[u8]) -> Result<(Cause, &[u8]), Stop>
         2 => Ok((Cause::ImpossibleDependency, rest)),
         3 => Ok((Cause::InvalidDependency, rest)),
         4 => Ok((Cause::TaskTimeout, rest)),
+        5 => Ok((Cause::Abort, rest)),
         _ => Err(Stop::Bad),
     }
 }

@@ -34,6 +34,7 @@ fn code_of_verdict(verdict: Verdict) -> u8
     match verdict {
         Verdict::Completed => 1,
         Verdict::Failed => 2,
+        Verdict::Aborted => 3,
     }
 }
 
@@ -47,6 +48,7 @@ fn code_of_cause(cause: Cause) -> u8
         Cause::ImpossibleDependency => 2,
         Cause::InvalidDependency => 3,
         Cause::TaskTimeout => 4,
+        Cause::Abort => 5,
     }
 }
 

@@ -1,3 +1,4 @@
+pub mod Aborting
 pub mod Plans
 pub mod Purging
 pub mod Listed

@@ -1,6 +1,7 @@
 //! What a purge and a resubmission of listed tasks come to, all or none.
 #![tactic(auto)]
 
+pub mod abort;
 pub mod building;
 pub mod distinct;
 pub mod list;

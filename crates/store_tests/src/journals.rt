@@ -14,7 +14,7 @@ use task_journal::reading::read_journal;
 
 /// A journal of one Open under the default options.
 const ONE_OPEN: [u8; 60] = [
-    0x49, 0x50, 0x43, 0x4a, 0x52, 0x4e, 0x4c, 0x31, 0x00, 0x00, 0x00, 0x01, 0x00, 0x00, 0x00, 0x00,
+    0x49, 0x50, 0x43, 0x4a, 0x52, 0x4e, 0x4c, 0x31, 0x00, 0x00, 0x00, 0x01, 0x02, 0x00, 0x00, 0x00,
     0x00, 0x00, 0x00, 0x00, 0x00, 0x00, 0x00, 0x00, 0x00, 0x00, 0x00, 0x00, 0x00, 0x00, 0x00, 0xa7,
     0x00, 0x00, 0x00, 0x00, 0x12, 0x00, 0x00, 0x00, 0x01, 0x01, 0x00, 0x00, 0x00, 0x00, 0x00, 0x00,
     0x00, 0x00, 0x01, 0x00, 0x00, 0x00, 0x01, 0x00, 0x00, 0x00, 0x0a, 0x00,
@@ -22,7 +22,7 @@ const ONE_OPEN: [u8; 60] = [
 
 /// A journal of three batches: an Open; an Up of an engine and the loss of engine 4; a task that is handed out.
 const THREE: [u8; 117] = [
-    0x49, 0x50, 0x43, 0x4a, 0x52, 0x4e, 0x4c, 0x31, 0x00, 0x00, 0x00, 0x01, 0x00, 0x00, 0x00, 0x00,
+    0x49, 0x50, 0x43, 0x4a, 0x52, 0x4e, 0x4c, 0x31, 0x00, 0x00, 0x00, 0x01, 0x02, 0x00, 0x00, 0x00,
     0x00, 0x00, 0x00, 0x00, 0x00, 0x00, 0x00, 0x00, 0x00, 0x00, 0x00, 0x00, 0x00, 0x00, 0x00, 0xa7,
     0x00, 0x00, 0x00, 0x00, 0x12, 0x00, 0x00, 0x00, 0x01, 0x01, 0x00, 0x00, 0x00, 0x00, 0x00, 0x00,
     0x00, 0x00, 0x01, 0x00, 0x00, 0x00, 0x01, 0x00, 0x00, 0x00, 0x0a, 0xa7, 0x00, 0x00, 0x00, 0x00,
@@ -182,11 +182,17 @@ fn each_call_fails(rt: HostRuntime) {
 }
 
 /// Places of ONE_OPEN, octets that stand there instead, and what comes of it: a gate that never opened, a scheme that isn't
-/// listed, another version, one record more in the number, and one octet more in the length.
+/// listed, another format and another number, two version octets of the first version, octets of the head that aren't
+/// zero, one record more in the number, and one octet more in the length.
 const DAMAGED: &[(usize, u8, Result<usize, OpenFault>)] = &[
     (59, 0x37, Ok(1)),
     (41, 0x0f, Err(OpenFault::Damaged(41))),
     (7, 0x32, Err(OpenFault::NotAJournal(7))),
+    (11, 2, Err(OpenFault::NotAJournal(11))),
+    (12, 0, Ok(1)),
+    (12, 0xff, Ok(1)),
+    (13, 1, Err(OpenFault::NotAJournal(13))),
+    (30, 1, Err(OpenFault::NotAJournal(30))),
     (40, 2, Err(OpenFault::Damaged(59))),
     (36, 0x13, Err(OpenFault::Damaged(59))),
 ];
@@ -219,6 +225,76 @@ fn damage_is_told(rt: HostRuntime) {
         read(&rt, alloc, &[0xa7; 33]),
         Err(OpenFault::NotAJournal(0))
     );
+}
+
+/// Settles of a task that a client took back, by its verdict, by its cause, and by both.
+const ABORTS: &[[u8; 5]] = &[[8, 1, 0x61, 3, 0], [8, 1, 0x61, 2, 5], [8, 1, 0x61, 3, 5]];
+
+/// A journal of one record of five octets, with that version octet.
+fn one_record<R: Abort>(rt: &R, alloc: Global, octet: u8, record: &[u8]) -> Vec<u8> {
+    let mut octets = Vec::from_slice(alloc, &ONE_OPEN[..31]).expect(rt, "memory is ample");
+    octets[12] = octet;
+    octets
+        .extend_from_slice(&LOSS[..10])
+        .expect(rt, "memory is ample");
+    octets
+        .extend_from_slice(record)
+        .expect(rt, "memory is ample");
+    octets.push(0).expect(rt, "memory is ample");
+    octets
+}
+
+#[test]
+fn the_first_version_has_no_aborts(rt: HostRuntime) {
+    let alloc = rt.alloc();
+    for record in ABORTS {
+        for (octet, answer) in [
+            (0, Err(OpenFault::Damaged(41))),
+            (1, Err(OpenFault::Damaged(41))),
+            (2, Ok(1)),
+        ] {
+            let octets = one_record(&rt, alloc, octet, record);
+            assert_eq!(rt; read(&rt, alloc, octets.as_slice()), answer, "{octet}");
+        }
+    }
+}
+
+/// The octets of a disk whose call of that number fails, after a journal was opened on it, and whether it was.
+fn left_by_opening<R: Abort>(rt: &R, alloc: Global, octets: &[u8], call: u64) -> (bool, MemDisk) {
+    let disk = MemDisk::new(alloc, octets).expect(rt, "memory is ample");
+    match Journal::open(alloc, FuseDisk::new(disk, call)) {
+        Ok((journal, _, _)) => (true, journal.close().into_disk()),
+        Err(refused) => (false, refused.disk.into_disk()),
+    }
+}
+
+/// Opens ONE_OPEN with that version octet on a disk whose call of that number fails. It says whether it was opened, how many
+/// entries the disk stands for then, and whether its version octet is that of the second version.
+fn migrated<R: Abort>(
+    rt: &R,
+    alloc: Global,
+    octet: u8,
+    call: u64,
+) -> (bool, Result<usize, OpenFault>, bool) {
+    let octets = damaged(rt, alloc, 12, octet);
+    let (is_open, disk) = left_by_opening(rt, alloc, octets.as_slice(), call);
+    let second = disk.content() == ONE_OPEN.as_slice();
+    (is_open, read(rt, alloc, disk.content()), second)
+}
+
+#[test]
+fn each_call_of_a_migration_fails(rt: HostRuntime) {
+    // A sync, the size and the head, a gate and its record, and the closed gate; then the version octet, and a sync.
+    for call in 1..10 {
+        assert_eq!(rt;
+            migrated(&rt, rt.alloc(), 0, call),
+            (call == 9, Ok(1), call >= 8),
+            "{call}"
+        );
+    }
+    assert_eq!(rt; migrated(&rt, rt.alloc(), 0xff, 9), (true, Ok(1), true));
+    // A journal of the second version is only read.
+    assert_eq!(rt; migrated(&rt, rt.alloc(), 2, 7), (true, Ok(1), true));
 }
 
 /// The place of the last gate or record of the journal of three batches that begins within so many octets.

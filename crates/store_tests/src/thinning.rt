@@ -5,9 +5,8 @@ ghost use Rattle.cluster_types.specs.declared.entry.Entry.{Entry};
 ghost use Rattle.cluster_state.specs.Plain.{InTime};
 
 use crate::choosing::new_chooser;
-use crate::steps::open;
 use cluster_core::machine::Core;
-use cluster_types::config::Channel;
+use cluster_types::config::{Channel, Scheme};
 use cluster_types::entry::{Entries, Entry, Input};
 use cluster_types::message::Buffers;
 use cluster_types::octets::Octets;
@@ -81,6 +80,18 @@ const PURGE_ALL: Said = Said {
     parent: b"{}",
     content: b"{\"msg_ids\":\"all\"}",
 };
+
+/// An Open under the default options.
+fn open() -> Input
+    ensures { InTime (Entry.Input result) }
+{
+    Input::Open {
+        moment: 0,
+        scheme: Scheme::LeastLoad,
+        hwm: 1,
+        misses: 10,
+    }
+}
 
 /// A connection comes up.
 fn up<R: Abort>(rt: &R, alloc: Global, conn: u32, channel: Channel) -> Input

@@ -6,7 +6,7 @@ use Rattle.std.proofs.lemmas.Bool.{or_left, or_right}
 use Rattle.std.proofs.lemmas.List.Folds.{list_any-append}
 use Rattle.cluster_types.specs.declared.message.Message.{Message}
 use Rattle.cluster_types.specs.declared.event.Event.{Event}
-use Rattle.cluster_types.specs.declared.event.Event.TheVariants.{Submit, Direct, Reply, Join, Leave, Pong, Purge, Resubmit, Ask}
+use Rattle.cluster_types.specs.declared.event.Event.TheVariants.{Submit, Direct, Reply, Join, Leave, Pong, Purge, Resubmit, Abort, Ask}
 use Rattle.cluster_types.specs.declared.out.Out.{Out}
 use Rattle.cluster_types.specs.declared.out.Out.TheVariants.{Pass, Made}
 use Rattle.cluster_types.specs.declared.entry.Input.TheVariants.{Open, Up, Down, In, Beat, Time}
@@ -115,6 +115,7 @@ repeated_known older e conn m Leave = tt
 repeated_known older e conn m (Pong beat) = tt
 repeated_known older e conn m (Purge all ids) = tt
 repeated_known older e conn m (Resubmit ids) = tt
+repeated_known older e conn m (Abort ids) = tt
 repeated_known older e conn m (Ask query) = tt
 
 message_known : (older : History) (e : Entry) (at conn moment : ℕ) (m : Message) (c : Option Connection) (event : Option Event) → Each (AboutKnown older e) (message_outs at (facts older) conn moment m c event)

@@ -14,6 +14,8 @@ use Rattle.record_codec.specs.Reading.{entry_at}
 use Rattle.record_codec.proofs.Again.{entry_again}
 use Rattle.record_codec.proofs.Lengths.{length-be32}
 use Rattle.task_journal.specs.Batch.{batch_octets, IsBatch, entries_in}
+use Rattle.task_journal.specs.declared.version.Version.TheVariants.{Second}
+use Rattle.task_journal.specs.Versions.{entry_in}
 use Rattle.task_journal.specs.Journal.{holding, record_at, records_at}
 
 all_tail : (e : Entry) (es : List Entry) → All HasRecord (e ∷ es) → All HasRecord es
@@ -26,8 +28,8 @@ entries_again (e ∷ es) rest each =
     let read : entry_at (spellings (e ∷ es) ++ rest) ≡ Ok (e, spellings es ++ rest) = ap entry_at parts ∙ entry_again e (spellings es ++ rest) (each 0 e (omega arith)) in
     rw read (ap (λ (z : List Entry). e ∷ z) (entries_again es rest (all_tail e es each)))
 
-pub records_again : (es : List Entry) (end : ℕ) → All HasRecord es → (places : List ℕ) × (records_at (length es) end (spellings es) ≡ Ok (holding es places))
-unfolding records_at record_at
+pub records_again : (es : List Entry) (end : ℕ) → All HasRecord es → (places : List ℕ) × (records_at Second (length es) end (spellings es) ≡ Ok (holding es places))
+unfolding records_at record_at entry_in
 records_again [] end each = ([], refl)
 records_again (e ∷ es) end each =
     let r = records_again es end (all_tail e es each) in

@@ -3,7 +3,7 @@ use Rattle.std.proofs.Common.{◌≡◌, inl, inr, ℕ, ◌+◌, ◌-◌, ◌<�
 use Rattle.std.specs.Prelude.{◌==◌, nat_lt}
 use Rattle.std.specs.Int.{w32, from_be_bytes}
 use Rattle.std.proofs.lemmas.Bool.{le-ltb, eqb-true, cases_lt}
-use Rattle.std.proofs.lemmas.List.{take_at, drop_at, drop_more, drop-drop, take-append-le, append-nil}
+use Rattle.std.proofs.lemmas.List.{take_at, drop_at, drop_more, drop-drop, append-nil}
 use Rattle.std.proofs.lemmas.Nat.{from_be_bytes-to_be_bytes_4}
 use Rattle.cluster_types.specs.declared.entry.Entry.{Entry}
 use Rattle.edges.specs.Spelling.{be32}
@@ -14,19 +14,22 @@ use Rattle.task_journal.specs.declared.fault.OpenFault.{OpenFault}
 use Rattle.task_journal.specs.declared.found.Found.{Found}
 use Rattle.task_journal.specs.declared.gate.GateState.TheVariants.{Open}
 use Rattle.task_journal.specs.Batch.{batch_octets, IsBatch}
-use Rattle.edges.specs.Difference.{difference}
-use Rattle.task_journal.specs.Journal.{holding, records_at, gate_in, found_from, head, headed, journal, StandsFor, last_of, place_in}
+use Rattle.task_journal.specs.declared.version.Version.{Version}
+use Rattle.task_journal.specs.declared.version.Version.TheVariants.{Second}
+use Rattle.task_journal.specs.Versions.{version_in}
+use Rattle.task_journal.specs.Journal.{holding, records_at, gate_in, found_from, head_fault, journal, StandsFor, last_of, place_in}
 use Rattle.task_journal.specs.Settled.{IsSettled, Outcome}
-use Rattle.task_journal.proofs.Loops.{difference_take, last_push}
+use Rattle.task_journal.proofs.Loops.{last_push}
+use Rattle.task_journal.proofs.Versions.{head_front, version_front}
 use Rattle.task_journal.proofs.Gates.{found_skip}
-use Rattle.task_journal.proofs.On.{on_found, journal_short, journal_headed}
+use Rattle.task_journal.proofs.On.{on_found, journal_short, journal_headed, has_head}
 use Rattle.task_journal.proofs.Batches.{records_again, count_fits, behind_nine, length-batch}
 
 -- ---- gates
 
-pub closed_gate : (size x : ℕ) (rest : List ℕ) → (x == 167) ≡ false → found_from size 0 (x ∷ rest) ≡ Ok (holding [] ((size - length rest - 1) ∷ []))
+pub closed_gate : (version : Version) (size x : ℕ) (rest : List ℕ) → (x == 167) ≡ false → found_from version size 0 (x ∷ rest) ≡ Ok (holding [] ((size - length rest - 1) ∷ []))
 unfolding found_from
-closed_gate size x rest closed = rw closed refl
+closed_gate version size x rest closed = rw closed refl
 
 pub number_is : (n : ℕ) (rest : List ℕ) → n < 2 ^ 32 → from_be_bytes w32 (take 4 (be32 n ++ rest)) ≡ n
 unfolding be32
@@ -48,7 +51,7 @@ batch_gate es rest short =
     let second : take 4 (drop 5 (batch_octets es ++ rest)) ≡ take 4 (b ++ c) = ap (λ (z : List ℕ). take 4 (drop 5 z)) (spread es rest) ∙ ap (take 4) (drop_at a (b ++ c) 4 (length-be32 (length (spellings es)))) in
     rw (long, first, second, number_is (length (spellings es)) (b ++ c) short, number_is (length es) c (omega (arith, count_fits es, short))) refl
 
-pub open_gate : (size : ℕ) (es : List Entry) (octets rest : List ℕ) → IsBatch octets es → (places : List ℕ) × (found_from size 0 (167 ∷ (octets ++ rest)) ≡ Ok (holding es (places ++ (size - length rest - 1) ∷ [])))
+pub open_gate : (size : ℕ) (es : List Entry) (octets rest : List ℕ) → IsBatch octets es → (places : List ℕ) × (found_from Second size 0 (167 ∷ (octets ++ rest)) ≡ Ok (holding es (places ++ (size - length rest - 1) ∷ [])))
 unfolding found_from
 open_gate size es octets rest batch =
     let n = length (spellings es) in
@@ -57,14 +60,14 @@ open_gate size es octets rest batch =
     let r = records_again es end batch.each in
     let body : take n (drop 9 x) ≡ spellings es = ap (take n) (behind_nine es rest) ∙ take_at (spellings es) (0 ∷ rest) n refl in
     let behind : drop (9 + n) x ≡ 0 ∷ rest = sym (drop-drop n 9 x) ∙ ap (drop n) (behind_nine es rest) ∙ drop_at (spellings es) (0 ∷ rest) n refl in
-    let records : records_at (length es) end (take n (drop 9 x)) ≡ Ok (holding es r.0) = ap (λ (z : List ℕ). records_at (length es) end z) body ∙ r.1 in
-    let next : found_from size (9 + n) x ≡ Ok (holding [] ((size - length rest - 1) ∷ [])) = found_skip size (9 + n) x ∙ ap (λ (z : List ℕ). found_from size 0 z) behind ∙ closed_gate size 0 rest refl in
+    let records : records_at Second (length es) end (take n (drop 9 x)) ≡ Ok (holding es r.0) = ap (λ (z : List ℕ). records_at Second (length es) end z) body ∙ r.1 in
+    let next : found_from Second size (9 + n) x ≡ Ok (holding [] ((size - length rest - 1) ∷ [])) = found_skip Second size (9 + n) x ∙ ap (λ (z : List ℕ). found_from Second size 0 z) behind ∙ closed_gate Second size 0 rest refl in
     let gate = batch_gate es rest batch.short in
-    (r.0, ap (λ (z : List ℕ). found_from size 0 (167 ∷ (z ++ rest))) batch.spelled ∙ rw (gate, records, next) (ap (λ (z : List Entry). Ok (holding z (r.0 ++ (size - length rest - 1) ∷ []))) (append-nil es)))
+    (r.0, ap (λ (z : List ℕ). found_from Second size 0 (167 ∷ (z ++ rest))) batch.spelled ∙ rw (gate, records, next) (ap (λ (z : List Entry). Ok (holding z (r.0 ++ (size - length rest - 1) ∷ []))) (append-nil es)))
 
--- ---- a journal that is open at a gate
+-- ---- a journal of a version that is open at a gate
 
-pub record Opened (octets : List ℕ) (gate : ℕ) (list : List Entry) : Type 0 where
+pub record Opened (version : Version) (octets : List ℕ) (gate : ℕ) (list : List Entry) : Type 0 where
   pub front : List ℕ
   pub shut : ℕ
   pub rest : List ℕ
@@ -73,31 +76,19 @@ pub record Opened (octets : List ℕ) (gate : ℕ) (list : List Entry) : Type 0 
   pub closed : (shut == 167) ≡ false
   pub past : 31 ≤ gate
   pub long : 33 ≤ length octets
-  pub on : (more : List ℕ) (entries : List Entry) (places : List ℕ) → 33 ≤ length (front ++ more) → found_from (length (front ++ more)) 0 more ≡ Ok (holding entries places)
+  pub is : version_in octets ≡ version
+  pub on : (more : List ℕ) (entries : List Entry) (places : List ℕ) → 33 ≤ length (front ++ more) → found_from version (length (front ++ more)) 0 more ≡ Ok (holding entries places)
       → (before : List ℕ) × (journal (front ++ more) ≡ Ok (holding (list ++ entries) (before ++ places)))
-
-head_same : (o : Option ℕ) (read : Result Found OpenFault) (found : Found) → headed o read ≡ Ok found → o ≡ None
-head_same None read found e = refl
-head_same (Some place) read found e = absurd cc
-
-has_head : (octets : List ℕ) (found : Found) → 33 ≤ length octets → journal octets ≡ Ok found → difference 0 head octets ≡ None
-unfolding journal
-has_head octets found long e =
-    let many : nat_lt (length octets) 33 ≡ false = le-ltb _ _ long in
-    head_same (difference 0 head octets) (found_from (length octets) 31 octets) found (rw many at e)
 
 some_is : (a b : ℕ) → ◌≡◌ {A = Option ℕ} (Some a) (Some b) → a ≡ b
 some_is a b e = cc
 
-thirty_one : length head ≤ 31
-thirty_one = let is : length head ≡ 31 = refl in omega arith
-
-pub opened_at : (octets : List ℕ) (gate : ℕ) (list : List Entry) → 33 ≤ length octets → place_in (journal octets) ≡ Some gate → StandsFor octets list → Opened octets gate list
-opened_at octets gate list enough gate_is stands =
+pub opened_at : (version : Version) (octets : List ℕ) (gate : ℕ) (list : List Entry) → version_in octets ≡ version → 33 ≤ length octets → place_in (journal octets) ≡ Some gate → StandsFor octets list → Opened version octets gate list
+opened_at version octets gate list is enough gate_is stands =
     let e = stands.1 in
     let none = has_head octets (holding list stands.0) enough e in
-    let read : found_from (length octets) 31 octets ≡ Ok (holding list stands.0) = sym (journal_headed octets enough none) ∙ e in
-    let r = on_found (length octets) 31 octets (holding list stands.0) read in
+    let read : found_from version (length octets) 31 octets ≡ Ok (holding list stands.0) = ap (λ (v : Version). found_from v (length octets) 31 octets) (sym is) ∙ sym (journal_headed octets enough none) ∙ e in
+    let r = on_found version (length octets) 31 octets (holding list stands.0) read in
     let last : last_of stands.0 ≡ Some gate = sym (ap place_in e) ∙ gate_is in
     let place : length octets - length r.rest - 1 ≡ gate = some_is _ _ (sym r.gate ∙ last) in
     record {
@@ -109,25 +100,26 @@ opened_at octets gate list enough gate_is stands =
       closed = r.closed;
       past = omega (arith, place, ap length r.parts, length-append r.front (r.shut ∷ r.rest), r.skipped);
       long = enough;
+      is = is;
       on = λ more entries places long h.
           let t = r.on more (length (r.front ++ more)) entries places h in
-          let front : take 31 (r.front ++ more) ≡ take 31 octets = take-append-le 31 r.front more r.skipped ∙ sym (take-append-le 31 r.front (r.shut ∷ r.rest) r.skipped) ∙ ap (take 31) (sym r.parts) in
-          let same : difference 0 head (r.front ++ more) ≡ None = sym (difference_take 0 31 head (r.front ++ more) thirty_one) ∙ ap (λ (z : List ℕ). difference 0 head z) front ∙ difference_take 0 31 head octets thirty_one ∙ none in
-          (t.0, journal_headed (r.front ++ more) long same ∙ t.1);
+          let same : head_fault (r.front ++ more) ≡ None = head_front r.front more r.skipped ∙ sym (head_front r.front (r.shut ∷ r.rest) r.skipped) ∙ ap head_fault (sym r.parts) ∙ none in
+          let also : version_in (r.front ++ more) ≡ version = version_front r.front more r.skipped ∙ sym (version_front r.front (r.shut ∷ r.rest) r.skipped) ∙ ap version_in (sym r.parts) ∙ is in
+          (t.0, journal_headed (r.front ++ more) long same ∙ ap (λ (v : Version). found_from v (length (r.front ++ more)) 31 (r.front ++ more)) also ∙ t.1);
     }
 
-pub opened : (octets : List ℕ) (gate : ℕ) (list : List Entry) → IsSettled octets gate → StandsFor octets list → Opened octets gate list
-opened octets gate list settled stands = opened_at octets gate list settled.long settled.place stands
+pub opened : (octets : List ℕ) (gate : ℕ) (list : List Entry) → IsSettled octets gate → StandsFor octets list → Opened Second octets gate list
+opened octets gate list settled stands = opened_at Second octets gate list settled.second settled.long settled.place stands
 
 -- with a closed gate there, the disk stands for the entries before it
-closed_there : (octets : List ℕ) (gate : ℕ) (list : List Entry) (o : Opened octets gate list) (x : ℕ) (rest c : List ℕ) → (x == 167) ≡ false → 33 ≤ length c → c ≡ o.front ++ x ∷ rest → StandsFor c list
+closed_there : (octets : List ℕ) (gate : ℕ) (list : List Entry) (o : Opened Second octets gate list) (x : ℕ) (rest c : List ℕ) → (x == 167) ≡ false → 33 ≤ length c → c ≡ o.front ++ x ∷ rest → StandsFor c list
 closed_there octets gate list o x rest c closed long is =
     let fits : 33 ≤ length (o.front ++ x ∷ rest) = subst (λ (z : List ℕ). 33 ≤ length z) is long in
-    let t = o.on (x ∷ rest) [] ((length (o.front ++ x ∷ rest) - length rest - 1) ∷ []) fits (closed_gate (length (o.front ++ x ∷ rest)) x rest closed) in
+    let t = o.on (x ∷ rest) [] ((length (o.front ++ x ∷ rest) - length rest - 1) ∷ []) fits (closed_gate Second (length (o.front ++ x ∷ rest)) x rest closed) in
     (t.0 ++ (length (o.front ++ x ∷ rest) - length rest - 1) ∷ [], ap journal is ∙ t.1 ∙ ap (λ (z : List Entry). Ok (holding z (t.0 ++ (length (o.front ++ x ∷ rest) - length rest - 1) ∷ []))) (append-nil list))
 
 -- and with an open one and a batch, for the batch too; the next gate is the closed one behind it
-open_there : (octets : List ℕ) (gate : ℕ) (list : List Entry) (o : Opened octets gate list) (es : List Entry) (batch rest c : List ℕ) → IsBatch batch es → c ≡ o.front ++ 167 ∷ (batch ++ rest)
+open_there : (octets : List ℕ) (gate : ℕ) (list : List Entry) (o : Opened Second octets gate list) (es : List Entry) (batch rest c : List ℕ) → IsBatch batch es → c ≡ o.front ++ 167 ∷ (batch ++ rest)
     → (places : List ℕ) × (journal c ≡ Ok (holding (list ++ es) (places ++ (gate + length batch) ∷ [])))
 open_there octets gate list o es batch rest c is_batch is =
     let all = o.front ++ 167 ∷ (batch ++ rest) in
@@ -138,19 +130,19 @@ open_there octets gate list o es batch rest c is_batch is =
     let place : length all - length rest - 1 ≡ gate + length batch = omega (arith, size) in
     (t.0 ++ g.0, ap journal is ∙ t.1 ∙ ap (λ (z : List ℕ). Ok (holding (list ++ es) z)) (sym (append_assoc t.0 g.0 ((length all - length rest - 1) ∷ []))) ∙ ap (λ (n : ℕ). Ok (holding (list ++ es) ((t.0 ++ g.0) ++ n ∷ []))) place)
 
-front_is : (octets : List ℕ) (gate : ℕ) (list : List Entry) (o : Opened octets gate list) → take (gate + 1) octets ≡ o.front ++ o.shut ∷ []
+front_is : (octets : List ℕ) (gate : ℕ) (list : List Entry) (o : Opened Second octets gate list) → take (gate + 1) octets ≡ o.front ++ o.shut ∷ []
 front_is octets gate list o =
     ap (take (gate + 1)) (o.parts ∙ sym (append_assoc o.front (o.shut ∷ []) o.rest)) ∙ take_at (o.front ++ o.shut ∷ []) o.rest (gate + 1) (omega (arith, length-append o.front (o.shut ∷ []), o.size))
 
 -- what the write behind the closed gate may leave
-pub torn_first : (octets : List ℕ) (gate : ℕ) (list : List Entry) (o : Opened octets gate list) (n : ℕ) (c : List ℕ) → Torn (gate + 1) n octets c → StandsFor c list
+pub torn_first : (octets : List ℕ) (gate : ℕ) (list : List Entry) (o : Opened Second octets gate list) (n : ℕ) (c : List ℕ) → Torn (gate + 1) n octets c → StandsFor c list
 torn_first octets gate list o n c torn =
     let whole : c ≡ o.front ++ o.shut ∷ drop (gate + 1) c =
     sym (take-append-drop (gate + 1) c) ∙ ap (λ (z : List ℕ). z ++ drop (gate + 1) c) (torn.before ∙ front_is octets gate list o) ∙ append_assoc o.front (o.shut ∷ []) (drop (gate + 1) c) in
     closed_there octets gate list o o.shut (drop (gate + 1) c) c o.closed (omega (arith, o.long, torn.no_shorter)) whole
 
 -- what it leaves when it is done
-pub first_done : (octets : List ℕ) (gate : ℕ) (list : List Entry) (o : Opened octets gate list) (batch c : List ℕ) → Written octets (gate + 1) batch c → c ≡ o.front ++ o.shut ∷ (batch ++ drop (gate + 1 + length batch) octets)
+pub first_done : (octets : List ℕ) (gate : ℕ) (list : List Entry) (o : Opened Second octets gate list) (batch c : List ℕ) → Written octets (gate + 1) batch c → c ≡ o.front ++ o.shut ∷ (batch ++ drop (gate + 1 + length batch) octets)
 first_done octets gate list o batch c written =
     written ∙ ap (λ (z : List ℕ). z ++ batch ++ drop (gate + 1 + length batch) octets) (front_is octets gate list o) ∙ joined_up o.front o.shut batch (drop (gate + 1 + length batch) octets)
   where
@@ -158,7 +150,7 @@ first_done octets gate list o batch c written =
     joined_up a x b d = simp append_assoc
 
 -- what the write of the gate may leave
-pub torn_gate : (octets : List ℕ) (gate : ℕ) (list : List Entry) (o : Opened octets gate list) (es : List Entry) (batch rest staged c : List ℕ) → IsBatch batch es → staged ≡ o.front ++ o.shut ∷ (batch ++ rest) → Torn gate 1 staged c → Outcome list es c
+pub torn_gate : (octets : List ℕ) (gate : ℕ) (list : List Entry) (o : Opened Second octets gate list) (es : List Entry) (batch rest staged c : List ℕ) → IsBatch batch es → staged ≡ o.front ++ o.shut ∷ (batch ++ rest) → Torn gate 1 staged c → Outcome list es c
 torn_gate octets gate list o es batch rest staged c is_batch is torn =
     let size : length staged ≡ gate + 1 + (length batch + length rest) = omega (arith, ap length is, length-append o.front (o.shut ∷ (batch ++ rest)), length-append batch rest, o.size) in
     let ten : length batch ≡ 10 + length (spellings es) = ap length is_batch.spelled ∙ length-batch es in
@@ -178,22 +170,24 @@ torn_gate octets gate list o es batch rest staged c is_batch is torn =
     by_gate false gate_is whole long = inl (closed_there octets gate list o (get_or c gate 0) (batch ++ rest) c gate_is long whole)
 
 -- what it leaves when it is done
-pub gate_done : (octets : List ℕ) (gate : ℕ) (list : List Entry) (o : Opened octets gate list) (batch rest staged c : List ℕ) → staged ≡ o.front ++ o.shut ∷ (batch ++ rest) → Written staged gate (167 ∷ []) c → c ≡ o.front ++ 167 ∷ (batch ++ rest)
+pub gate_done : (octets : List ℕ) (gate : ℕ) (list : List Entry) (o : Opened Second octets gate list) (batch rest staged c : List ℕ) → staged ≡ o.front ++ o.shut ∷ (batch ++ rest) → Written staged gate (167 ∷ []) c → c ≡ o.front ++ 167 ∷ (batch ++ rest)
 gate_done octets gate list o batch rest staged c is written =
     let front : take gate staged ≡ o.front = ap (take gate) is ∙ take_at o.front (o.shut ∷ (batch ++ rest)) gate o.size in
     let back : drop (gate + 1) staged ≡ batch ++ rest =
     ap (drop (gate + 1)) (is ∙ sym (append_assoc o.front (o.shut ∷ []) (batch ++ rest))) ∙ drop_at (o.front ++ o.shut ∷ []) (batch ++ rest) (gate + 1) (omega (arith, length-append o.front (o.shut ∷ []), o.size)) in
     written ∙ ap (λ (z : List ℕ). z ++ (167 ∷ []) ++ drop (gate + 1) staged) front ∙ ap (λ (z : List ℕ). o.front ++ (167 ∷ []) ++ z) back ∙ append_assoc o.front (167 ∷ []) (batch ++ rest)
 
-pub stands_after : (octets : List ℕ) (gate : ℕ) (list : List Entry) (o : Opened octets gate list) (es : List Entry) (batch rest c : List ℕ) → IsBatch batch es → c ≡ o.front ++ 167 ∷ (batch ++ rest) → StandsFor c (list ++ es)
+pub stands_after : (octets : List ℕ) (gate : ℕ) (list : List Entry) (o : Opened Second octets gate list) (es : List Entry) (batch rest c : List ℕ) → IsBatch batch es → c ≡ o.front ++ 167 ∷ (batch ++ rest) → StandsFor c (list ++ es)
 stands_after octets gate list o es batch rest c is_batch is = let t = open_there octets gate list o es batch rest c is_batch is in (t.0 ++ (gate + length batch) ∷ [], t.1)
 
-pub settled_after : (octets : List ℕ) (gate : ℕ) (list : List Entry) (o : Opened octets gate list) (es : List Entry) (batch rest c : List ℕ) → IsBatch batch es → gate + 1 + length batch < 2 ^ 64 → c ≡ o.front ++ 167 ∷ (batch ++ rest) → IsSettled c (gate + length batch)
+pub settled_after : (octets : List ℕ) (gate : ℕ) (list : List Entry) (o : Opened Second octets gate list) (es : List Entry) (batch rest c : List ℕ) → IsBatch batch es → gate + 1 + length batch < 2 ^ 64 → c ≡ o.front ++ 167 ∷ (batch ++ rest) → IsSettled c (gate + length batch)
 settled_after octets gate list o es batch rest c is_batch room is =
     let t = open_there octets gate list o es batch rest c is_batch is in
     let size : length c ≡ gate + 1 + (length batch + length rest) = omega (arith, ap length is, length-append o.front (167 ∷ (batch ++ rest)), length-append batch rest, o.size) in
     let ten : length batch ≡ 10 + length (spellings es) = ap length is_batch.spelled ∙ length-batch es in
-    record { long = omega (arith, size, ten, o.past); place = ap place_in t.1 ∙ last_push t.0 (gate + length batch); room = omega (arith, room) }
+    let same : version_in c ≡ Second =
+    ap version_in is ∙ version_front o.front (167 ∷ (batch ++ rest)) (omega (arith, o.size, o.past)) ∙ sym (version_front o.front (o.shut ∷ o.rest) (omega (arith, o.size, o.past))) ∙ ap version_in (sym o.parts) ∙ o.is in
+    record { long = omega (arith, size, ten, o.past); second = same; place = ap place_in t.1 ∙ last_push t.0 (gate + length batch); room = omega (arith, room) }
 
 found_in : (gate : ℕ) (read : Result Found OpenFault) → place_in read ≡ Some gate → (found : Found) × (read ≡ Ok found)
 found_in gate (Ok found) e = (found, refl)
@@ -210,33 +204,32 @@ gate_inside octets gate settled =
     omega (arith, ap length o.parts, length-append o.front (o.shut ∷ o.rest), o.size)
 
 -- each image after the write behind the gate
-pub first_image : (octets : List ℕ) (gate : ℕ) (list : List Entry) (o : Opened octets gate list) (at n : ℕ) (old new : List ℕ → Type 0) → at ≡ gate + 1 → Only octets old → Follows (Torn at n) old new → (c : List ℕ) → new c → StandsFor c list
+pub first_image : (octets : List ℕ) (gate : ℕ) (list : List Entry) (o : Opened Second octets gate list) (at n : ℕ) (old new : List ℕ → Type 0) → at ≡ gate + 1 → Only octets old → Follows (Torn at n) old new → (c : List ℕ) → new c → StandsFor c list
 first_image octets gate list o at n old new is only follows c now =
     let from = follows c now in
     torn_first octets gate list o n c (subst (λ (m : ℕ). Torn m n octets c) is (subst (λ (d : List ℕ). Torn at n d c) (only from.0 from.1) from.2))
 
 -- each image after the write of the gate
-pub gate_image : (octets : List ℕ) (gate : ℕ) (list : List Entry) (o : Opened octets gate list) (es : List Entry) (batch rest staged : List ℕ) (old new : List ℕ → Type 0) → IsBatch batch es → staged ≡ o.front ++ o.shut ∷ (batch ++ rest)
+pub gate_image : (octets : List ℕ) (gate : ℕ) (list : List Entry) (o : Opened Second octets gate list) (es : List Entry) (batch rest staged : List ℕ) (old new : List ℕ → Type 0) → IsBatch batch es → staged ≡ o.front ++ o.shut ∷ (batch ++ rest)
     → Only staged old → Follows (Torn gate 1) old new → (c : List ℕ) → new c → Outcome list es c
 gate_image octets gate list o es batch rest staged old new is_batch is only follows c now =
     let from = follows c now in
     torn_gate octets gate list o es batch rest staged c is_batch is (subst (λ (d : List ℕ). Torn gate 1 d c) (only from.0 from.1) from.2)
 
--- a journal with a head is settled at the place that stands last
-pub settled_at : (octets : List ℕ) (found : Found) (gate : ℕ) → journal octets ≡ Ok found → last_of found.places ≡ Some gate → 33 ≤ length octets → length octets < 2 ^ 64 → IsSettled octets gate
-settled_at octets found gate read last long fits =
-    let place : place_in (journal octets) ≡ Some gate = ap place_in read ∙ last in
-    let o = opened_at octets gate found.entries long place (found.places, read) in
-    record { long = long; place = place; room = omega (arith, ap length o.parts, length-append o.front (o.shut ∷ o.rest), o.size, fits, rest_counts octets gate found.entries o) }
+-- behind the place that stands last there is room for a gate
+pub room_behind : (octets : List ℕ) (found : Found) (gate : ℕ) → journal octets ≡ Ok found → last_of found.places ≡ Some gate → 33 ≤ length octets → length octets < 2 ^ 64 → gate + 1 < 2 ^ 64
+room_behind octets found gate read last long fits = room (opened_at (version_in octets) octets gate found.entries refl long (ap place_in read ∙ last) (found.places, read))
   where
-    rest_counts : (octets : List ℕ) (gate : ℕ) (list : List Entry) (o : Opened octets gate list) → gate + 1 ≤ length octets
-    rest_counts octets gate list o = omega (arith, ap length o.parts, length-append o.front (o.shut ∷ o.rest), o.size)
+    room : Opened (version_in octets) octets gate found.entries → gate + 1 < 2 ^ 64
+    room o =
+        let inside : gate + 1 ≤ length octets = omega (arith, ap length o.parts, length-append o.front (o.shut ∷ o.rest), o.size) in
+        omega (arith, inside, fits)
 
 -- the place 0 stands last where there is no head, and only there
 pub short_at_0 : (octets : List ℕ) (found : Found) (gate : ℕ) → journal octets ≡ Ok found → last_of found.places ≡ Some gate → gate ≡ 0 → length octets < 33
 short_at_0 octets found gate read last is = elim (cases_lt (length octets) 33) [
   | inl lt ↦ lt
-  | inr le ↦ (let o = opened_at octets gate found.entries le (ap place_in read ∙ last) (found.places, read) in absurd (contradiction o.past is))
+  | inr le ↦ (let o = opened_at (version_in octets) octets gate found.entries refl le (ap place_in read ∙ last) (found.places, read) in absurd (contradiction o.past is))
 ]
   where
     contradiction : 31 ≤ gate → gate ≡ 0 → ⊥

@@ -7,14 +7,15 @@ use Rattle.std.proofs.lemmas.List.{length-take, drop-drop, drop_all, drop_more, 
 use Rattle.task_journal.specs.declared.fault.OpenFault.TheVariants.{Damaged}
 use Rattle.task_journal.specs.declared.gate.GateState.{GateState}
 use Rattle.task_journal.specs.declared.gate.GateState.TheVariants.{Missing, Closed, Short, Open}
+use Rattle.task_journal.specs.declared.version.Version.{Version}
 use Rattle.task_journal.specs.Journal.{◌>>=◌, with_front, records_at, gate_in, from_gate, found_from}
 use Rattle.task_journal.specs.Window.{span}
 
-pub found_skip : (total skip : ℕ) (octets : List ℕ) → found_from total skip octets ≡ found_from total 0 (drop skip octets)
+pub found_skip : (version : Version) (total skip : ℕ) (octets : List ℕ) → found_from version total skip octets ≡ found_from version total 0 (drop skip octets)
 unfolding found_from
-found_skip total zero octets = refl
-found_skip total (suc skip) [] = refl
-found_skip total (suc skip) (x ∷ octets) = found_skip total skip octets
+found_skip version total zero octets = refl
+found_skip version total (suc skip) [] = refl
+found_skip version total (suc skip) (x ∷ octets) = found_skip version total skip octets
 
 few_octets : (n : ℕ) → nat_lt (min 9 n) 9 ≡ nat_lt n 9
 few_octets n = elim (cases_lt n 9) [
@@ -40,28 +41,28 @@ chosen false c len count m n e = absurd cc
 pub open_long : (gate : ℕ) (octets : List ℕ) (len count : ℕ) → gate_in (gate ∷ octets) ≡ Open len count → 9 ≤ length octets
 open_long gate octets len count is = ltb-false _ _ (chosen (gate == 167) (nat_lt (length octets) 9) len count (from_be_bytes w32 (take 4 (drop 1 octets))) (from_be_bytes w32 (take 4 (drop 5 octets))) is)
 
-module _ (size gate : ℕ) (disk : List ℕ) (is : size ≡ length disk) (lt : gate < size) where
+module _ (version : Version) (size gate : ℕ) (disk : List ℕ) (is : size ≡ length disk) (lt : gate < size) where
   at_gate : drop gate disk ≡ get_or disk gate 0 ∷ drop (gate + 1) disk
   at_gate = drop_more disk gate 0 (omega arith)
 
   long : length (drop (gate + 1) disk) ≡ size - (gate + 1)
   long = omega (arith, length-drop (gate + 1) disk, is)
 
-  stepped : (g : GateState) → gate_in (drop gate disk) ≡ g → found_from size 0 (drop gate disk) ≡ from_gate g size (drop (gate + 1) disk) (λ skip. found_from size skip (drop (gate + 1) disk))
+  stepped : (g : GateState) → gate_in (drop gate disk) ≡ g → found_from version size 0 (drop gate disk) ≡ from_gate version g size (drop (gate + 1) disk) (λ skip. found_from version size skip (drop (gate + 1) disk))
   unfolding found_from
   stepped g e =
       let here : gate_in (get_or disk gate 0 ∷ drop (gate + 1) disk) ≡ g = ap gate_in (sym at_gate) ∙ e in
-      ap (λ (z : List ℕ). found_from size 0 z) at_gate ∙ ap (λ (h : GateState). from_gate h size (drop (gate + 1) disk) (λ skip. found_from size skip (drop (gate + 1) disk))) here
+      ap (λ (z : List ℕ). found_from version size 0 z) at_gate ∙ ap (λ (h : GateState). from_gate version h size (drop (gate + 1) disk) (λ skip. found_from version size skip (drop (gate + 1) disk))) here
 
-  pub step_missing : gate_in (drop gate disk) ≡ Missing → found_from size 0 (drop gate disk) ≡ Err (Damaged size)
+  pub step_missing : gate_in (drop gate disk) ≡ Missing → found_from version size 0 (drop gate disk) ≡ Err (Damaged size)
   step_missing e = stepped Missing e
 
-  pub step_closed : gate_in (drop gate disk) ≡ Closed → found_from size 0 (drop gate disk) ≡ Ok (record { entries = []; places = gate ∷ [] })
+  pub step_closed : gate_in (drop gate disk) ≡ Closed → found_from version size 0 (drop gate disk) ≡ Ok (record { entries = []; places = gate ∷ [] })
   step_closed e =
       let place : size - length (drop (gate + 1) disk) - 1 ≡ gate = omega (arith, long, lt) in
       stepped Closed e ∙ rw place refl
 
-  pub step_short : gate_in (drop gate disk) ≡ Short → found_from size 0 (drop gate disk) ≡ Err (Damaged gate)
+  pub step_short : gate_in (drop gate disk) ≡ Short → found_from version size 0 (drop gate disk) ≡ Err (Damaged gate)
   step_short e =
       let place : size - length (drop (gate + 1) disk) - 1 ≡ gate = omega (arith, long, lt) in
       stepped Short e ∙ rw place refl
@@ -72,7 +73,7 @@ module _ (size gate : ℕ) (disk : List ℕ) (is : size ≡ length disk) (lt : g
       omega (arith, open_long (get_or disk gate 0) (drop (gate + 1) disk) len count here, long)
 
   pub step_open : (len count end : ℕ) → gate_in (drop gate disk) ≡ Open len count → end ≡ min (gate + 10 + len) size
-      → found_from size 0 (drop gate disk) ≡ (records_at count end (span (gate + 10) end disk) >>= λ found. with_front found (found_from size 0 (drop (gate + 10 + len) disk)))
+      → found_from version size 0 (drop gate disk) ≡ (records_at version count end (span (gate + 10) end disk) >>= λ found. with_front found (found_from version size 0 (drop (gate + 10 + len) disk)))
   step_open len count end e ends =
       let fits = open_fits len count e in
       let last : size - length (drop (9 + len) (drop (gate + 1) disk)) ≡ end = omega (arith, length-drop (9 + len) (drop (gate + 1) disk), long, ends, fits) in
@@ -80,8 +81,8 @@ module _ (size gate : ℕ) (disk : List ℕ) (is : size ≡ length disk) (lt : g
       let some : min len (length (drop (gate + 10) disk)) ≡ end - (gate + 10) = omega (arith, length-drop (gate + 10) disk, ends, fits, is) in
       let body : take len (drop 9 (drop (gate + 1) disk)) ≡ span (gate + 10) end disk =
       ap (take len) rest ∙ sym (take_min len (drop (gate + 10) disk)) ∙ ap (λ (n : ℕ). take n (drop (gate + 10) disk)) some in
-      let next : found_from size (9 + len) (drop (gate + 1) disk) ≡ found_from size 0 (drop (gate + 10 + len) disk) =
-      found_skip size (9 + len) (drop (gate + 1) disk) ∙ ap (λ (z : List ℕ). found_from size 0 z) (drop-drop (9 + len) (gate + 1) disk ∙ ap (λ (n : ℕ). drop n disk) (more gate len)) in
+      let next : found_from version size (9 + len) (drop (gate + 1) disk) ≡ found_from version size 0 (drop (gate + 10 + len) disk) =
+      found_skip version size (9 + len) (drop (gate + 1) disk) ∙ ap (λ (z : List ℕ). found_from version size 0 z) (drop-drop (9 + len) (gate + 1) disk ∙ ap (λ (n : ℕ). drop n disk) (more gate len)) in
       stepped (Open len count) e ∙ rw (last, body, next) refl
     where
       nine : (g : ℕ) → g + 1 + 9 ≡ g + 10
@@ -90,9 +91,9 @@ module _ (size gate : ℕ) (disk : List ℕ) (is : size ≡ length disk) (lt : g
       more : (g n : ℕ) → g + 1 + (9 + n) ≡ g + 10 + n
       more g n = omega arith
 
-pub step_past : (size gate : ℕ) (disk : List ℕ) → size ≡ length disk → size ≤ gate → found_from size 0 (drop gate disk) ≡ Err (Damaged size)
+pub step_past : (version : Version) (size gate : ℕ) (disk : List ℕ) → size ≡ length disk → size ≤ gate → found_from version size 0 (drop gate disk) ≡ Err (Damaged size)
 unfolding found_from
-step_past size gate disk is le = rw (drop_all gate disk (omega arith)) refl
+step_past version size gate disk is le = rw (drop_all gate disk (omega arith)) refl
 
 -- the gate is that of the ten octets, or fewer at the disk's end, that were read
 pub gate_read : (size gate n : ℕ) (disk octets : List ℕ) → size ≡ length disk → n ≡ min (size - gate) 10 → octets ≡ take n (drop (gate + 0) disk) → gate_in octets ≡ gate_in (drop gate disk)

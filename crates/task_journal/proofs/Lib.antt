@@ -1,11 +1,14 @@
 pub mod Calls
-pub mod Spans
 pub mod Loops
+pub mod Versions
+pub mod Spans
 pub mod Coming
 pub mod Finding
 pub mod Gates
 pub mod On
 pub mod Batches
 pub mod Moments
+pub mod Later
 pub mod Crash
+pub mod Migration
 pub mod Making

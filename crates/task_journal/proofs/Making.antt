@@ -7,6 +7,7 @@ use Rattle.disk_model.specs.Crashes.{Torn, Written, Follows, Only}
 use Rattle.task_journal.specs.declared.fault.OpenFault.{OpenFault}
 use Rattle.task_journal.specs.declared.found.Found.{Found}
 use Rattle.task_journal.specs.Journal.{holding, found_from, head, journal, StandsFor, IsSame, entries_of, place_in}
+use Rattle.task_journal.specs.Versions.{version_in}
 use Rattle.task_journal.specs.Settled.{IsSettled}
 use Rattle.task_journal.proofs.On.{journal_short, journal_headed}
 
@@ -49,7 +50,7 @@ pad_done c written = written
 pub made_settled : (c : List ℕ) → c ≡ made ++ 0 ∷ [] → IsSettled c 31
 made_settled c is =
     let size : length (made ++ 0 ∷ []) ≡ 33 = refl in
-    record { long = omega (arith, ap length is, size); place = ap (λ (z : List ℕ). place_in (journal z)) is ∙ ap place_in (full 0); room = omega arith }
+    record { long = omega (arith, ap length is, size); second = ap version_in is; place = ap (λ (z : List ℕ). place_in (journal z)) is ∙ ap place_in (full 0); room = omega arith }
 
 pub made_empty : (c : List ℕ) → c ≡ made ++ 0 ∷ [] → StandsFor c []
 made_empty c is = (31 ∷ [], ap journal is ∙ full 0)

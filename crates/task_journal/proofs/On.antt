@@ -1,26 +1,26 @@
 -- How reading goes on: what stands before a closed gate is read alike, whatever stands there and behind it.
-use Rattle.std.proofs.Common.{◌≡◌, ℕ, zero, suc, ◌+◌, ◌-◌, ◌<◌, ◌≤◌, Bool, true, false, List, [], ◌∷◌, ◌++◌, length, take, drop, Result, Ok, Err, Some, None, refl, sym, ap, subst, ◌∙◌, append_assoc, arith, length-drop}
+use Rattle.std.proofs.Common.{◌≡◌, ℕ, zero, suc, ◌+◌, ◌-◌, ◌<◌, ◌≤◌, Bool, true, false, List, [], ◌∷◌, ◌++◌, length, take, drop, Result, Ok, Err, Option, Some, None, refl, sym, ap, subst, ◌∙◌, append_assoc, arith, length-drop}
 use Rattle.std.specs.Prelude.{◌==◌, nat_lt, if◌then◌else◌}
 use Rattle.std.specs.Int.{w32, from_be_bytes}
 use Rattle.std.proofs.lemmas.Bool.{le-ltb, lt-ltb}
 use Rattle.std.proofs.lemmas.List.{take-append-le, drop-append-le}
 use Rattle.cluster_types.specs.declared.entry.Entry.{Entry}
-use Rattle.record_codec.specs.Reading.{entry_at}
 use Rattle.task_journal.specs.declared.fault.OpenFault.{OpenFault}
 use Rattle.task_journal.specs.declared.fault.OpenFault.TheVariants.{NotAJournal, Damaged, DiskFault, OutOfMemory}
 use Rattle.task_journal.specs.declared.found.Found.{Found}
 use Rattle.task_journal.specs.declared.gate.GateState.{GateState}
 use Rattle.task_journal.specs.declared.gate.GateState.TheVariants.{Missing, Closed, Short, Open}
-use Rattle.edges.specs.Difference.{difference}
-use Rattle.task_journal.specs.Journal.{◌>>=◌, nothing, holding, behind, with_front, one, record_of, record_at, records_at, gate_in, from_gate, found_from, head, journal, last_of, Fails}
+use Rattle.task_journal.specs.declared.version.Version.{Version}
+use Rattle.task_journal.specs.Versions.{version_in, entry_in}
+use Rattle.task_journal.specs.Journal.{◌>>=◌, nothing, holding, behind, with_front, one, record_of, record_at, records_at, gate_in, from_gate, found_from, head_fault, headed, journal, last_of, Fails}
 use Rattle.task_journal.specs.Window.{HasHead}
 use Rattle.task_journal.proofs.Gates.{gate_front}
 
-bind_ok : {A B : Type 0} (r : Result A OpenFault) (f : A → Result B OpenFault) (y : B) → (r >>= f) ≡ Ok y → (x : A) × (r ≡ Ok x) × (f x ≡ Ok y)
+pub bind_ok : {A B : Type 0} (r : Result A OpenFault) (f : A → Result B OpenFault) (y : B) → (r >>= f) ≡ Ok y → (x : A) × (r ≡ Ok x) × (f x ≡ Ok y)
 bind_ok (Ok x) f y e = (x, refl, e)
 bind_ok (Err d) f y e = absurd cc
 
-ok_is : {A : Type 0} (x y : A) → ◌≡◌ {A = Result A OpenFault} (Ok x) (Ok y) → x ≡ y
+pub ok_is : {A : Type 0} (x y : A) → ◌≡◌ {A = Result A OpenFault} (Ok x) (Ok y) → x ≡ y
 ok_is x y e = cc
 
 pub last_behind : (xs ys : List ℕ) (x : ℕ) → last_of ys ≡ Some x → last_of (xs ++ ys) ≡ Some x
@@ -30,19 +30,19 @@ last_behind (y ∷ []) (z ∷ zs) x e = e
 last_behind (y ∷ (w ∷ ws)) ys x e = last_behind (w ∷ ws) ys x e
 
 -- the entries of records don't depend on their place
-entries_alike : (n end other : ℕ) (octets : List ℕ) (found : Found) → records_at n end octets ≡ Ok found → (places : List ℕ) × (records_at n other octets ≡ Ok (holding found.entries places))
+entries_alike : (version : Version) (n end other : ℕ) (octets : List ℕ) (found : Found) → records_at version n end octets ≡ Ok found → (places : List ℕ) × (records_at version n other octets ≡ Ok (holding found.entries places))
 unfolding records_at record_at
-entries_alike zero end other octets found e = none (length octets == 0) found e
+entries_alike version zero end other octets found e = none (length octets == 0) found e
   where
     none : (b : Bool) (f : Found) → (if b then Ok nothing else Err (Damaged (end - length octets))) ≡ Ok f → (places : List ℕ) × ((if b then Ok nothing else Err (Damaged (other - length octets))) ≡ Ok (holding f.entries places))
     none true f e = ([], ap (λ (g : Found). Ok (holding g.entries [])) (ok_is nothing f e))
     none false f e = absurd cc
-entries_alike (suc n) end other octets found e =
-    let p = bind_ok (record_of (entry_at octets) (end - length octets)) (λ first. with_front (one first.0 (end - length octets)) (records_at n end first.1)) found e in
-    let q = bind_ok (records_at n end p.0.1) (λ f. Ok (behind (one p.0.0 (end - length octets)) f)) found p.2 in
-    let r = entries_alike n end other p.0.1 q.0 q.1 in
+entries_alike version (suc n) end other octets found e =
+    let p = bind_ok (record_of (entry_in version octets) (end - length octets)) (λ first. with_front (one first.0 (end - length octets)) (records_at version n end first.1)) found e in
+    let q = bind_ok (records_at version n end p.0.1) (λ f. Ok (behind (one p.0.0 (end - length octets)) f)) found p.2 in
+    let r = entries_alike version n end other p.0.1 q.0 q.1 in
     let is : behind (one p.0.0 (end - length octets)) q.0 ≡ found = ok_is _ _ q.2 in
-    let same : record_of (entry_at octets) (other - length octets) ≡ Ok p.0 = alike (entry_at octets) p.0 p.1 in
+    let same : record_of (entry_in version octets) (other - length octets) ≡ Ok p.0 = alike (entry_in version octets) p.0 p.1 in
     ((other - length octets) ∷ r.0, rw (same, r.1) (ap (λ (f : Found). Ok (holding f.entries ((other - length octets) ∷ r.0))) is))
   where
     alike : (read : _) (x : Entry × List ℕ) → record_of read (end - length octets) ≡ Ok x → record_of read (other - length octets) ≡ Ok x
@@ -55,7 +55,7 @@ shut_is true false m n e = absurd cc
 shut_is false c m n e = refl
 
 -- what was found up to a closed gate is found again in front of other octets, and what is found in those comes behind it
-pub record On (total skip : ℕ) (octets : List ℕ) (found : Found) : Type 0 where
+pub record On (version : Version) (total skip : ℕ) (octets : List ℕ) (found : Found) : Type 0 where
   pub front : List ℕ
   pub shut : ℕ
   pub rest : List ℕ
@@ -63,18 +63,18 @@ pub record On (total skip : ℕ) (octets : List ℕ) (found : Found) : Type 0 wh
   pub closed : (shut == 167) ≡ false
   pub skipped : skip ≤ length front
   pub gate : last_of found.places ≡ Some (total - length rest - 1)
-  pub on : (more : List ℕ) (size : ℕ) (entries : List Entry) (places : List ℕ) → found_from size 0 more ≡ Ok (holding entries places) → (before : List ℕ) × (found_from size skip (front ++ more) ≡ Ok (holding (found.entries ++ entries) (before ++ places)))
+  pub on : (more : List ℕ) (size : ℕ) (entries : List Entry) (places : List ℕ) → found_from version size 0 more ≡ Ok (holding entries places) → (before : List ℕ) × (found_from version size skip (front ++ more) ≡ Ok (holding (found.entries ++ entries) (before ++ places)))
 
-on_open : (total x len count : ℕ) (octets : List ℕ) (found : Found) → ((skip : ℕ) (f : Found) → found_from total skip octets ≡ Ok f → On total skip octets f) → gate_in (x ∷ octets) ≡ Open len count
-    → from_gate (Open len count) total octets (λ skip. found_from total skip octets) ≡ Ok found → On total 0 (x ∷ octets) found
+on_open : (version : Version) (total x len count : ℕ) (octets : List ℕ) (found : Found) → ((skip : ℕ) (f : Found) → found_from version total skip octets ≡ Ok f → On version total skip octets f) → gate_in (x ∷ octets) ≡ Open len count
+    → from_gate version (Open len count) total octets (λ skip. found_from version total skip octets) ≡ Ok found → On version total 0 (x ∷ octets) found
 unfolding found_from
-on_open total x len count octets found again gate e =
+on_open version total x len count octets found again gate e =
     let end = total - length (drop (9 + len) octets) in
-    let p = bind_ok (records_at count end (take len (drop 9 octets))) (λ f. with_front f (found_from total (9 + len) octets)) found e in
-    let q = bind_ok (found_from total (9 + len) octets) (λ f. Ok (behind p.0 f)) found p.2 in
+    let p = bind_ok (records_at version count end (take len (drop 9 octets))) (λ f. with_front f (found_from version total (9 + len) octets)) found e in
+    let q = bind_ok (found_from version total (9 + len) octets) (λ f. Ok (behind p.0 f)) found p.2 in
     let r = again (9 + len) q.0 q.1 in
     let is : behind p.0 q.0 ≡ found = ok_is _ _ q.2 in
-    subst (λ (f : Found). On total 0 (x ∷ octets) f) is (record {
+    subst (λ (f : Found). On version total 0 (x ∷ octets) f) is (record {
       front = x ∷ r.front;
       shut = r.shut;
       rest = r.rest;
@@ -84,10 +84,10 @@ on_open total x len count octets found again gate e =
       gate = last_behind p.0.places q.0.places _ r.gate;
       on = λ more size entries places h.
           let s = r.on more size entries places h in
-          let t = entries_alike count end (size - length (drop (9 + len) (r.front ++ more))) (take len (drop 9 octets)) p.0 p.1 in
+          let t = entries_alike version count end (size - length (drop (9 + len) (r.front ++ more))) (take len (drop 9 octets)) p.0 p.1 in
           let body : take len (drop 9 octets) ≡ take len (drop 9 (r.front ++ more)) = body_alike r.front (r.shut ∷ r.rest) more len r.skipped octets r.parts in
           let same : gate_in (x ∷ (r.front ++ more)) ≡ Open len count = gate_alike x r.front (r.shut ∷ r.rest) more (omega (arith, r.skipped)) octets r.parts ∙ gate in
-          let records : records_at count (size - length (drop (9 + len) (r.front ++ more))) (take len (drop 9 (r.front ++ more))) ≡ Ok (holding p.0.entries t.0) = ap (λ (z : List ℕ). records_at count (size - length (drop (9 + len) (r.front ++ more))) z) (sym body) ∙ t.1 in
+          let records : records_at version count (size - length (drop (9 + len) (r.front ++ more))) (take len (drop 9 (r.front ++ more))) ≡ Ok (holding p.0.entries t.0) = ap (λ (z : List ℕ). records_at version count (size - length (drop (9 + len) (r.front ++ more))) z) (sym body) ∙ t.1 in
           (t.0 ++ s.0, rw (same, records, s.1) (ap (λ (f : Found). Ok f) (pair (sym (append_assoc p.0.entries q.0.entries entries)) (sym (append_assoc t.0 s.0 places)))));
     })
   where
@@ -105,13 +105,13 @@ on_open total x len count octets found again gate e =
     body_alike a b d n le xs parts =
         ap (λ (z : List ℕ). take n (drop 9 z)) parts ∙ ap (take n) (drop-append-le 9 a b (omega (arith, le))) ∙ front_alike n (drop 9 a) b d (omega (arith, length-drop 9 a, le)) ∙ ap (take n) (sym (drop-append-le 9 a d (omega (arith, le))))
 
-on_gate : (g : GateState) (total x : ℕ) (octets : List ℕ) (found : Found) → ((skip : ℕ) (f : Found) → found_from total skip octets ≡ Ok f → On total skip octets f) → gate_in (x ∷ octets) ≡ g
-    → from_gate g total octets (λ skip. found_from total skip octets) ≡ Ok found → On total 0 (x ∷ octets) found
-on_gate Missing total x octets found again gate e = absurd cc
-on_gate Short total x octets found again gate e = absurd cc
-on_gate Closed total x octets found again gate e =
+on_gate : (version : Version) (g : GateState) (total x : ℕ) (octets : List ℕ) (found : Found) → ((skip : ℕ) (f : Found) → found_from version total skip octets ≡ Ok f → On version total skip octets f) → gate_in (x ∷ octets) ≡ g
+    → from_gate version g total octets (λ skip. found_from version total skip octets) ≡ Ok found → On version total 0 (x ∷ octets) found
+on_gate version Missing total x octets found again gate e = absurd cc
+on_gate version Short total x octets found again gate e = absurd cc
+on_gate version Closed total x octets found again gate e =
     let is : holding [] ((total - length octets - 1) ∷ []) ≡ found = ok_is _ _ e in
-    subst (λ (f : Found). On total 0 (x ∷ octets) f) is (record {
+    subst (λ (f : Found). On version total 0 (x ∷ octets) f) is (record {
       front = [];
       shut = x;
       rest = octets;
@@ -121,14 +121,14 @@ on_gate Closed total x octets found again gate e =
       gate = refl;
       on = λ more size entries places h. ([], h);
     })
-on_gate (Open len count) total x octets found again gate e = on_open total x len count octets found again gate e
+on_gate version (Open len count) total x octets found again gate e = on_open version total x len count octets found again gate e
 
-pub on_found : (total skip : ℕ) (octets : List ℕ) (found : Found) → found_from total skip octets ≡ Ok found → On total skip octets found
+pub on_found : (version : Version) (total skip : ℕ) (octets : List ℕ) (found : Found) → found_from version total skip octets ≡ Ok found → On version total skip octets found
 unfolding found_from
-on_found total zero [] found e = absurd cc
-on_found total (suc skip) [] found e = absurd cc
-on_found total (suc skip) (x ∷ octets) found e =
-    let r = on_found total skip octets found e in record {
+on_found version total zero [] found e = absurd cc
+on_found version total (suc skip) [] found e = absurd cc
+on_found version total (suc skip) (x ∷ octets) found e =
+    let r = on_found version total skip octets found e in record {
       front = x ∷ r.front;
       shut = r.shut;
       rest = r.rest;
@@ -138,7 +138,7 @@ on_found total (suc skip) (x ∷ octets) found e =
       gate = r.gate;
       on = r.on;
     }
-on_found total zero (x ∷ octets) found e = on_gate (gate_in (x ∷ octets)) total x octets found (λ skip f. on_found total skip octets f) refl e
+on_found version total zero (x ∷ octets) found e = on_gate version (gate_in (x ∷ octets)) total x octets found (λ skip f. on_found version total skip octets f) refl e
 
 -- ---- a whole disk
 
@@ -146,13 +146,23 @@ pub journal_short : (octets : List ℕ) → length octets < 33 → journal octet
 unfolding journal
 journal_short octets lt = let few : nat_lt (length octets) 33 ≡ true = lt-ltb _ _ lt in rw few refl
 
-pub journal_headed : (octets : List ℕ) → 33 ≤ length octets → difference 0 head octets ≡ None → journal octets ≡ found_from (length octets) 31 octets
+pub journal_headed : (octets : List ℕ) → 33 ≤ length octets → head_fault octets ≡ None → journal octets ≡ found_from (version_in octets) (length octets) 31 octets
 unfolding journal
 journal_headed octets le same = let many : nat_lt (length octets) 33 ≡ false = le-ltb _ _ le in rw (many, same) refl
 
-pub journal_other : (octets : List ℕ) (place : ℕ) → 33 ≤ length octets → difference 0 head octets ≡ Some place → journal octets ≡ Err (NotAJournal place)
+pub journal_other : (octets : List ℕ) (place : ℕ) → 33 ≤ length octets → head_fault octets ≡ Some place → journal octets ≡ Err (NotAJournal place)
 unfolding journal
 journal_other octets place le other = let many : nat_lt (length octets) 33 ≡ false = le-ltb _ _ le in rw (many, other) refl
+
+head_same : (o : Option ℕ) (read : Result Found OpenFault) (found : Found) → headed o read ≡ Ok found → o ≡ None
+head_same None read found e = refl
+head_same (Some place) read found e = absurd cc
+
+pub has_head : (octets : List ℕ) (found : Found) → 33 ≤ length octets → journal octets ≡ Ok found → head_fault octets ≡ None
+unfolding journal
+has_head octets found long e =
+    let many : nat_lt (length octets) 33 ≡ false = le-ltb _ _ long in
+    head_same (head_fault octets) (found_from (version_in octets) (length octets) 31 octets) found (rw many at e)
 
 pub head_fails : (e : OpenFault) (octets : List ℕ) → 33 ≤ length octets → HasHead octets (Err e) → Fails e (journal octets)
 head_fails (NotAJournal place) octets le other = journal_other octets place le other

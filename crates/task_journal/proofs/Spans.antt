@@ -4,8 +4,9 @@ use Rattle.std.proofs.lemmas.List.{length-take, drop-drop, drop_all, drop-append
 use Rattle.std.proofs.Math.Seq.{take-add}
 use Rattle.cluster_types.specs.declared.entry.Entry.{Entry}
 use Rattle.edges.specs.declared.stop.Stop.TheVariants.{Short, Bad}
-use Rattle.record_codec.specs.Reading.{entry_at}
-use Rattle.record_codec.proofs.Extends.{entries as entry_extends}
+use Rattle.task_journal.specs.declared.version.Version.{Version}
+use Rattle.task_journal.specs.Versions.{entry_in}
+use Rattle.task_journal.proofs.Versions.{reads_on}
 use Rattle.task_journal.specs.declared.fault.OpenFault.{OpenFault}
 use Rattle.task_journal.specs.declared.fault.OpenFault.TheVariants.{Damaged, DiskFault, OutOfMemory}
 use Rattle.task_journal.specs.Journal.{record_at, Fails, IsOfDisk}
@@ -61,12 +62,12 @@ taken_shows w v end disk n shows le octets place =
     drop_whole n xs le = drop_all n xs le
 
 -- the record at the front of what was read is the one at the front of all
-pub record_found : (w v : Ready) (end : ℕ) (disk : List ℕ) (e : Entry) (n : ℕ) → Shows w end disk → n ≤ length w.octets → v.octets ≡ drop n w.octets → v.place ≡ w.place + n → entry_at w.octets ≡ Ok (e, drop n w.octets)
-    → record_at end (span w.place end disk) ≡ Ok (e, span v.place end disk)
+pub record_found : (version : Version) (w v : Ready) (end : ℕ) (disk : List ℕ) (e : Entry) (n : ℕ) → Shows w end disk → n ≤ length w.octets → v.octets ≡ drop n w.octets → v.place ≡ w.place + n → entry_in version w.octets ≡ Ok (e, drop n w.octets)
+    → record_at version end (span w.place end disk) ≡ Ok (e, span v.place end disk)
 unfolding record_at
-record_found w v end disk e n shows le octets place read =
+record_found version w v end disk e n shows le octets place read =
     let behind = span (w.place + length w.octets) end disk in
-    let whole : entry_at (span w.place end disk) ≡ Ok (e, drop n w.octets ++ behind) = ap entry_at (left_is w end disk shows) ∙ entry_extends.whole w.octets behind e (drop n w.octets) read in
+    let whole : entry_in version (span w.place end disk) ≡ Ok (e, drop n w.octets ++ behind) = ap (entry_in version) (left_is w end disk shows) ∙ (reads_on version).whole w.octets behind e (drop n w.octets) read in
     let later = taken_shows w v end disk n shows le octets place in
     let size : v.place + length v.octets ≡ w.place + length w.octets = omega (arith, ap length octets, length-drop n w.octets, place, le) in
     let rest : drop n w.octets ++ behind ≡ span v.place end disk =
@@ -74,19 +75,19 @@ record_found w v end disk e n shows le octets place read =
     rw (whole, rest) refl
 
 -- no record stands there, whatever comes behind what was read
-pub record_bad : (w : Ready) (end : ℕ) (disk : List ℕ) → Shows w end disk → entry_at w.octets ≡ Err Bad → record_at end (span w.place end disk) ≡ Err (Damaged w.place)
+pub record_bad : (version : Version) (w : Ready) (end : ℕ) (disk : List ℕ) → Shows w end disk → entry_in version w.octets ≡ Err Bad → record_at version end (span w.place end disk) ≡ Err (Damaged w.place)
 unfolding record_at
-record_bad w end disk shows read =
-    let whole : entry_at (span w.place end disk) ≡ Err Bad = ap entry_at (left_is w end disk shows) ∙ entry_extends.bad w.octets (span (w.place + length w.octets) end disk) read in
+record_bad version w end disk shows read =
+    let whole : entry_in version (span w.place end disk) ≡ Err Bad = ap (entry_in version) (left_is w end disk shows) ∙ (reads_on version).bad w.octets (span (w.place + length w.octets) end disk) read in
     rw (whole, place_is w end disk shows) refl
 
 -- the record is longer than the octets up to the end
-pub record_short : (w : Ready) (end : ℕ) (disk : List ℕ) (missing : ℕ) → Shows w end disk → entry_at w.octets ≡ Err (Short missing) → end - (w.place + length w.octets) < missing → record_at end (span w.place end disk) ≡ Err (Damaged w.place)
+pub record_short : (version : Version) (w : Ready) (end : ℕ) (disk : List ℕ) (missing : ℕ) → Shows w end disk → entry_in version w.octets ≡ Err (Short missing) → end - (w.place + length w.octets) < missing → record_at version end (span w.place end disk) ≡ Err (Damaged w.place)
 unfolding record_at
-record_short w end disk missing shows read lt =
+record_short version w end disk missing shows read lt =
     let behind = span (w.place + length w.octets) end disk in
     let few : length behind < missing = omega (arith, length-span (w.place + length w.octets) end disk shows.whole, lt) in
-    let whole : entry_at (span w.place end disk) ≡ Err (Short (missing - length behind)) = ap entry_at (left_is w end disk shows) ∙ entry_extends.short w.octets behind missing read few in
+    let whole : entry_in version (span w.place end disk) ≡ Err (Short (missing - length behind)) = ap (entry_in version) (left_is w end disk shows) ∙ (reads_on version).short w.octets behind missing read few in
     rw (whole, place_is w end disk shows) refl
 
 -- more octets are read

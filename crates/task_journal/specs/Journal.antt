@@ -3,13 +3,14 @@ use Rattle.std.specs.Prelude.{◌≡◌, ℕ, zero, suc, ◌+◌, ◌-◌, List,
 use Rattle.std.specs.Int.{w32, from_be_bytes}
 use Rattle.cluster_types.specs.declared.entry.Entry.{Entry}
 use Rattle.edges.specs.Reading.{Read}
-use Rattle.record_codec.specs.Reading.{entry_at}
 use Rattle.task_journal.specs.declared.fault.OpenFault.{OpenFault}
 use Rattle.task_journal.specs.declared.fault.OpenFault.TheVariants.{NotAJournal, Damaged, DiskFault, OutOfMemory}
 use Rattle.task_journal.specs.declared.found.Found.{Found}
 use Rattle.task_journal.specs.declared.gate.GateState.{GateState}
 use Rattle.task_journal.specs.declared.gate.GateState.TheVariants.{Missing, Closed, Short, Open}
 use Rattle.edges.specs.Difference.{difference}
+use Rattle.task_journal.specs.declared.version.Version.{Version}
+use Rattle.task_journal.specs.Versions.{version_in, as_second, entry_in}
 
 infixl 10 ◌>>=◌
 abbrev pub ◌>>=◌ : {A B : Type 0} → Result A OpenFault → (A → Result B OpenFault) → Result B OpenFault
@@ -32,18 +33,18 @@ record_of (Ok x) place = Ok x
 record_of (Err s) place = Err (Damaged place)
 
 -- the record at the front of octets that go on to an end
-unfoldable pub record_at : ℕ → List ℕ → Result (Entry × List ℕ) OpenFault
-record_at end octets = record_of (entry_at octets) (end - length octets)
+unfoldable pub record_at : Version → ℕ → List ℕ → Result (Entry × List ℕ) OpenFault
+record_at version end octets = record_of (entry_in version octets) (end - length octets)
 
 abbrev pub one : Entry → ℕ → Found
 one entry place = record { entries = entry ∷ []; places = place ∷ [] }
 
 -- so many records, and nothing after them
-unfoldable pub records_at : ℕ → ℕ → List ℕ → Result Found OpenFault
-records_at zero end octets = if length octets == 0 then Ok nothing else Err (Damaged (end - length octets))
-records_at (suc n) end octets = do
-  first ← record_at end octets
-  with_front (one first.0 (end - length octets)) (records_at n end first.1)
+unfoldable pub records_at : Version → ℕ → ℕ → List ℕ → Result Found OpenFault
+records_at version zero end octets = if length octets == 0 then Ok nothing else Err (Damaged (end - length octets))
+records_at version (suc n) end octets = do
+  first ← record_at version end octets
+  with_front (one first.0 (end - length octets)) (records_at version n end first.1)
 
 -- what the octets from a gate on begin with
 abbrev pub gate_in : List ℕ → GateState
@@ -54,23 +55,27 @@ gate_in (gate ∷ octets) =
 
 -- What is found from a gate on, where these octets stand behind it: behind an open one a pad, a length, a number, so
 -- many octets which are exactly that many records, and the next gate.
-abbrev pub from_gate : GateState → ℕ → List ℕ → (ℕ → Result Found OpenFault) → Result Found OpenFault
-from_gate Missing total octets next = Err (Damaged total)
-from_gate Closed total octets next = Ok (record { entries = []; places = (total - length octets - 1) ∷ [] })
-from_gate Short total octets next = Err (Damaged (total - length octets - 1))
-from_gate (Open len count) total octets next = do
-  found ← records_at count (total - length (drop (9 + len) octets)) (take len (drop 9 octets))
+abbrev pub from_gate : Version → GateState → ℕ → List ℕ → (ℕ → Result Found OpenFault) → Result Found OpenFault
+from_gate version Missing total octets next = Err (Damaged total)
+from_gate version Closed total octets next = Ok (record { entries = []; places = (total - length octets - 1) ∷ [] })
+from_gate version Short total octets next = Err (Damaged (total - length octets - 1))
+from_gate version (Open len count) total octets next = do
+  found ← records_at version count (total - length (drop (9 + len) octets)) (take len (drop 9 octets))
   with_front found (next (9 + len))
 
 -- what is found behind so many octets, up to the first closed gate, whose place stands last
-unfoldable pub found_from : ℕ → ℕ → List ℕ → Result Found OpenFault
-found_from total skip [] = Err (Damaged total)
-found_from total (suc skip) (x ∷ octets) = found_from total skip octets
-found_from total zero (gate ∷ octets) = from_gate (gate_in (gate ∷ octets)) total octets (λ skip. found_from total skip octets)
+unfoldable pub found_from : Version → ℕ → ℕ → List ℕ → Result Found OpenFault
+found_from version total skip [] = Err (Damaged total)
+found_from version total (suc skip) (x ∷ octets) = found_from version total skip octets
+found_from version total zero (gate ∷ octets) = from_gate version (gate_in (gate ∷ octets)) total octets (λ skip. found_from version total skip octets)
 
--- the name of the format, its version 1, and 19 zeros
+-- the name of the format, the number 1, the version octet of the second version, and 18 zeros
 abbrev pub head : List ℕ
-head = codes "IPCJRNL1" ++ 0 ∷ 0 ∷ 0 ∷ 1 ∷ replicate 19 0
+head = codes "IPCJRNL1" ++ 0 ∷ 0 ∷ 0 ∷ 1 ∷ 2 ∷ replicate 18 0
+
+-- where octets first differ from a head, but for the version octet
+abbrev pub head_fault : List ℕ → Option ℕ
+head_fault octets = difference 0 head (as_second octets)
 
 abbrev pub headed : Option ℕ → Result Found OpenFault → Result Found OpenFault
 headed None found = found
@@ -81,7 +86,7 @@ headed (Some place) found = Err (NotAJournal place)
 unfoldable pub journal : List ℕ → Result Found OpenFault
 journal octets =
     if nat_lt (length octets) 33 then Ok (record { entries = []; places = 0 ∷ [] })
-    else headed (difference 0 head octets) (found_from (length octets) 31 octets)
+    else headed (head_fault octets) (found_from (version_in octets) (length octets) 31 octets)
 
 -- the last item
 abbrev pub last_of : List ℕ → Option ℕ

@@ -1,3 +1,4 @@
+pub mod Versions
 pub mod Journal
 pub mod Reads
 pub mod Window

@@ -5,15 +5,26 @@ use Rattle.disk_model.specs.Crashes.{Only, NoMore}
 use Rattle.task_journal.specs.declared.fault.OpenFault.{OpenFault}
 use Rattle.task_journal.specs.declared.fault.OpenFault.TheVariants.{NotAJournal, Damaged, DiskFault, OutOfMemory}
 use Rattle.task_journal.specs.Journal.{StandsFor, IsSame, place_in, journal}
+use Rattle.task_journal.specs.declared.version.Version.{Version}
+use Rattle.task_journal.specs.declared.version.Version.TheVariants.{Second}
+use Rattle.task_journal.specs.Versions.{version_in}
 
 -- the disk of a journal, and whether a call of it has failed
 pub record Held (D : Type 0) : Type 0 where
   pub disk : D
   pub failed : Bool
 
--- the disk has a head, and this is its first closed gate
+-- a disk has the head of a journal of a version, and stands for some entries
+pub record IsJournal (version : Version) (octets : List ℕ) : Type 0 where
+  pub long : 33 ≤ length octets
+  pub is : version ≡ version_in octets
+  pub list : List Entry
+  pub stands : StandsFor octets list
+
+-- the disk has a head of the second version, and this is its first closed gate
 pub record IsSettled (octets : List ℕ) (gate : ℕ) : Type 0 where
   pub long : 33 ≤ length octets
+  pub second : version_in octets ≡ Second
   pub place : place_in (journal octets) ≡ Some gate
   pub room : gate + 1 < 2 ^ 64
 

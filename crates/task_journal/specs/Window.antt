@@ -2,8 +2,9 @@
 use Rattle.std.specs.Prelude.{◌≡◌, ℕ, ◌+◌, ◌-◌, ◌<◌, ◌≤◌, List, length, take, drop, Some, None, Result, Ok, Err}
 use Rattle.task_journal.specs.declared.fault.OpenFault.{OpenFault}
 use Rattle.task_journal.specs.declared.fault.OpenFault.TheVariants.{NotAJournal, Damaged, DiskFault, OutOfMemory}
-use Rattle.edges.specs.Difference.{difference}
-use Rattle.task_journal.specs.Journal.{head}
+use Rattle.task_journal.specs.declared.version.Version.{Version}
+use Rattle.task_journal.specs.Versions.{version_in}
+use Rattle.task_journal.specs.Journal.{head_fault}
 
 -- the octets, and the place of the first of them
 pub record Ready : Type 0 where
@@ -24,10 +25,10 @@ pub record Shows (ready : Ready) (end : ℕ) (disk : List ℕ) : Type 0 where
 abbrev pub Rises : ℕ → ℕ → ℕ → Type 0
 Rises gate size next = (gate < size) × (gate < next)
 
--- whether a disk has the head of a journal, as a call answered it
-abbrev pub HasHead : List ℕ → Result (Unit {0}) OpenFault → Type 0
-HasHead disk (Ok _) = difference 0 head disk ≡ None
-HasHead disk (Err (NotAJournal place)) = difference 0 head disk ≡ Some place
+-- the version of a disk that has the head of a journal, or where it has none, as a call answered it
+abbrev pub HasHead : List ℕ → Result Version OpenFault → Type 0
+HasHead disk (Ok version) = (head_fault disk ≡ None) × (version ≡ version_in disk)
+HasHead disk (Err (NotAJournal place)) = head_fault disk ≡ Some place
 HasHead disk (Err (Damaged place)) = ⊥
 HasHead disk (Err DiskFault) = Unit {0}
 HasHead disk (Err OutOfMemory) = Unit {0}

@@ -5,12 +5,14 @@ ghost use Rattle.cluster_types.specs.Causes.{Rose};
 ghost use Rattle.record_codec.specs.Spelling.{HasRecord};
 ghost use Rattle.task_journal.specs.Reads.{OnlyReads};
 ghost use Rattle.task_journal.specs.Window.{Rises};
+ghost use Rattle.task_journal.specs.declared.version.Version.{Version as VersionType};
 ghost use Rattle.task_journal.specs.Cursor.{Standing, IsOn, bound, Opens, Reaches, Takes, Advances, Begins};
 
 use crate::disk_calls::size_of;
 use crate::fault::OpenFault;
 use crate::gate::{GateState, gate_at};
-use crate::head::check_head;
+use crate::head::read_head;
+use crate::version::Version;
 use crate::window::{Window, next_record};
 use cluster_types::entry::Entry;
 use disk_model::disk::Disk;
@@ -33,7 +35,7 @@ struct Opened {
     next: u64,
 }
 
-/// The batch behind a gate. A closed gate gives none.
+/// The batch behind a gate, in each version. A closed gate gives none.
 fn open_gate<D: Disk>(
     disk: &mut D,
     window: &mut Window,
@@ -41,7 +43,7 @@ fn open_gate<D: Disk>(
     gate: u64,
 ) -> Result<Option<Opened>, OpenFault>
     requires { D.tells → size ≡ length (D.content disk.old) }
-    ensures value { D.tells → Opens size (D.content disk.old) gate result }
+    ensures value { D.tells → (version : VersionType) → Opens version size (D.content disk.old) gate result }
     ensures rises { IfOk result (λ o. IfSome o (λ b. Rises gate size b.next)) }
     ensures count { IfOk result (λ o. IfSome o (λ b. b.count < 2 ^ 32)) }
     ensures reads { OnlyReads D.content D.image D.moment D.image_since D.faults disk.old disk.new }
@@ -72,6 +74,7 @@ fn open_gate<D: Disk>(
 /// Where the reading of a journal stands.
 #[derive(Drop)]
 pub struct Cursor {
+    version: Version,
     window: Window,
     size: u64,
     left: u32,
@@ -85,7 +88,7 @@ impl Model for Cursor {
 
     ghost Value = { Standing };
 
-    ghost view = { λ c. record { ready = c.window; size = c.size; left = c.left; end = c.end; gate = c.gate; closed = c.closed } };
+    ghost view = { λ c. record { version = c.version; ready = c.window; size = c.size; left = c.left; end = c.end; gate = c.gate; closed = c.closed } };
 }
 
 impl Cursor {
@@ -100,6 +103,7 @@ impl Cursor {
         let mut window = Window::new(alloc);
         if size < 33 {
             return Ok(Cursor {
+                version: Version::Second,
                 window,
                 size,
                 left: 0,
@@ -108,9 +112,10 @@ impl Cursor {
                 closed: true,
             });
         }
-        check_head(disk)?;
+        let version = read_head(disk)?;
         window.restart(31);
         Ok(Cursor {
+            version,
             window,
             size,
             left: 0,
@@ -125,6 +130,13 @@ impl Cursor {
         ensures { result ≡ self.now.gate }
     {
         self.gate
+    }
+
+    /// The version of the journal, where the disk has a head.
+    pub fn version(&self) -> Version
+        ensures { result ≡ self.now.version }
+    {
+        self.version
     }
 
     /// Goes on to the next batch, behind the records of the one before. A closed gate has none behind it.
@@ -172,7 +184,7 @@ impl Cursor {
         ensures cause { IsErrOf result OpenFault.DiskFault → Rose (D.faults disk.old) (D.faults disk.new) }
     {
         let place = self.window.place();
-        let entry = next_record(alloc, disk, &mut self.window, self.end)?;
+        let entry = next_record(alloc, disk, self.version, &mut self.window, self.end)?;
         self.left -= 1;
         Ok(Placed { place, entry })
     }

@@ -11,4 +11,5 @@ mod head;
 pub mod journal;
 pub mod opening;
 pub mod reading;
+pub mod version;
 mod window;

@@ -2,15 +2,16 @@
 
 ghost use Rattle.std.specs.Prelude.{◌≡◌, ◌≤◌, ◌<◌, ◌+◌, ◌^◌, ◌++◌, [], length, take, drop, IfOk, IfErr, OnOk, IsErrOf};
 ghost use Rattle.edges.specs.Reading.{Gives as FieldGives};
-ghost use Rattle.record_codec.specs.Reading.{entry_at};
 ghost use Rattle.record_codec.specs.Spelling.{HasRecord};
 ghost use Rattle.cluster_types.specs.Causes.{Rose};
 ghost use Rattle.task_journal.specs.Reads.{OnlyReads};
 ghost use Rattle.task_journal.specs.Journal.{Gives, IsOfDisk, record_at};
+ghost use Rattle.task_journal.specs.Versions.{entry_in};
 ghost use Rattle.task_journal.specs.Window.{Ready, Shows, span};
 
 use crate::disk_calls::read_into;
 use crate::fault::OpenFault;
+use crate::version::Version;
 use cluster_types::entry::Entry;
 use disk_model::disk::Disk;
 use edges::stop::{ReadError, Stop};
@@ -126,33 +127,38 @@ fn read_behind<D: Disk>(
     read_into(disk, at, &mut octets[from..])
 }
 
-/// The record at the front, and the number of its octets.
-fn front_record(alloc: Global, octets: &[u8]) -> Result<(Entry, usize), ReadError>
-    ensures value { FieldGives (λ x. (x.0, drop x.1 octets.now)) result (entry_at octets.now) }
+/// The record of a version at the front, and the number of its octets.
+#[tactic(auto, unfolding(crate::specs::Versions::entry_in))]
+fn front_record(alloc: Global, version: Version, octets: &[u8]) -> Result<(Entry, usize), ReadError>
+    ensures value { FieldGives (λ x. (x.0, drop x.1 octets.now)) result (entry_in version octets.now) }
     ensures inside { IfOk result (λ x. x.1 ≤ length octets.now) }
     ensures has { IfOk result (λ x. HasRecord x.0) }
 {
     let (entry, rest) = read_front(alloc, octets)?;
+    if !version.knows(&entry) {
+        return Err(ReadError::Stop(Stop::Bad));
+    }
     Ok((entry, octets.len().saturating_sub(rest.len())))
 }
 
-/// The next record of a batch whose records end at a place.
+/// The next record of a batch whose records end at a place, as a version reads it.
 pub fn next_record<D: Disk>(
     alloc: Global,
     disk: &mut D,
+    version: Version,
     window: &mut Window,
     end: u64,
 ) -> Result<Entry, OpenFault>
     requires { D.tells → Shows window.old end (D.content disk.old) }
     ensures value { D.tells → Gives (λ e. (e, span window.new.place end (D.content disk.old))) result
-        (record_at end (span window.old.place end (D.content disk.old))) }
+        (record_at version end (span window.old.place end (D.content disk.old))) }
     ensures shows { D.tells → OnOk result (Shows window.new end (D.content disk.old)) }
     ensures has { IfOk result HasRecord }
     ensures reads { OnlyReads D.content D.image D.moment D.image_since D.faults disk.old disk.new }
     ensures cause { IsErrOf result OpenFault.DiskFault → Rose (D.faults disk.old) (D.faults disk.new) }
 {
     loop {
-        match front_record(alloc, window.octets()) {
+        match front_record(alloc, version, window.octets()) {
             Ok((entry, taken)) => {
                 window.take(taken);
                 return Ok(entry);

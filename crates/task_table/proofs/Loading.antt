@@ -12,7 +12,7 @@ use Rattle.place_sets.specs.Sets.{holds, holds_at, Covers}
 use Rattle.place_sets.proofs.Counting.{count_covered}
 use Rattle.place_sets.specs.Counts.{hits, one_at, count_of, greatest, AreAt, Moved}
 use Rattle.cluster_defs.specs.declared.attempt.Attempt.{Attempt}
-use Rattle.cluster_defs.specs.declared.attempt.Attempt.TheVariants.{Never, Running, EndedOk, EndedBadly, Lost, Declined}
+use Rattle.cluster_defs.specs.declared.attempt.Attempt.TheVariants.{Never, Running, EndedOk, EndedBadly, Lost, Declined, Withdrawn}
 use Rattle.cluster_defs.specs.Tasks.{runs, runs_at}
 use Rattle.cluster_defs.specs.Facts.{is_direct_id}
 use Rattle.task_table.specs.Seen.{Seen}
@@ -33,6 +33,7 @@ hits_as true true (EndedOk m) n = refl
 hits_as true true (EndedBadly m) n = refl
 hits_as true true (Lost m) n = refl
 hits_as true true (Declined m) n = refl
+hits_as true true (Withdrawn m) n = refl
 hits_as true false a n = and_false (runs_at n a)
   where
     and_false : (b : Bool) → (b && false) ≡ false

@@ -12,7 +12,7 @@ use Rattle.place_sets.proofs.Covering.{covers_grown, covers_at, covers_changed, 
 use Rattle.task_table.specs.declared.marks.Marks.{Marks}
 use Rattle.std.specs.Option.{is_some}
 use Rattle.cluster_defs.specs.declared.attempt.Attempt.{Attempt}
-use Rattle.cluster_defs.specs.declared.attempt.Attempt.TheVariants.{Never, Running, EndedOk, EndedBadly, Lost, Declined}
+use Rattle.cluster_defs.specs.declared.attempt.Attempt.TheVariants.{Never, Running, EndedOk, EndedBadly, Lost, Declined, Withdrawn}
 use Rattle.cluster_defs.specs.Tasks.{runs, runs_at, after_end, lost}
 use Rattle.task_table.specs.Seen.{Seen, place_in, attempted, ended_on, lost_all, on_unsettled}
 use Rattle.task_table.specs.Standing.{final_at, direct_at, runs_open}

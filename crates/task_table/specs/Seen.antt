@@ -7,7 +7,7 @@ use Rattle.cluster_types.specs.declared.record.Record.{Record}
 use Rattle.cluster_defs.specs.Words.{Id}
 use Rattle.cluster_defs.specs.declared.attempt.Ending.{Ending}
 use Rattle.cluster_defs.specs.declared.settled.Settled.{Settled}
-use Rattle.cluster_defs.specs.Tasks.{Task as TaskFacts, new_task, engine_of, runs, runs_at, handed, lost, after_end, took}
+use Rattle.cluster_defs.specs.Tasks.{Task as TaskFacts, new_task, engine_of, runs, runs_at, handed, lost, after_end, took, withdrawn}
 use Rattle.cluster_defs.specs.Requests.{Request as RequestFacts, Body as BodyFacts, is_direct}
 
 -- WHAT IS SEEN OF A TASK
@@ -50,6 +50,10 @@ lost_all t = if runs t.attempts.last then attempted (lost t.attempts.last t.atte
 -- once a valid reply came, with this header id
 abbrev pub replied_with : List ℕ → Ending → Message → Seen → Seen
 replied_with header how message t = record (attempted (took header how t.attempts.last t.attempts) t) { reply = Some message }
+
+-- once an abort took it back
+abbrev pub aborted_out : Seen → Seen
+aborted_out t = attempted (withdrawn t.attempts) t
 
 -- once it is settled, with this outcome
 abbrev pub settled_with : Settled → Option Message → Seen → Seen

@@ -2,7 +2,7 @@
 
 ghost use Rattle.std.specs.Prelude.{◌≡◌, ◌∷◌, ◌+◌, ◌^◌, ◌==◌, ◌&&◌, not, Some, None, IfOk, OnOk, OnErr, bytes_eq};
 ghost use Rattle.std.specs.List.{list_any};
-ghost use Rattle.cluster_defs.specs.Tasks.{new_task, runs, runs_at, is_never, engine_of, handed, lost, after_end, replied, took, has_heard};
+ghost use Rattle.cluster_defs.specs.Tasks.{new_task, runs, runs_at, is_never, engine_of, handed, lost, after_end, replied, took, has_heard, withdrawn};
 ghost use Rattle.cluster_defs.specs.declared.attempt.Attempt.{Attempt as AttemptType};
 
 use cluster_defs::attempt::{Attempt, Ending};
@@ -83,6 +83,7 @@ pub fn engine_of(attempt: Attempt) -> Option<u32>
         Attempt::EndedBadly { engine } => Some(engine),
         Attempt::Lost { engine } => Some(engine),
         Attempt::Declined { engine } => Some(engine),
+        Attempt::Withdrawn { engine } => engine,
     }
 }
 
@@ -125,6 +126,14 @@ impl Attempts {
             self.lose()?;
         }
         Ok(())
+    }
+
+    /// Takes the task back: a current attempt ends, and isn't spent.
+    pub fn withdraw(&mut self)
+        ensures { self.new ≡ withdrawn self.old }
+    {
+        let engine = engine_of(self.last);
+        self.last = Attempt::Withdrawn { engine };
     }
 
     /// Whether the current attempt's engine has given a valid reply with this header id before.

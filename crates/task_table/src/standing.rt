@@ -10,7 +10,8 @@ use crate::task::Task;
 use cluster_defs::attempt::Attempt;
 use cluster_types::verdict::{Cause, Verdict};
 
-/// The verdict and cause that the last attempt leads to, where no retry is left or one is.
+/// The verdict and cause that the last attempt leads to, where no retry is left or one is. What was taken back is aborted in
+/// either case.
 fn verdict_at(over: bool, attempt: Attempt) -> Option<(Verdict, Cause)>
     ensures { result ≡ verdict_at over attempt }
 {
@@ -18,6 +19,7 @@ fn verdict_at(over: bool, attempt: Attempt) -> Option<(Verdict, Cause)>
         Attempt::EndedOk { engine: _ } => Some((Verdict::Completed, Cause::Reply)),
         Attempt::EndedBadly { engine: _ } if over => Some((Verdict::Failed, Cause::Reply)),
         Attempt::Lost { engine: _ } if over => Some((Verdict::Failed, Cause::EngineError)),
+        Attempt::Withdrawn { engine: _ } => Some((Verdict::Aborted, Cause::Abort)),
         _ => None,
     }
 }

@@ -5,7 +5,7 @@ ghost use Rattle.std.specs.HashMap.{get_by_text};
 ghost use Rattle.std.specs.Option.{option_copied, option_and_then};
 ghost use Rattle.std.specs.Vec.{vec_len, vec_capacity};
 ghost use Rattle.place_sets.specs.Sets.{Apart, at_place, at_places};
-ghost use Rattle.task_table.specs.Seen.{handed_to, ended_on, lost_all, replied_with, settled_with, purged_out, seen_in, place_in, on_unsettled};
+ghost use Rattle.task_table.specs.Seen.{handed_to, ended_on, lost_all, replied_with, aborted_out, settled_with, purged_out, seen_in, place_in, on_unsettled};
 ghost use Rattle.cluster_defs.specs.Words.{or_else};
 ghost use Rattle.task_table.specs.Marking.{Aside};
 ghost use Rattle.task_table.specs.Places.{Alike, name, asking};
@@ -78,6 +78,17 @@ fn purge_at(tasks: &mut [Task], place: usize)
     if place < tasks.len() {
         let task = &mut tasks[place];
         task.purge();
+    }
+}
+
+fn abort_at(tasks: &mut [Task], place: usize)
+    ensures ok { tasks.new ≡ at_place aborted_out place tasks.old }
+    ensures same { Alike tasks.old tasks.new }
+    ensures apart { Apart place tasks.old tasks.new }
+{
+    if place < tasks.len() {
+        let task = &mut tasks[place];
+        task.abort();
     }
 }
 
@@ -291,6 +302,15 @@ impl Table {
         ensures apart { Apart place self.old self.new }
     {
         purge_at(&mut self.tasks, place);
+    }
+
+    /// Takes the task at a place back, for an abort.
+    pub fn abort_at(&mut self, place: usize)
+        ensures ok { self.new ≡ at_place aborted_out place self.old }
+        ensures same { Alike self.old self.new }
+        ensures apart { Apart place self.old self.new }
+    {
+        abort_at(&mut self.tasks, place);
     }
 
     /// Takes a valid reply to the task at a place, with its header id.

@@ -3,7 +3,7 @@
 ghost use Rattle.std.specs.Prelude.{◌≡◌, Some, None, IfOk, OnOk};
 ghost use Rattle.std.specs.Option.{option_copied};
 ghost use Rattle.cluster_types.specs.declared.record.Record.{Record as RecordType};
-ghost use Rattle.task_table.specs.Seen.{begun, attempted, handed_to, ended_on, lost_all, replied_with, settled_with, purged_out, on_unsettled};
+ghost use Rattle.task_table.specs.Seen.{begun, attempted, handed_to, ended_on, lost_all, replied_with, aborted_out, settled_with, purged_out, on_unsettled};
 ghost use Rattle.task_table.specs.Places.{IsSame};
 
 use crate::attempts::{Attempts, engine_of, runs, runs_at};
@@ -176,6 +176,14 @@ impl Task {
         self.note_attempts();
         self.reply = Some(reply);
         Ok(())
+    }
+
+    /// Takes it back for an abort: a current attempt ends, and isn't spent.
+    pub fn abort(&mut self)
+        ensures { self.new ≡ aborted_out self.old }
+    {
+        self.attempts.withdraw();
+        self.note_attempts();
     }
 
     /// Settles it.

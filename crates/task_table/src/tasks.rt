@@ -5,7 +5,7 @@ ghost use Rattle.std.specs.List.Sorted.{IsStrictlySortedBy};
 ghost use Rattle.std.specs.Option.{option_copied, option_and_then};
 ghost use Rattle.std.specs.Ordering.{nat_cmp};
 ghost use Rattle.place_sets.specs.Sets.{at_place};
-ghost use Rattle.task_table.specs.Seen.{handed_to, ended_on, lost_all, replied_with, settled_with, purged_out, seen_in, place_in, changed, on_unsettled};
+ghost use Rattle.task_table.specs.Seen.{handed_to, ended_on, lost_all, replied_with, aborted_out, settled_with, purged_out, seen_in, place_in, changed, on_unsettled};
 ghost use Rattle.task_table.specs.Marking.{Marked};
 ghost use Rattle.task_table.specs.Loading.{Counts, CountedAnew};
 ghost use Rattle.task_table.specs.Tallying.{AllTold};
@@ -136,6 +136,18 @@ fn purge_in(table: &mut Table, marks: &mut Marks, place: usize) -> Result<(), Al
 {
     mark(marks, place)?;
     table.purge_at(place);
+    tidy(table, marks, place);
+    Ok(())
+}
+
+fn abort_in(table: &mut Table, marks: &mut Marks, place: usize) -> Result<(), AllocError>
+    requires { Marked table.old marks.old }
+    ensures ok { OnOk result (table.new ≡ at_place aborted_out place table.old) }
+    ensures same { Alike table.old table.new }
+    ensures marked { Marked table.new marks.new }
+{
+    mark(marks, place)?;
+    table.abort_at(place);
     tidy(table, marks, place);
     Ok(())
 }
@@ -478,6 +490,24 @@ impl Tasks {
             let before = classes_at(&self.table, place);
             let kept = self.tallies.take();
             purge_in(&mut self.table, &mut self.marks, place)?;
+            follow(
+                &mut self.tallies,
+                kept,
+                before,
+                classes_at(&self.table, place),
+            )?;
+        }
+        Ok(())
+    }
+
+    /// Takes a task back, for an abort.
+    pub fn abort(&mut self, id: &Text) -> Result<(), AllocError>
+        ensures { OnOk result (self.new ≡ changed id.now aborted_out self.old) }
+    {
+        if let Some(place) = self.table.place_of(id) {
+            let before = classes_at(&self.table, place);
+            let kept = self.tallies.take();
+            abort_in(&mut self.table, &mut self.marks, place)?;
             follow(
                 &mut self.tallies,
                 kept,

@@ -56,6 +56,9 @@ const HAND: [u8; 8] = [0x07, 0x02, 0x74, 0x31, 0x00, 0x00, 0x00, 0x00];
 /// A task is settled that waited past its timeout.
 const SETTLE: [u8; 6] = [0x08, 0x02, 0xc3, 0xa9, 0x02, 0x04];
 
+/// A task is settled that a client took back.
+const ABORTED: [u8; 5] = [0x08, 0x01, 0x61, 0x03, 0x05];
+
 /// The greatest engine number is lost.
 const LOSE: [u8; 5] = [0x09, 0xff, 0xff, 0xff, 0xff];
 
@@ -119,6 +122,7 @@ fn each_kind_is_read_and_written(rt: HostRuntime) {
         TIME.as_slice(),
         HAND.as_slice(),
         SETTLE.as_slice(),
+        ABORTED.as_slice(),
         LOSE.as_slice(),
     ] {
         assert!(rt;
@@ -180,7 +184,8 @@ const NONE: &[&[u8]] = &[
     &[7, 0, 0, 0, 0, 0],
     &[7, 1, 0xc3, 0, 0, 0, 0],
     &[8, 1, 0x74, 0, 0],
-    &[8, 1, 0x74, 1, 5],
+    &[8, 1, 0x74, 4, 5],
+    &[8, 1, 0x74, 3, 6],
 ];
 
 #[test]

@@ -18,7 +18,7 @@ use Rattle.cluster_types.specs.declared.event.Query.TheVariants.{Queue, Bad}
 use Rattle.cluster_types.specs.declared.out.Out.TheVariants.{Pass, Made}
 use Rattle.cluster_types.specs.declared.entry.Input.TheVariants.{Open, Up, Down, In, Beat, Time}
 use Rattle.cluster_types.specs.declared.entry.Entry.TheVariants.{Input, Hand, Settle, Lose}
-use Rattle.cluster_defs.specs.Event.{event_of, is_request, is_reply, is_leave}
+use Rattle.cluster_defs.specs.Event.{event_of, is_db, is_request, is_reply, is_leave}
 use Rattle.cluster_defs.specs.Points.{whole_timeouts, ends_in_name}
 use Rattle.cluster_defs.specs.Submit.{read_submit}
 use Rattle.cluster_defs.specs.Reply.{read_task, read_declined, read_status}
@@ -133,7 +133,7 @@ drawn_31 =
     ∷ []
 
 pub drawn_31_is_told : IsTold drawn_31
-unfolding digits escape_byte reserved_front next_word answer_id beat_id beat_request outcome_id resubmit_id header_text reply_type submit_refused empty_object ok_content join_content beat_content error_content outcome_content resubmit_content connection_content history_content queue_member queue_content settled_member result_content engine_lost_text date_of day_text time_text date_digits civil_date from_year from_month encode_with serde_json_on_literals is_utf8 chars event_of read_header is_request is_reply is_leave read_submit whole_timeouts ends_in_name request_of read_content read_task read_declined read_status
+unfolding digits escape_byte reserved_front next_word answer_id beat_id beat_request outcome_id resubmit_id header_text reply_type submit_refused empty_object ok_content join_content beat_content error_content outcome_content resubmit_content connection_content history_content queue_member queue_content settled_member result_content engine_lost_text date_of day_text time_text date_digits civil_date from_year from_month encode_with serde_json_on_literals is_utf8 chars event_of read_header is_request is_reply is_leave read_submit whole_timeouts ends_in_name is_db request_of read_content read_task read_declined read_status
 drawn_31_is_told = record { goes = refl; reads = refl; rests = refl }
 
 pub drawn_31_legal : Legal (goes_on [] drawn_31)
@@ -238,7 +238,7 @@ drawn_32 =
     ∷ []
 
 pub drawn_32_is_told : IsTold drawn_32
-unfolding digits escape_byte reserved_front next_word answer_id beat_id beat_request outcome_id resubmit_id header_text reply_type submit_refused empty_object ok_content join_content beat_content error_content outcome_content resubmit_content connection_content history_content queue_member queue_content settled_member result_content engine_lost_text date_of day_text time_text date_digits civil_date from_year from_month encode_with serde_json_on_literals is_utf8 chars event_of read_header is_request is_reply is_leave read_submit whole_timeouts ends_in_name request_of read_content read_task read_declined read_status
+unfolding digits escape_byte reserved_front next_word answer_id beat_id beat_request outcome_id resubmit_id header_text reply_type submit_refused empty_object ok_content join_content beat_content error_content outcome_content resubmit_content connection_content history_content queue_member queue_content settled_member result_content engine_lost_text date_of day_text time_text date_digits civil_date from_year from_month encode_with serde_json_on_literals is_utf8 chars event_of read_header is_request is_reply is_leave read_submit whole_timeouts ends_in_name is_db request_of read_content read_task read_declined read_status
 drawn_32_is_told = record { goes = refl; reads = refl; rests = refl }
 
 pub drawn_32_legal : Legal (goes_on [] drawn_32)
@@ -342,7 +342,7 @@ drawn_33 =
     ∷ []
 
 pub drawn_33_is_told : IsTold drawn_33
-unfolding digits escape_byte reserved_front next_word answer_id beat_id beat_request outcome_id resubmit_id header_text reply_type submit_refused empty_object ok_content join_content beat_content error_content outcome_content resubmit_content connection_content history_content queue_member queue_content settled_member result_content engine_lost_text date_of day_text time_text date_digits civil_date from_year from_month encode_with serde_json_on_literals is_utf8 chars event_of read_header is_request is_reply is_leave read_submit whole_timeouts ends_in_name request_of read_content read_task read_declined read_status
+unfolding digits escape_byte reserved_front next_word answer_id beat_id beat_request outcome_id resubmit_id header_text reply_type submit_refused empty_object ok_content join_content beat_content error_content outcome_content resubmit_content connection_content history_content queue_member queue_content settled_member result_content engine_lost_text date_of day_text time_text date_digits civil_date from_year from_month encode_with serde_json_on_literals is_utf8 chars event_of read_header is_request is_reply is_leave read_submit whole_timeouts ends_in_name is_db request_of read_content read_task read_declined read_status
 drawn_33_is_told = record { goes = refl; reads = refl; rests = refl }
 
 pub drawn_33_legal : Legal (goes_on [] drawn_33)
@@ -400,7 +400,7 @@ drawn_34 =
     ∷ []
 
 pub drawn_34_is_told : IsTold drawn_34
-unfolding digits escape_byte reserved_front next_word answer_id beat_id beat_request outcome_id resubmit_id header_text reply_type submit_refused empty_object ok_content join_content beat_content error_content outcome_content resubmit_content connection_content history_content queue_member queue_content settled_member result_content engine_lost_text date_of day_text time_text date_digits civil_date from_year from_month encode_with serde_json_on_literals is_utf8 chars event_of read_header is_request is_reply is_leave read_submit whole_timeouts ends_in_name request_of read_content read_task read_declined read_status
+unfolding digits escape_byte reserved_front next_word answer_id beat_id beat_request outcome_id resubmit_id header_text reply_type submit_refused empty_object ok_content join_content beat_content error_content outcome_content resubmit_content connection_content history_content queue_member queue_content settled_member result_content engine_lost_text date_of day_text time_text date_digits civil_date from_year from_month encode_with serde_json_on_literals is_utf8 chars event_of read_header is_request is_reply is_leave read_submit whole_timeouts ends_in_name is_db request_of read_content read_task read_declined read_status
 drawn_34_is_told = record { goes = refl; reads = refl; rests = refl }
 
 pub drawn_34_legal : Legal (goes_on [] drawn_34)
@@ -454,7 +454,7 @@ drawn_35 =
     ∷ []
 
 pub drawn_35_is_told : IsTold drawn_35
-unfolding digits escape_byte reserved_front next_word answer_id beat_id beat_request outcome_id resubmit_id header_text reply_type submit_refused empty_object ok_content join_content beat_content error_content outcome_content resubmit_content connection_content history_content queue_member queue_content settled_member result_content engine_lost_text date_of day_text time_text date_digits civil_date from_year from_month encode_with serde_json_on_literals is_utf8 chars event_of read_header is_request is_reply is_leave read_submit whole_timeouts ends_in_name request_of read_content read_task read_declined read_status
+unfolding digits escape_byte reserved_front next_word answer_id beat_id beat_request outcome_id resubmit_id header_text reply_type submit_refused empty_object ok_content join_content beat_content error_content outcome_content resubmit_content connection_content history_content queue_member queue_content settled_member result_content engine_lost_text date_of day_text time_text date_digits civil_date from_year from_month encode_with serde_json_on_literals is_utf8 chars event_of read_header is_request is_reply is_leave read_submit whole_timeouts ends_in_name is_db request_of read_content read_task read_declined read_status
 drawn_35_is_told = record { goes = refl; reads = refl; rests = refl }
 
 pub drawn_35_legal : Legal (goes_on [] drawn_35)
@@ -570,7 +570,7 @@ drawn_36 =
     ∷ []
 
 pub drawn_36_is_told : IsTold drawn_36
-unfolding digits escape_byte reserved_front next_word answer_id beat_id beat_request outcome_id resubmit_id header_text reply_type submit_refused empty_object ok_content join_content beat_content error_content outcome_content resubmit_content connection_content history_content queue_member queue_content settled_member result_content engine_lost_text date_of day_text time_text date_digits civil_date from_year from_month encode_with serde_json_on_literals is_utf8 chars event_of read_header is_request is_reply is_leave read_submit whole_timeouts ends_in_name request_of read_content read_task read_declined read_status
+unfolding digits escape_byte reserved_front next_word answer_id beat_id beat_request outcome_id resubmit_id header_text reply_type submit_refused empty_object ok_content join_content beat_content error_content outcome_content resubmit_content connection_content history_content queue_member queue_content settled_member result_content engine_lost_text date_of day_text time_text date_digits civil_date from_year from_month encode_with serde_json_on_literals is_utf8 chars event_of read_header is_request is_reply is_leave read_submit whole_timeouts ends_in_name is_db request_of read_content read_task read_declined read_status
 drawn_36_is_told = record { goes = refl; reads = refl; rests = refl }
 
 pub drawn_36_legal : Legal (goes_on [] drawn_36)

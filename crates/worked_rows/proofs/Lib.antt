@@ -4,6 +4,7 @@ mod Drawn3
 mod Drawn4
 mod Drawn5
 mod Drawn6
+mod RowsOfAborts
 mod RowsOfDependencies
 mod RowsOfPicks
 mod RowsOfRequests

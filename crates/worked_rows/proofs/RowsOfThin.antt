@@ -11,7 +11,7 @@ use Rattle.cluster_types.specs.declared.verdict.Cause.TheVariants.{Reply as ByRe
 use Rattle.cluster_types.specs.declared.message.Message.{Message}
 use Rattle.cluster_types.specs.declared.entry.Input.TheVariants.{Open, Up, Down, In, Beat, Time}
 use Rattle.cluster_types.specs.declared.entry.Entry.TheVariants.{Input, Hand, Settle}
-use Rattle.cluster_defs.specs.Event.{event_of, is_request, is_reply, is_leave}
+use Rattle.cluster_defs.specs.Event.{event_of, is_db, is_request, is_reply, is_leave}
 use Rattle.cluster_defs.specs.Points.{whole_timeouts, ends_in_name}
 use Rattle.cluster_defs.specs.Submit.{read_submit}
 use Rattle.cluster_defs.specs.Reply.{read_task, read_declined, read_status}
@@ -95,11 +95,11 @@ thin_row_left =
     ∷ []
 
 pub thin_row_kept : kept thin_row ≡ thin_row
-unfolding serde_json_on_literals is_utf8 chars event_of read_header is_request is_reply is_leave read_submit whole_timeouts ends_in_name request_of read_content read_task read_declined read_status reserved_front resubmit_id digits
+unfolding serde_json_on_literals is_utf8 chars event_of read_header is_request is_reply is_leave read_submit whole_timeouts ends_in_name is_db request_of read_content read_task read_declined read_status reserved_front resubmit_id digits
 thin_row_kept = refl
 
 pub thin_row_thin : thin thin_row ≡ thin_row_left
-unfolding serde_json_on_literals is_utf8 chars event_of read_header is_request is_reply is_leave read_submit whole_timeouts ends_in_name request_of read_content read_task read_declined read_status reserved_front resubmit_id digits no_content short_reply
+unfolding serde_json_on_literals is_utf8 chars event_of read_header is_request is_reply is_leave read_submit whole_timeouts ends_in_name is_db request_of read_content read_task read_declined read_status reserved_front resubmit_id digits no_content short_reply
 thin_row_thin = refl
 
 abbrev thin_6_m0 : Message
@@ -199,11 +199,11 @@ thin_6_left =
     ∷ []
 
 pub thin_6_kept : kept thin_6 ≡ thin_6
-unfolding serde_json_on_literals is_utf8 chars event_of read_header is_request is_reply is_leave read_submit whole_timeouts ends_in_name request_of read_content read_task read_declined read_status reserved_front resubmit_id digits
+unfolding serde_json_on_literals is_utf8 chars event_of read_header is_request is_reply is_leave read_submit whole_timeouts ends_in_name is_db request_of read_content read_task read_declined read_status reserved_front resubmit_id digits
 thin_6_kept = refl
 
 pub thin_6_thin : thin thin_6 ≡ thin_6_left
-unfolding serde_json_on_literals is_utf8 chars event_of read_header is_request is_reply is_leave read_submit whole_timeouts ends_in_name request_of read_content read_task read_declined read_status reserved_front resubmit_id digits no_content short_reply
+unfolding serde_json_on_literals is_utf8 chars event_of read_header is_request is_reply is_leave read_submit whole_timeouts ends_in_name is_db request_of read_content read_task read_declined read_status reserved_front resubmit_id digits no_content short_reply
 thin_6_thin = refl
 
 abbrev thin_22_m0 : Message
@@ -277,11 +277,11 @@ thin_22_left =
     ∷ []
 
 pub thin_22_kept : kept thin_22 ≡ thin_22
-unfolding serde_json_on_literals is_utf8 chars event_of read_header is_request is_reply is_leave read_submit whole_timeouts ends_in_name request_of read_content read_task read_declined read_status reserved_front resubmit_id digits
+unfolding serde_json_on_literals is_utf8 chars event_of read_header is_request is_reply is_leave read_submit whole_timeouts ends_in_name is_db request_of read_content read_task read_declined read_status reserved_front resubmit_id digits
 thin_22_kept = refl
 
 pub thin_22_thin : thin thin_22 ≡ thin_22_left
-unfolding serde_json_on_literals is_utf8 chars event_of read_header is_request is_reply is_leave read_submit whole_timeouts ends_in_name request_of read_content read_task read_declined read_status reserved_front resubmit_id digits no_content short_reply
+unfolding serde_json_on_literals is_utf8 chars event_of read_header is_request is_reply is_leave read_submit whole_timeouts ends_in_name is_db request_of read_content read_task read_declined read_status reserved_front resubmit_id digits no_content short_reply
 thin_22_thin = refl
 
 abbrev thin_25_m0 : Message
@@ -383,11 +383,11 @@ thin_25_left =
     ∷ []
 
 pub thin_25_kept : kept thin_25 ≡ thin_25
-unfolding serde_json_on_literals is_utf8 chars event_of read_header is_request is_reply is_leave read_submit whole_timeouts ends_in_name request_of read_content read_task read_declined read_status reserved_front resubmit_id digits
+unfolding serde_json_on_literals is_utf8 chars event_of read_header is_request is_reply is_leave read_submit whole_timeouts ends_in_name is_db request_of read_content read_task read_declined read_status reserved_front resubmit_id digits
 thin_25_kept = refl
 
 pub thin_25_thin : thin thin_25 ≡ thin_25_left
-unfolding serde_json_on_literals is_utf8 chars event_of read_header is_request is_reply is_leave read_submit whole_timeouts ends_in_name request_of read_content read_task read_declined read_status reserved_front resubmit_id digits no_content short_reply
+unfolding serde_json_on_literals is_utf8 chars event_of read_header is_request is_reply is_leave read_submit whole_timeouts ends_in_name is_db request_of read_content read_task read_declined read_status reserved_front resubmit_id digits no_content short_reply
 thin_25_thin = refl
 
 abbrev thin_27_m0 : Message
@@ -525,11 +525,11 @@ thin_27_left =
     ∷ []
 
 pub thin_27_kept : kept thin_27 ≡ thin_27
-unfolding serde_json_on_literals is_utf8 chars event_of read_header is_request is_reply is_leave read_submit whole_timeouts ends_in_name request_of read_content read_task read_declined read_status reserved_front resubmit_id digits
+unfolding serde_json_on_literals is_utf8 chars event_of read_header is_request is_reply is_leave read_submit whole_timeouts ends_in_name is_db request_of read_content read_task read_declined read_status reserved_front resubmit_id digits
 thin_27_kept = refl
 
 pub thin_27_thin : thin thin_27 ≡ thin_27_left
-unfolding serde_json_on_literals is_utf8 chars event_of read_header is_request is_reply is_leave read_submit whole_timeouts ends_in_name request_of read_content read_task read_declined read_status reserved_front resubmit_id digits no_content short_reply
+unfolding serde_json_on_literals is_utf8 chars event_of read_header is_request is_reply is_leave read_submit whole_timeouts ends_in_name is_db request_of read_content read_task read_declined read_status reserved_front resubmit_id digits no_content short_reply
 thin_27_thin = refl
 
 abbrev thin_29_m0 : Message
@@ -649,11 +649,11 @@ thin_29_left =
     ∷ []
 
 pub thin_29_kept : kept thin_29 ≡ thin_29
-unfolding serde_json_on_literals is_utf8 chars event_of read_header is_request is_reply is_leave read_submit whole_timeouts ends_in_name request_of read_content read_task read_declined read_status reserved_front resubmit_id digits
+unfolding serde_json_on_literals is_utf8 chars event_of read_header is_request is_reply is_leave read_submit whole_timeouts ends_in_name is_db request_of read_content read_task read_declined read_status reserved_front resubmit_id digits
 thin_29_kept = refl
 
 pub thin_29_thin : thin thin_29 ≡ thin_29_left
-unfolding serde_json_on_literals is_utf8 chars event_of read_header is_request is_reply is_leave read_submit whole_timeouts ends_in_name request_of read_content read_task read_declined read_status reserved_front resubmit_id digits no_content short_reply
+unfolding serde_json_on_literals is_utf8 chars event_of read_header is_request is_reply is_leave read_submit whole_timeouts ends_in_name is_db request_of read_content read_task read_declined read_status reserved_front resubmit_id digits no_content short_reply
 thin_29_thin = refl
 
 abbrev thin_31_m0 : Message
@@ -789,9 +789,9 @@ thin_31_left =
     ∷ []
 
 pub thin_31_kept : kept thin_31 ≡ thin_31
-unfolding serde_json_on_literals is_utf8 chars event_of read_header is_request is_reply is_leave read_submit whole_timeouts ends_in_name request_of read_content read_task read_declined read_status reserved_front resubmit_id digits
+unfolding serde_json_on_literals is_utf8 chars event_of read_header is_request is_reply is_leave read_submit whole_timeouts ends_in_name is_db request_of read_content read_task read_declined read_status reserved_front resubmit_id digits
 thin_31_kept = refl
 
 pub thin_31_thin : thin thin_31 ≡ thin_31_left
-unfolding serde_json_on_literals is_utf8 chars event_of read_header is_request is_reply is_leave read_submit whole_timeouts ends_in_name request_of read_content read_task read_declined read_status reserved_front resubmit_id digits no_content short_reply
+unfolding serde_json_on_literals is_utf8 chars event_of read_header is_request is_reply is_leave read_submit whole_timeouts ends_in_name is_db request_of read_content read_task read_declined read_status reserved_front resubmit_id digits no_content short_reply
 thin_31_thin = refl

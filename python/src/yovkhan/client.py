@@ -19,7 +19,7 @@ from .caches import MetadataOf, Results
 from .channels import MUX, TASK, Channel
 from .dependency import ids_of
 from .executor import ViewExecutor
-from .hub import Hub, Unknown
+from .hub import ASKED_AT_ONCE, Hub
 from .link import Loop, log
 from .parts import Gathering
 from .polling import Poller
@@ -103,8 +103,6 @@ class Client:
         self._was_up = False
         self._down_since: Optional[float] = None
         self._restart_at: Optional[float] = None
-        self._has_abort: Optional[bool] = None
-        self._has_query: Optional[bool] = None
 
     def _run(self) -> None:
         self._thread = threading.Thread(target=self._loop.run, name="yovkhan-links", daemon=True)
@@ -680,18 +678,8 @@ class Client:
 
     def _ids_for(self, query_: Dict[str, Any]) -> Tuple[List[str], List[str]]:
         """The ids that a query may be about, in the order of submission, and those among them that have ended."""
-        if self._has_query is not False:
-            try:
-                asked = {"query": query.of_ids(query_), "keys": ["msg_id", "state"]}
-                records = self._ask("db_request", asked).content["records"]
-                self._has_query = True
-                return [it["msg_id"] for it in records], [it["msg_id"] for it in records if it["state"] not in ("pending", "running")]
-            except Unknown:
-                self._has_query = False
-        ids = query.named(query_, self.hub_history())
-        ended: "Future[List[str]]" = Future()
-        self._hub.statuses(ids, lambda _pending, completed, _unknown: ended.set_result(completed))
-        return ids, ended.result()
+        records = self._ask("db_request", {"query": query.of_ids(query_), "keys": ["msg_id", "state"]}).content["records"]
+        return [it["msg_id"] for it in records], [it["msg_id"] for it in records if it["state"] not in ("pending", "running")]
 
     def outcomes(self, ids: Sequence[str]) -> Dict[str, Outcome]:
         """The outcomes of ids that have ended, as they came."""
@@ -734,17 +722,16 @@ class Client:
         return self._blocked(self._control("abort_request", targets, "abort", msg_ids=msg_ids), block)
 
     def _abort_waiting(self, msg_ids: List[str]) -> None:
-        """Aborts what waits in the controller, where it knows how."""
-        if self._has_abort is False or not msg_ids:
-            return
-        try:
-            waiting = set(self.queue_status(verbose=True)["unassigned"])
-            self._ask("abort_request", {"msg_ids": [it for it in msg_ids if it in waiting]})
-            self._has_abort = True
-        except Unknown:
-            self._has_abort = False
-        except error.RemoteError as failure:  # one was purged meanwhile, or there are too many
-            log.debug("the controller aborted nothing: %s", failure)
+        """Aborts what waits in the controller."""
+        for start in range(0, len(msg_ids), ASKED_AT_ONCE):
+            asked = {"msg_id": {"$in": msg_ids[start:start + ASKED_AT_ONCE]}, "state": "pending"}
+            waiting = self._ask("db_request", {"query": asked, "keys": ["msg_id"]}).content["records"]
+            if not waiting:
+                continue
+            try:
+                self._ask("abort_request", {"msg_ids": [it["msg_id"] for it in waiting]})
+            except error.RemoteError as failure:  # one was purged meanwhile
+                log.debug("the controller aborted nothing: %s", failure)
 
     def send_signal(self, sig: Any, targets: Any = None, block: Optional[bool] = None) -> AsyncResult:
         """Sends a signal, by number or name, to the processes that run functions. SIGINT is a KeyboardInterrupt there."""

@@ -19,10 +19,6 @@ FETCHED_AT_ONCE = 256
 """So many results at most are fetched by one question."""
 
 
-class Unknown(Exception):
-    """The hub knows no request of this type."""
-
-
 class _Question:
     __slots__ = ("frames", "repeats", "answer")
 
@@ -38,8 +34,6 @@ def refusal(message: Message) -> Optional[BaseException]:
         return None
     ename, evalue = str(content.get("ename")), str(content.get("evalue"))
     ids = [it for it in content.get("ids", []) if isinstance(it, str)]
-    if ename == "UnknownRequest":
-        return Unknown(evalue)
     if ename == "NoSuchEngine":
         return IndexError(f"there is no engine {evalue}")
     if ename == "BadContent":

@@ -58,15 +58,6 @@ def of_ids(query: Dict[str, Any]) -> Dict[str, Any]:
     return {}
 
 
-def named(query: Dict[str, Any], ids: Sequence[str]) -> List[str]:
-    """The ids that may match: fewer where the query names some."""
-    wanted = of_ids(query).get("msg_id")
-    if wanted is None:
-        return list(ids)
-    names = {wanted} if isinstance(wanted, str) else set(wanted["$in"])
-    return [it for it in ids if it in names]
-
-
 def record_of(msg_id: str, outcome: Optional[Outcome]) -> Dict[str, Any]:
     """All that is known of a request, ended or not."""
     if outcome is None:

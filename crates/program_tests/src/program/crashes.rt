@@ -174,6 +174,58 @@ fn a_used_disk_fails_at_each_call(rt: HostRuntime) {
     }
 }
 
+/// These octets as a journal of the first version, with this version octet.
+fn old_journal<R: Abort>(rt: &R, alloc: Global, content: &[u8], octet: u8) -> Vec<u8> {
+    let mut octets = Vec::from_slice(alloc, content).expect(rt, "memory is ample");
+    if let Some(it) = octets.get_mut(12) {
+        *it = octet;
+    }
+    octets
+}
+
+/// Lets a run over an old disk fail at each call, of which there are two more than over the same disk in the second version.
+fn fails_at_each_call<R: Abort>(rt: &R, alloc: Global, whole: &Whole, content: &[u8], octet: u8) {
+    let old = old_journal(rt, alloc, content, octet);
+    let calls = calls_of(rt, alloc, TAPE, old.as_slice());
+    assert_eq!(rt; calls, calls_of(rt, alloc, TAPE, content).saturating_add(2));
+    for before in 0..calls {
+        assert_eq!(rt;
+            crash(rt, alloc, whole, old.as_slice(), before + 1),
+            (5, true, true, 0, 0, 1),
+            "after {before}"
+        );
+    }
+}
+
+/// A journal without entries.
+const EMPTY: &[u8] = b"IPCJRNL1\0\0\0\x01\x02\0\0\0\0\0\0\0\0\0\0\0\0\0\0\0\0\0\0\0\0";
+
+#[test]
+fn an_old_disk_fails_at_each_call(rt: HostRuntime) {
+    let alloc = rt.alloc();
+    fails_at_each_call(&rt, alloc, FRESH, EMPTY, 0);
+    let used = served(&rt, alloc, OTHER, b"");
+    fails_at_each_call(&rt, alloc, USED, used.as_slice(), 0);
+}
+
+/// What a migration cut short may leave is an old disk with any version octet.
+#[test]
+fn a_torn_version_octet_is_read_over(rt: HostRuntime) {
+    let alloc = rt.alloc();
+    let used = served(&rt, alloc, OTHER, b"");
+    for octet in [0, 1, 2, 3, 0xa7, 0xff] {
+        let torn = old_journal(&rt, alloc, used.as_slice(), octet);
+        assert_eq!(rt;
+            ends_whole(&rt, alloc, USED, torn.as_slice()),
+            (0, true, true),
+            "with {octet}"
+        );
+        let opened = served(&rt, alloc, b"", torn.as_slice());
+        let again = served(&rt, alloc, b"", used.as_slice());
+        assert!(rt; opened.as_slice() == again.as_slice());
+    }
+}
+
 /// Whether a tape over this content sends what is to be sent, and leaves the entries that it is to leave.
 fn ends_whole<R: Abort>(rt: &R, alloc: Global, whole: &Whole, content: &[u8]) -> (u8, bool, bool) {
     let left = left_by(rt, alloc, TAPE, content);

@@ -6,7 +6,7 @@ use std::process::Abort;
 
 /// A journal of one Open under the default options.
 const ONE_OPEN: &[u8] = b"\
-    IPCJRNL1\0\0\0\x01\0\0\0\0\0\0\0\0\0\0\0\0\0\0\0\0\0\0\0\
+    IPCJRNL1\0\0\0\x01\x02\0\0\0\0\0\0\0\0\0\0\0\0\0\0\0\0\0\0\
     \xa7\0\0\0\0\x12\0\0\0\x01\x01\0\0\0\0\0\0\0\0\x01\0\0\0\x01\0\0\0\n\
     \0\
     ";
@@ -16,7 +16,7 @@ const OPEN_TEXT: &[u8] = b"open 0 leastload 1 10\n";
 
 /// The same journal, whose last gate is closed by another octet, and a hundred octets that stand behind it.
 const CLOSED: &[u8] = b"\
-    IPCJRNL1\0\0\0\x01\0\0\0\0\0\0\0\0\0\0\0\0\0\0\0\0\0\0\0\
+    IPCJRNL1\0\0\0\x01\x02\0\0\0\0\0\0\0\0\0\0\0\0\0\0\0\0\0\0\
     \xa7\0\0\0\0\x12\0\0\0\x01\x01\0\0\0\0\0\0\0\0\x01\0\0\0\x01\0\0\0\n\
     701234567890123456789012345678901234567890123456789012345678901234567890123456789012345678901234\
     56789\
@@ -24,15 +24,82 @@ const CLOSED: &[u8] = b"\
 
 /// The same journal with a record of no kind, which stands at 41.
 const NO_RECORD: &[u8] = b"\
-    IPCJRNL1\0\0\0\x01\0\0\0\0\0\0\0\0\0\0\0\0\0\0\0\0\0\0\0\
+    IPCJRNL1\0\0\0\x01\x02\0\0\0\0\0\0\0\0\0\0\0\0\0\0\0\0\0\0\
     \xa7\0\0\0\0\x12\0\0\0\x01\x0f\0\0\0\0\0\0\0\0\x01\0\0\0\x01\0\0\0\n\
     \0\
     ";
 
 /// The same octets but the last one of the first eight.
 const NO_JOURNAL: &[u8] = b"\
-    IPCJRNL2\0\0\0\x01\0\0\0\0\0\0\0\0\0\0\0\0\0\0\0\0\0\0\0\
+    IPCJRNL2\0\0\0\x01\x02\0\0\0\0\0\0\0\0\0\0\0\0\0\0\0\0\0\0\
     \xa7\0\0\0\0\x12\0\0\0\x01\x01\0\0\0\0\0\0\0\0\x01\0\0\0\x01\0\0\0\n\
+    \0\
+    ";
+
+/// The journal of one Open in the first version.
+const OLD_OPEN: &[u8] = b"\
+    IPCJRNL1\0\0\0\x01\0\0\0\0\0\0\0\0\0\0\0\0\0\0\0\0\0\0\0\
+    \xa7\0\0\0\0\x12\0\0\0\x01\x01\0\0\0\0\0\0\0\0\x01\0\0\0\x01\0\0\0\n\
+    \0\
+    ";
+
+/// The same with another version octet, which means the first version too.
+const OLDER_OPEN: &[u8] = b"\
+    IPCJRNL1\0\0\0\x01\xff\0\0\0\0\0\0\0\0\0\0\0\0\0\0\0\0\0\0\
+    \xa7\0\0\0\0\x12\0\0\0\x01\x01\0\0\0\0\0\0\0\0\x01\0\0\0\x01\0\0\0\n\
+    \0\
+    ";
+
+/// The same with an octet behind the version octet that no head has.
+const OLD_OTHER: &[u8] = b"\
+    IPCJRNL1\0\0\0\x01\0\x01\0\0\0\0\0\0\0\0\0\0\0\0\0\0\0\0\0\
+    \xa7\0\0\0\0\x12\0\0\0\x01\x01\0\0\0\0\0\0\0\0\x01\0\0\0\x01\0\0\0\n\
+    \0\
+    ";
+
+/// The journal of two Opens.
+const TWO_OPENS: &[u8] = b"\
+    IPCJRNL1\0\0\0\x01\x02\0\0\0\0\0\0\0\0\0\0\0\0\0\0\0\0\0\0\
+    \xa7\0\0\0\0\x12\0\0\0\x01\x01\0\0\0\0\0\0\0\0\x01\0\0\0\x01\0\0\0\n\
+    \xa7\0\0\0\0\x12\0\0\0\x01\x01\0\0\0\0\0\0\0\0\x01\0\0\0\x01\0\0\0\n\
+    \0\
+    ";
+
+/// A record of no kind in the first version, which stands at 41.
+const OLD_NO_RECORD: &[u8] = b"\
+    IPCJRNL1\0\0\0\x01\0\0\0\0\0\0\0\0\0\0\0\0\0\0\0\0\0\0\0\
+    \xa7\0\0\0\0\x12\0\0\0\x01\x0f\0\0\0\0\0\0\0\0\x01\0\0\0\x01\0\0\0\n\
+    \0\
+    ";
+
+/// A task that a client took back, at 41, which the first version has no record for.
+const OLD_ABORT: &[u8] = b"\
+    IPCJRNL1\0\0\0\x01\0\0\0\0\0\0\0\0\0\0\0\0\0\0\0\0\0\0\0\
+    \xa7\0\0\0\0\x05\0\0\0\x01\x08\x01a\x03\x05\
+    \0\
+    ";
+
+/// The same in the second version, which has one.
+const ABORT: &[u8] = b"\
+    IPCJRNL1\0\0\0\x01\x02\0\0\0\0\0\0\0\0\0\0\0\0\0\0\0\0\0\0\
+    \xa7\0\0\0\0\x05\0\0\0\x01\x08\x01a\x03\x05\
+    \0\
+    ";
+
+/// Its text.
+const ABORT_TEXT: &[u8] = b"settle 61 aborted Abort\n";
+
+/// The loss of an engine that never was, at 41: a list that no cluster goes on from, in the first version.
+const OLD_UNFIT: &[u8] = b"\
+    IPCJRNL1\0\0\0\x01\0\0\0\0\0\0\0\0\0\0\0\0\0\0\0\0\0\0\0\
+    \xa7\0\0\0\0\x05\0\0\0\x01\x09\0\0\0\x04\
+    \0\
+    ";
+
+/// The same in the second version.
+const UNFIT: &[u8] = b"\
+    IPCJRNL1\0\0\0\x01\x02\0\0\0\0\0\0\0\0\0\0\0\0\0\0\0\0\0\0\
+    \xa7\0\0\0\0\x05\0\0\0\x01\x09\0\0\0\x04\
     \0\
     ";
 
@@ -46,7 +113,7 @@ const FOUR_UPS: &[u8] = b"\
 
 /// A journal of an Open and three of these.
 const FULL: &[u8] = b"\
-    IPCJRNL1\0\0\0\x01\0\0\0\0\0\0\0\0\0\0\0\0\0\0\0\0\0\0\0\
+    IPCJRNL1\0\0\0\x01\x02\0\0\0\0\0\0\0\0\0\0\0\0\0\0\0\0\0\0\
     \xa7\0\0\0\0\x12\0\0\0\x01\x01\0\0\0\0\0\0\0\0\x01\0\0\0\x01\0\0\0\n\
     \xa7\0\0\0\0\x18\0\0\0\x01\x02\0\0\0\x01\x01\0\0\0\0\0\0\0\0\0\0\0\0\0\0\0\0\x01a\
     \xa7\0\0\0\0\x18\0\0\0\x01\x02\0\0\0\x02\x01\0\0\0\0\0\0\0\0\0\0\0\0\0\0\0\0\x01b\
@@ -64,7 +131,7 @@ up 3 task 0 0 63
 
 /// The same journal, and behind it an Open and the connection of an engine.
 const GOES_ON: &[u8] = b"\
-    IPCJRNL1\0\0\0\x01\0\0\0\0\0\0\0\0\0\0\0\0\0\0\0\0\0\0\0\
+    IPCJRNL1\0\0\0\x01\x02\0\0\0\0\0\0\0\0\0\0\0\0\0\0\0\0\0\0\
     \xa7\0\0\0\0\x12\0\0\0\x01\x01\0\0\0\0\0\0\0\0\x01\0\0\0\x01\0\0\0\n\
     \xa7\0\0\0\0\x18\0\0\0\x01\x02\0\0\0\x01\x01\0\0\0\0\0\0\0\0\0\0\0\0\0\0\0\0\x01a\
     \xa7\0\0\0\0\x18\0\0\0\x01\x02\0\0\0\x02\x01\0\0\0\0\0\0\0\0\0\0\0\0\0\0\0\0\x01b\
@@ -239,6 +306,123 @@ const ROWS: &[Row] = &[
         line: "",
         output: b"",
         left: GOES_ON,
+    },
+    Row {
+        words: REPLAY,
+        input: b"",
+        disk: OLD_OPEN,
+        status: 0,
+        line: "",
+        output: b"",
+        left: TWO_OPENS,
+    },
+    Row {
+        words: REPLAY,
+        input: b"",
+        disk: OLDER_OPEN,
+        status: 0,
+        line: "",
+        output: b"",
+        left: TWO_OPENS,
+    },
+    Row {
+        words: REPLAY,
+        input: b"",
+        disk: OLD_OTHER,
+        status: 7,
+        line: "ipcluster: damaged database at 13\n",
+        output: b"",
+        left: OLD_OTHER,
+    },
+    Row {
+        words: DUMP,
+        input: b"",
+        disk: OLD_OPEN,
+        status: 0,
+        line: "",
+        output: OPEN_TEXT,
+        left: OLD_OPEN,
+    },
+    Row {
+        words: CHECK,
+        input: OPEN_TEXT,
+        disk: OLDER_OPEN,
+        status: 0,
+        line: "",
+        output: b"",
+        left: OLDER_OPEN,
+    },
+    Row {
+        words: COMPACT,
+        input: b"",
+        disk: OLD_OPEN,
+        status: 0,
+        line: "",
+        output: ONE_OPEN,
+        left: OLD_OPEN,
+    },
+    Row {
+        words: REPLAY,
+        input: b"",
+        disk: OLD_NO_RECORD,
+        status: 7,
+        line: "ipcluster: damaged database at 41\n",
+        output: b"",
+        left: OLD_NO_RECORD,
+    },
+    Row {
+        words: DUMP,
+        input: b"",
+        disk: OLD_NO_RECORD,
+        status: 7,
+        line: "ipcluster: damaged database at 41\n",
+        output: b"",
+        left: OLD_NO_RECORD,
+    },
+    Row {
+        words: REPLAY,
+        input: b"",
+        disk: OLD_ABORT,
+        status: 7,
+        line: "ipcluster: damaged database at 41\n",
+        output: b"",
+        left: OLD_ABORT,
+    },
+    Row {
+        words: DUMP,
+        input: b"",
+        disk: OLD_ABORT,
+        status: 7,
+        line: "ipcluster: damaged database at 41\n",
+        output: b"",
+        left: OLD_ABORT,
+    },
+    Row {
+        words: DUMP,
+        input: b"",
+        disk: ABORT,
+        status: 0,
+        line: "",
+        output: ABORT_TEXT,
+        left: ABORT,
+    },
+    Row {
+        words: REPLAY,
+        input: b"",
+        disk: OLD_UNFIT,
+        status: 7,
+        line: "ipcluster: damaged database at 41\n",
+        output: b"",
+        left: UNFIT,
+    },
+    Row {
+        words: COMPACT,
+        input: b"",
+        disk: OLD_UNFIT,
+        status: 7,
+        line: "ipcluster: damaged database at 41\n",
+        output: b"",
+        left: OLD_UNFIT,
     },
 ];
 

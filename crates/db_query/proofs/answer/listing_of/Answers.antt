@@ -1,8 +1,8 @@
-use Rattle.std.proofs.Common.{◌≡◌, ◌<◌, ◌+◌, ◌^◌, ◌++◌, length, take, nat_lt, refl, inr, arith, sym, ap, ◌∙◌, length-take-le}
-use Rattle.db_query.specs.Filter.{found}
+use Rattle.std.proofs.Common.{◌≡◌, ◌<◌, ◌+◌, ◌^◌, ◌++◌, ◌&&◌, length, take, nat_lt, refl, inr, arith, sym, ap, ◌∙◌, length-take-le}
+use Rattle.cluster_defs.specs.Filter.{found}
 use Rattle.db_query.specs.Found.{found_one, listed, Listed}
 use Rattle.db_query.proofs.Finds.{found_more, found_short}
-use Rattle.db_query.proofs.Fronts.{too_long}
+use Rattle.db_query.proofs.Fronts.{given_up}
 use Rattle.db_query.proofs.answer.listing_of.Goals as goal
 
 pub loop-place-preserved : goal.loop-place-preserved
@@ -18,8 +18,8 @@ loop-place-preserved g c =
     ∙ ap (λ o. listed asked.keys (front ++ found_one asked o)) c.at.ensures
     ∙ ap (listed asked.keys) (sym (found_more asked records place))
 
-pub returns-then-passes-clause-err : goal.returns-then-passes-clause-err
-returns-then-passes-clause-err g c =
+pub returns-then-gives_up-clause-err : goal.returns-then-gives_up-clause-err
+returns-then-gives_up-clause-err g c =
     let records = g.R.Records.records c.args.table.now in
     let asked = c.args.asked.now in
     let place = c.loop-place.place in
@@ -32,4 +32,5 @@ returns-then-passes-clause-err g c =
     ∙ ap (λ o. listed asked.keys (front ++ found_one asked o)) c.at.ensures
     ∙ ap (listed asked.keys) (sym (found_more asked records place)) in
     let octets : c.len.result ≡ length (listed asked.keys (found asked.tests (take (place + 1) records))).text = c.len.ensures ∙ ap (λ (l : Listed). length l.text) written in
-    inr (refl, too_long asked.keys asked.tests records (place + 1) (sym (ap (nat_lt 16777216) octets) ∙ sym c.passes.ensures ∙ c.if-passes.true))
+    let test = ap (λ n. c.args.is_limited && nat_lt 16777216 n) octets in
+    inr (refl, given_up c.args.is_limited asked.keys asked.tests records (place + 1) (sym test ∙ sym c.gives_up.ensures ∙ c.if-gives_up.true))

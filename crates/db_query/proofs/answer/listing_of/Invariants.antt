@@ -1,5 +1,5 @@
 use Rattle.std.proofs.Common.{◌≡◌, take}
-use Rattle.db_query.specs.Filter.{found}
+use Rattle.cluster_defs.specs.Filter.{found}
 use Rattle.db_query.specs.Found.{listed}
 use Rattle.db_query.proofs.answer.listing_of.Given as goal
 

@@ -1,6 +1,6 @@
 use Rattle.std.proofs.Common.{get_or, ap, ◌∙◌, arith}
-use Rattle.db_query.specs.Asked.{with_new}
-use Rattle.db_query.specs.declared.query.Field.TheVariants.{MsgId}
+use Rattle.cluster_defs.specs.FilterWords.{with_new}
+use Rattle.cluster_defs.specs.declared.filter.Field.TheVariants.{MsgId}
 use Rattle.db_query.proofs.Firsts.{once_more}
 use Rattle.db_query.proofs.fields.once.Goals as goal
 

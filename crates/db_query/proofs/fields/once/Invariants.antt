@@ -1,5 +1,5 @@
 use Rattle.std.proofs.Common.{◌≡◌, take}
-use Rattle.db_query.specs.Asked.{once}
+use Rattle.cluster_defs.specs.FilterWords.{once}
 use Rattle.db_query.proofs.fields.once.Given as goal
 
 abbrev pub invariant-loop-field : goal.invariant-loop-field

@@ -1,8 +1,8 @@
 use Rattle.std.proofs.Common.{◌++◌, map, take, get_or, string_bytes, ap, ◌∙◌, append_assoc, arith}
 use Rattle.cluster_defs.specs.Texts.{parted}
 use Rattle.jupyter_header.specs.Comma.{comma}
-use Rattle.db_query.specs.Found.{field_member}
-use Rattle.db_query.specs.declared.query.Field.TheVariants.{MsgId}
+use Rattle.cluster_defs.specs.FilterContents.{field_member}
+use Rattle.cluster_defs.specs.declared.filter.Field.TheVariants.{MsgId}
 use Rattle.db_query.proofs.Firsts.{member_more}
 use Rattle.db_query.proofs.listing.push_members.Goals as goal
 

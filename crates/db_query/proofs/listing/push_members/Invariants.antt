@@ -1,6 +1,6 @@
 use Rattle.std.proofs.Common.{◌≡◌, ◌++◌, map, take, string_bytes}
 use Rattle.cluster_defs.specs.Texts.{parted}
-use Rattle.db_query.specs.Found.{field_member}
+use Rattle.cluster_defs.specs.FilterContents.{field_member}
 use Rattle.db_query.proofs.listing.push_members.Given as goal
 
 abbrev pub invariant-loop-place : goal.invariant-loop-place

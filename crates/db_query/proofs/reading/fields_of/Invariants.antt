@@ -1,7 +1,7 @@
 use Rattle.std.proofs.Common.{◌≡◌, ◌++◌, drop, option_map}
 use Rattle.jupyter_header.specs.Borrowed.{items_view}
 use Rattle.cluster_defs.specs.Fields.{each_of}
-use Rattle.db_query.specs.Readings.{field_in}
+use Rattle.cluster_defs.specs.FilterReadings.{field_in}
 use Rattle.db_query.proofs.reading.fields_of.Given as goal
 
 abbrev pub invariant-loop-value : goal.invariant-loop-value

@@ -1,4 +1,4 @@
-use Rattle.std.proofs.Common.{◌≡◌, ℕ, List, [], ◌∷◌, length, length-append, Option, Ok, subst, ◌∙◌, arith}
+use Rattle.std.proofs.Common.{ℕ, List, [], ◌∷◌, length-append, Option, Ok, subst, ◌∙◌, arith}
 use Rattle.std.specs.Prelude.{IfSome}
 use Rattle.std.proofs.lemmas.List.Elements.{All-push}
 use Rattle.record_codec.specs.Spelling.{HasRecord}
@@ -34,3 +34,8 @@ loop-found-preserved g c =
 
 pub returns-clause-gate : goal.returns-clause-gate
 returns-clause-gate g c = rw c.in_ok-push-3.ensures.ok (last_push c.loop-found.found.places c.gate-gate.result)
+
+pub returns-clause-version : goal.returns-clause-version
+returns-clause-version g c = λ told long.
+    let on = rw c.loop-found.invariant.reads.same at (c.in_ok-placed.ensures.on told) in
+    c.version.ensures ∙ on.read long

@@ -1,6 +1,6 @@
 use Rattle.std.proofs.Common.{◌+◌, ◌-◌, ◌<◌, ◌≤◌, length, ap, ◌∙◌, arith}
 use Rattle.std.proofs.lemmas.Result.{err_from_is_err_and}
-use Rattle.record_codec.proofs.Extends.{entries as entry_extends}
+use Rattle.task_journal.proofs.Versions.{reads_on}
 use Rattle.task_journal.proofs.Calls.{reads_joined}
 use Rattle.task_journal.proofs.Spans.{fails_any, taken_shows, record_found, record_bad, record_short, more_shows}
 use Rattle.task_journal.proofs.window.next_record.Goals as goal
@@ -11,7 +11,7 @@ returns-in-Ok-clause-value g c = λ told.
     let read = rw c.octets.ensures at c.in-Ok.ensures.value in
     let le : c.in-Ok.taken ≤ length c.loop-entry.window.octets = omega (arith, c.in-Ok.ensures.inside, ap length c.octets.ensures) in
     let place = c.take.ensures.place (omega (arith, shows.inside, c.ranges.end, le)) in
-    rw (← c.loop-entry.invariant.place) (record_found c.loop-entry.window c.take.new.self c.args.end (g.D.Disk.content c.args.disk.now) c.in-Ok.entry c.in-Ok.taken shows le c.take.ensures.octets place read)
+    rw (← c.loop-entry.invariant.place) (record_found c.args.version c.loop-entry.window c.take.new.self c.args.end (g.D.Disk.content c.args.disk.now) c.in-Ok.entry c.in-Ok.taken shows le c.take.ensures.octets place read)
 
 pub returns-in-Ok-clause-shows : goal.returns-in-Ok-clause-shows
 returns-in-Ok-clause-shows g c = λ told.
@@ -23,7 +23,7 @@ returns-in-Ok-clause-shows g c = λ told.
 pub returns-in-Err-Stop-Bad-clause-value : goal.returns-in-Err-Stop-Bad-clause-value
 returns-in-Err-Stop-Bad-clause-value g c = λ told.
     let read = rw (c.in-Err-Stop-Bad.field-0-is, c.in-Err-Stop-Bad.field-0-0-is, c.octets.ensures) at c.in-Err-Stop-Bad.ensures.value in
-    rw (c.place.ensures, ← c.loop-entry.invariant.place) (record_bad c.loop-entry.window c.args.end (g.D.Disk.content c.args.disk.now) (c.loop-entry.invariant.shows told) read)
+    rw (c.place.ensures, ← c.loop-entry.invariant.place) (record_bad c.args.version c.loop-entry.window c.args.end (g.D.Disk.content c.args.disk.now) (c.loop-entry.invariant.shows told) read)
 
 pub returns-then-left-missing-clause-value : goal.returns-then-left-missing-clause-value
 returns-then-left-missing-clause-value g c = λ told.
@@ -31,7 +31,7 @@ returns-then-left-missing-clause-value g c = λ told.
     let read = rw (c.in-Err-Stop-Short.field-0-is, c.in-Err-Stop-Short.field-0-0-is, c.octets.ensures) at c.in-Err-Stop-Short.ensures.value in
     let few : c.args.end - (c.loop-entry.window.place + length c.loop-entry.window.octets) < c.in-Err-Stop-Short.missing =
     omega (arith, shows.inside, c.ranges.end, ap length c.octets-in-Err-Stop-Short.ensures, c.place-in-Err-Stop-Short.ensures, c.saturating_add-ready.ensures, c.saturating_sub-left.ensures, c.if-left-missing.true) in
-    rw (c.place-then-left-missing.ensures, ← c.loop-entry.invariant.place) (record_short c.loop-entry.window c.args.end (g.D.Disk.content c.args.disk.now) c.in-Err-Stop-Short.missing shows read few)
+    rw (c.place-then-left-missing.ensures, ← c.loop-entry.invariant.place) (record_short c.args.version c.loop-entry.window c.args.end (g.D.Disk.content c.args.disk.now) c.in-Err-Stop-Short.missing shows read few)
 
 pub returns-in_err-read_more-in-Err-Stop-Short-clause-value : goal.returns-in_err-read_more-in-Err-Stop-Short-clause-value
 returns-in_err-read_more-in-Err-Stop-Short-clause-value g c = λ told.
@@ -53,5 +53,5 @@ loop-entry-preserved g c = record {
 pub loop-entry-smaller : goal.loop-entry-smaller
 loop-entry-smaller g c =
     let read = rw (c.in-Err-Stop-Short.field-0-is, c.in-Err-Stop-Short.field-0-0-is, c.octets.ensures) at c.in-Err-Stop-Short.ensures.value in
-    let some = entry_extends.some c.loop-entry.window.octets c.in-Err-Stop-Short.missing read in
+    let some = (reads_on c.args.version).some c.loop-entry.window.octets c.in-Err-Stop-Short.missing read in
     omega (arith, some, c.ranges.end, ap length c.octets-in-Err-Stop-Short.ensures, c.place-in-Err-Stop-Short.ensures, c.saturating_add-ready.ensures, c.saturating_sub-left.ensures, c.if-left-missing.false, c.min.ensures, c.max-n.ensures, c.in_ok-read_more-in-Err-Stop-Short.ensures.more, c.read_more.ensures.place)
