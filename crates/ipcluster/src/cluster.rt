@@ -26,11 +26,14 @@ use thread_edges::sockets::{TcpDial, TcpPort};
 use thread_edges::spawner::Spawner;
 use thread_edges::system::{OsWords, SystemClock};
 
-/// Listens at a port.
+/// Listens at a port. Where it can't be had a line says why.
 fn open_port(rt: &HostRuntime, host: &str, port: u16) -> Result<TcpPort, StandingEnding> {
     match TcpListener::bind(rt, (host, port)) {
         Ok(listener) => Ok(TcpPort::new(listener)),
-        Err(_) => Err(StandingEnding::ListenerFault),
+        Err(error) => {
+            let _ = eprintln!(rt; "ipcluster: port {} of {}: {}", port, host, error);
+            Err(StandingEnding::ListenerFault)
+        }
     }
 }
 

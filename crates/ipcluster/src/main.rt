@@ -3,6 +3,7 @@
 
 mod cluster;
 mod database;
+mod key_file;
 
 ghost use Rattle.std.specs.Prelude.{◌≡◌, ◌<◌, length};
 ghost use Rattle.cluster_defs.specs.Scheduling.{pick};
@@ -20,6 +21,7 @@ use disk_model::file::FileDisk;
 use disk_model::memory::MemDisk;
 use edges::sink::Sink;
 use edges::standard::{StdSink, StdSource};
+use key_file::{KeyFileError, with_keys};
 use load_schemes::chooser::Chooser;
 use load_schemes::place::place_of;
 use quick_commands::quick::quick;
@@ -68,6 +70,14 @@ fn ending_of(error: &WordsError) -> Ending {
             Ending::Usage
         }
         _ => Ending::OutOfMemory,
+    }
+}
+
+/// How the program ends where a file that they name gives no key.
+fn ending_without_key(error: &KeyFileError) -> Ending {
+    match error {
+        KeyFileError::OutOfMemory(_) => Ending::OutOfMemory,
+        _ => Ending::Usage,
     }
 }
 
@@ -129,6 +139,10 @@ fn run<H: Threads + Wait + Drop + Copy + Send + Sync + 'static, E: Sink>(
     let words = match words_of(&rt) {
         Ok(words) => words,
         Err(error) => return Err(StandingEnding::Plain(ending_of(&error))),
+    };
+    let words = match with_keys(&rt, &words) {
+        Ok(words) => words,
+        Err(error) => return Err(StandingEnding::Plain(ending_without_key(&error))),
     };
     let Ok(choose) = Box::new(
         rt.alloc(),

@@ -70,12 +70,6 @@ def free_ports() -> int:
                 it.close()
 
 
-def takes_key_file(words: List[str], path: str) -> bool:
-    """Whether the program reads its key from a file. One that doesn't finds no reading in the words, and says so by status 2."""
-    tried = [*words, "client", HOST, "1", "history", "--key-file", path]
-    return subprocess.run(tried, stdin=subprocess.DEVNULL, capture_output=True, check=False).returncode != 2
-
-
 class Cluster:
     """A controller over a database in a folder, and `n` engines, for a laptop and for tests. Used by `with`, or by `start` and `stop`.
 
@@ -190,11 +184,9 @@ class Cluster:
     def start_controller(self) -> None:
         """Starts the controller, over the database that there is, and waits until it listens."""
         words = program(self._given)
-        with open(self.key_file, encoding="utf-8") as file:
-            key = file.read().strip()
-        given = ["--key-file", self.key_file] if takes_key_file(words, self.key_file) else ["--key", key]
         with open(os.path.join(self.folder, "controller.log"), "ab") as said:
-            self.controller = subprocess.Popen([*words, "serve", HOST, str(self.port), self.database, *given, *self._options],
+            self.controller = subprocess.Popen([*words, "serve", HOST, str(self.port), self.database, "--key-file", self.key_file,
+                                                *self._options],
                                                stdin=subprocess.DEVNULL, stdout=said, stderr=said, start_new_session=True)
         until = time.monotonic() + self._timeout
         while not all(_listens(self.port + it) for it in range(4)):
