@@ -37,8 +37,17 @@ fn open_port(rt: &HostRuntime, host: &str, port: u16) -> Result<TcpPort, Standin
     }
 }
 
-/// Listens at the four ports from the first one on.
+/// The addresses that stand for every interface of a machine.
+const EVERY_INTERFACE: [&str; 3] = ["0.0.0.0", "::", "[::]"];
+
+/// The status of a controller whose history has reached a limit.
+const HISTORY_FULL: u8 = 9;
+
+/// Listens at the four ports from the first one on. Where that is at every interface, a line says so.
 fn open_ports(rt: &HostRuntime, host: &str, first: u16) -> Result<Ports<TcpPort>, StandingEnding> {
+    if EVERY_INTERFACE.contains(&host) {
+        let _ = eprintln!(rt; "ipcluster: {} is every interface of this machine: keep strangers from the ports {} to {}", host, first, first.saturating_add(3));
+    }
     Ok(Ports {
         hub: open_port(rt, host, first)?,
         task: open_port(rt, host, first.saturating_add(1))?,
@@ -154,7 +163,11 @@ pub fn run_cluster<H: Threads + Wait + Drop + Copy + Send + Sync + 'static, E: S
                 host: host.as_str(),
                 port: *port,
             };
-            stand(start, words, ports, FileDisk::new(file), errors)
+            let status = stand(start, words, ports, FileDisk::new(file), errors);
+            if let Ok(HISTORY_FULL) = status {
+                let _ = eprintln!(rt; "ipcluster: started again over {} it goes on, and counts anew", database.as_str());
+            }
+            status
         }
         StandingCommand::Engine { host, port, .. } | StandingCommand::Client { host, port, .. } => {
             let (Ok(ports), Ok(disk)) = (still_ports(&rt), MemDisk::new(rt.alloc(), b"")) else {
