@@ -1,5 +1,5 @@
 -- A task that is settled changes what is so of the tasks that wait for it alone.
-use Rattle.std.proofs.Common.{◌≡◌, ℕ, zero, suc, length, arith, List, [], ◌∷◌, ◌++◌, map, Bool, true, false, not, ◌&&◌, ◌||◌, cond, refl, sym, ap, ◌∙◌, subst, Option, Some, None, bytes_eq, ◌⊎◌, inl}
+use Rattle.std.proofs.Common.{◌≡◌, ◌≤◌, ◌+◌, ℕ, zero, suc, length, arith, List, [], ◌∷◌, ◌++◌, map, Bool, true, false, not, ◌&&◌, ◌||◌, cond, refl, sym, ap, ◌∙◌, subst, Option, Some, None, bytes_eq, ◌⊎◌, inl}
 use Rattle.std.specs.Prelude.{⊤, slice_get, ◌==◌, option_map}
 use Rattle.std.specs.Ordering.{nat_cmp}
 use Rattle.std.specs.BTreeMap.{is_at}
@@ -291,3 +291,8 @@ awaited_of ts waits id places is same = λ i on. subst (λ qs. is_among i qs ≡
 
 pub waiting_is : (ts : List Seen) (waits : Waits) (id : Id) → Indexed ts waits → IsStrictlySortedBy nat_cmp (waiting_for waits id) → waiting_for waits id ≡ waiting_on id ts
 waiting_is ts waits id is sorted = members_are (waits_on id) ts (waiting_for waits id) sorted (λ i. by_set (set_of waits id) i ∙ is id i)
+
+-- what a bound by those places says of the table
+pub bound_of : (ts us : List Seen) (waits : Waits) (id : Id) (ws ps : List ℕ) (n m : ℕ) → Indexed ts waits → IsStrictlySortedBy nat_cmp (waiting_for waits id) → ps ≡ waiting_for waits id → ws ≡ ps → ts ≡ us → n ≤ m + (1 + length ws) → n ≤ m + (1 + length (waiting_on id us))
+bound_of ts us waits id ws ps n m is sorted read same seen cost =
+    subst (λ vs. n ≤ m + (1 + length (waiting_on id vs))) seen (subst (λ qs. n ≤ m + (1 + length qs)) (same ∙ read ∙ waiting_is ts waits id is sorted) cost)
