@@ -1,5 +1,6 @@
 -- The places in a set that has those where a test holds and no others: they are all of these, ascending.
 use Rattle.std.proofs.Common.{◌≡◌, ap, sym, ◌∙◌, ℕ, zero, suc, ◌+◌, ◌-◌, ◌<◌, ◌≤◌, ⊎_elim, List, [], ◌∷◌, Bool, true, false, cond, ◌||◌, refl, subst, arith}
+use Rattle.std.specs.Prelude.{filter}
 use Rattle.std.specs.Ordering.{nat_cmp}
 use Rattle.std.specs.List.Sorted.{IsStrictlySortedBy}
 use Rattle.std.specs.BTreeSet.{BTreeSet}
@@ -52,3 +53,21 @@ module _ {X : Type 0} (p : X → Bool) where
   -- places that ascend, and are those where the test holds
   pub members_are : (xs : List X) (ms : List ℕ) → IsStrictlySortedBy nat_cmp ms → ((i : ℕ) → member ms i ≡ holds_at p xs i) → ms ≡ places_where p xs
   members_are xs ms sorted exact = members_from xs 0 ms sorted (λ i _. omega arith) (λ i. let start : 0 + i ≡ i = omega arith in ap (member ms) start ∙ exact i)
+
+-- of the places where one test holds, those where a narrower one does
+filtered_step : (q : ℕ → Bool) (b c : Bool) (at : ℕ) (ps rs : List ℕ) → (c ≡ true → b ≡ true) → q at ≡ c → filter q ps ≡ rs → filter q (cond b (at ∷ ps) ps) ≡ cond c (at ∷ rs) rs
+filtered_step q true true at ps rs up on rest = rw on (ap (λ ks. at ∷ ks) rest)
+filtered_step q true false at ps rs up off rest = rw off rest
+filtered_step q false true at ps rs up on rest = cc (up refl)
+filtered_step q false false at ps rs up off rest = rest
+
+module _ {X : Type 0} (p r : X → Bool) (up : (x : X) → r x ≡ true → p x ≡ true) where
+  filtered_from : (q : ℕ → Bool) (xs : List X) (at : ℕ) → ((i : ℕ) → q (at + i) ≡ holds_at r xs i) → filter q (places_from at p xs) ≡ places_from at r xs
+  filtered_from q [] at is = refl
+  filtered_from q (x ∷ xs) at is =
+      let start : at + 0 ≡ at = omega arith in
+      let shift : (i : ℕ) → suc at + i ≡ at + suc i = λ i. omega arith in
+      filtered_step q (p x) (r x) at (places_from (suc at) p xs) (places_from (suc at) r xs) (up x) (ap q (sym start) ∙ is 0) (filtered_from q xs (suc at) (λ i. ap q (shift i) ∙ is (suc i)))
+
+  pub filtered : (xs : List X) → filter (holds_at r xs) (places_where p xs) ≡ places_where r xs
+  filtered xs = filtered_from (holds_at r xs) xs 0 (λ i. let start : 0 + i ≡ i = omega arith in ap (holds_at r xs) start)

@@ -73,7 +73,7 @@ pub(crate) fn plain<R: Abort>(rt: &R, alloc: Global) -> WholeRequest {
 }
 
 /// A Submit that waits for `x` and `y`.
-fn after_both<R: Abort>(rt: &R, alloc: Global, failure: bool) -> WholeRequest {
+pub(crate) fn after_both<R: Abort>(rt: &R, alloc: Global, failure: bool) -> WholeRequest {
     let after = on_both(rt, alloc, failure);
     request(rt, alloc, after, dep(alloc, false))
 }

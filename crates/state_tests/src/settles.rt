@@ -3,7 +3,7 @@
 ghost use Rattle.std.specs.Prelude.{◌≡◌, ◌<◌, ◌≤◌, ◌+◌};
 
 use crate::common::text;
-use crate::decisions::{add, by_reply, dep, list, plain, request};
+use crate::decisions::{add, after_both, by_reply, dep, list, plain, request};
 use cluster_defs::request::WholeRequest;
 use cluster_types::text::Text;
 use cluster_types::verdict::Verdict;
@@ -74,4 +74,32 @@ fn three_of_a_thousand<L: Ledger, R: Abort>(rt: &R, alloc: Global, blank: Blank)
 fn a_settle_takes_four_steps_of_a_thousand(rt: HostRuntime) {
     let alloc = rt.alloc();
     assert!(rt; three_of_a_thousand::<Brand, HostRuntime>(&rt, alloc, Blank::new(1)));
+}
+
+/// Whether a settle of `x` frees the tasks at these places.
+fn freed_are<R: Abort>(
+    rt: &R,
+    alloc: Global,
+    tasks: &Tasks,
+    verdict: Verdict,
+    met: &[usize],
+    dead: &[usize],
+) -> bool {
+    let freed = tasks
+        .freed(&text(rt, alloc, "x"), by_reply(verdict, 0))
+        .expect(rt, "memory is ample");
+    freed.met.as_slice() == met && freed.dead.as_slice() == dead
+}
+
+#[test]
+fn a_settle_frees_those_that_wait(rt: HostRuntime) {
+    let alloc = rt.alloc();
+    let mut tasks = Tasks::new(alloc);
+    add(&rt, alloc, &mut tasks, "x", plain(&rt, alloc));
+    add(&rt, alloc, &mut tasks, "y", plain(&rt, alloc));
+    add(&rt, alloc, &mut tasks, "a", waiting_for(&rt, alloc, "x"));
+    add(&rt, alloc, &mut tasks, "b", after_both(&rt, alloc, false));
+    add(&rt, alloc, &mut tasks, "c", waiting_for(&rt, alloc, "y"));
+    assert!(rt; freed_are(&rt, alloc, &tasks, Verdict::Completed, &[2], &[]));
+    assert!(rt; freed_are(&rt, alloc, &tasks, Verdict::Failed, &[], &[2, 3]));
 }

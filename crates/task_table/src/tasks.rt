@@ -2,7 +2,8 @@
 
 ghost use Rattle.std.specs.Prelude.{◌≡◌, ◌<◌, ◌≤◌, ◌+◌, ◌++◌, ◌∷◌, ℕ, List, [], length, map, slice_get, Some, None, false, IfOk, IfErr, IfSome, OnOk, OnErr};
 ghost use Rattle.std.specs.Option.{option_copied, option_and_then};
-ghost use Rattle.place_sets.specs.Sets.{at_place};
+ghost use Rattle.place_sets.specs.Sets.{at_place, places_where};
+ghost use Rattle.task_table.specs.Freeing.{newly_met, newly_dead};
 ghost use Rattle.task_table.specs.Seen.{handed_to, ended_on, lost_all, replied_with, aborted_out, settled_with, purged_out, seen_in, place_in, changed, on_unsettled};
 ghost use Rattle.task_table.specs.Marking.{Marked};
 ghost use Rattle.task_table.specs.Loading.{Counts, CountedAnew};
@@ -11,6 +12,7 @@ ghost use Rattle.task_table.specs.Places.{Alike};
 ghost use Rattle.task_table.specs.Waiting.{Awaited, LeftAt, ids_of, waiting_on};
 ghost use Rattle.task_graph.specs.Listing.{is_waiting, lists, Noted, TakenOut, SameBut, SameWaits};
 
+use crate::freeing::{Freed, freed_of};
 use crate::loads::tallied;
 use crate::marks::{Marks, mark, mark_all, no_marks, wake_all};
 use crate::table::Table;
@@ -430,6 +432,17 @@ impl Tasks {
     {
         let places = self.waiters.of(id)?;
         Ok(places)
+    }
+
+    /// The places of the tasks of which a settle newly makes met what they wait for, and of those of which it newly makes that
+    /// unreachable.
+    pub fn freed(&self, id: &Text, settled: Settled) -> Result<Freed, AllocError>
+        ensures met { IfOk result (λ f. f.met.items ≡ places_where (newly_met id.now settled self.now) self.now) }
+        ensures dead { IfOk result (λ f. f.dead.items ≡ places_where (newly_dead id.now settled self.now) self.now) }
+    {
+        let waiting = self.waiting_for(id)?;
+        let freed = freed_of(&self.table, id, settled, &waiting)?;
+        Ok(freed)
     }
 
     /// Settles a task. The settle is a step, and so is the look at each task that isn't settled and lists it.
