@@ -1,4 +1,4 @@
-use Rattle.task_table.proofs.Freeing.{settles_one, frees_listed}
+use Rattle.task_table.proofs.Freed.{settles_one, frees_listed}
 use Rattle.task_table.proofs.freeing.settles_one.Goals as goal
 
 pub returns-clause-settled : goal.returns-clause-settled

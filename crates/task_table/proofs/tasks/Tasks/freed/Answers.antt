@@ -2,7 +2,7 @@ use Rattle.std.proofs.Common.{◌≡◌, subst, ap, ◌∙◌}
 use Rattle.std.specs.Prelude.{filter}
 use Rattle.place_sets.specs.Sets.{holds_at}
 use Rattle.task_table.specs.Freeing.{newly_met, newly_dead}
-use Rattle.task_table.proofs.Freeing.{met_places, dead_places}
+use Rattle.task_table.proofs.Freed.{met_places, dead_places}
 use Rattle.task_table.proofs.tasks.Tasks.freed.Goals as goal
 
 pub returns-clause-met : goal.returns-clause-met
