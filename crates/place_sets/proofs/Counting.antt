@@ -19,7 +19,7 @@ count_cons p x xs = sum_by-cons (λ y. cond (p y) 1 0) x xs
 self_is : (i : ℕ) → is_at (nat_cmp i) i ≡ true
 self_is i = grind (arith)
 
-member_first : (m : ℕ) (ms : List ℕ) → member (m ∷ ms) m ≡ true
+pub member_first : (m : ℕ) (ms : List ℕ) → member (m ∷ ms) m ≡ true
 member_first m ms = rw (self_is m) refl
 
 plus_off : (b : Bool) (n : ℕ) → b ≡ false → cond b 1 0 + n ≡ n
@@ -30,14 +30,14 @@ count_off : (q : ℕ → Bool) (ms : List ℕ) → ((i : ℕ) → member ms i �
 count_off q [] off = refl
 count_off q (m ∷ ms) off = count_cons q m ms ∙ plus_off (q m) (count_by q ms) (off m (member_first m ms)) ∙ count_off q ms (λ i on. off i (or_right (is_at (nat_cmp i) m) (member ms i) on))
 
-past : (at i : ℕ) → at ≤ i → at + (i - at) ≡ i
+pub past : (at i : ℕ) → at ≤ i → at + (i - at) ≡ i
 past at i le = omega arith
 
-at_least : (m : ℕ) (ms : List ℕ) (i : ℕ) → AllByRecursion (λ y. nat_cmp m y ≡ Less) ms → member (m ∷ ms) i ≡ true → m ≤ i
+pub at_least : (m : ℕ) (ms : List ℕ) (i : ℕ) → AllByRecursion (λ y. nat_cmp m y ≡ Less) ms → member (m ∷ ms) i ≡ true → m ≤ i
 at_least m ms i all on =
     first_or_later (is_at (nat_cmp i) m) (member ms i) on (λ same. let e : i ≡ m = same_place i m same in omega (arith, e)) (λ later. let up : m < i = above m ms i all later in omega (arith, up))
 
-by_le : (a b : ℕ) → a ≤ b → (a ≡ b) ⊎ (a < b)
+pub by_le : (a b : ℕ) → a ≤ b → (a ≡ b) ⊎ (a < b)
 by_le zero zero le = inl refl
 by_le zero (suc b) le = inr (omega arith)
 by_le (suc a) zero le = absurd (omega arith)

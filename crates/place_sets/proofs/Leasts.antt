@@ -67,7 +67,7 @@ lane_among looks (e ∷ es) n i on here =
       | false ↦ λ _ later. or_right (looks e.0 && has e.1 i) (in_some looks es i) (lane_among looks es n i on later)
     ]) refl here
 
-any_push : {X : Type 0} (p : X → Bool) (xs : List X) (x : X) → list_any p (xs ++ x ∷ []) ≡ (list_any p xs || p x)
+pub any_push : {X : Type 0} (p : X → Bool) (xs : List X) (x : X) → list_any p (xs ++ x ∷ []) ≡ (list_any p xs || p x)
 any_push p [] x = first (p x)
   where
     first : (b : Bool) → (b || false) ≡ (false || b)

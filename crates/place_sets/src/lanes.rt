@@ -33,6 +33,7 @@ fn extend(
     ensures there { IfOk result (λ b. b ≡ true → in_lane lanes.new.entries number place ≡ true) }
     ensures none { IfOk result (λ b. b ≡ false → get nat_cmp lanes.new number ≡ None) }
     ensures grow { LanesGrow lanes.old.entries lanes.new.entries }
+    ensures only { LanesWithout number place lanes.new.entries lanes.old.entries }
 {
     match lanes.get_mut(&number) {
         Some(lane) => {
@@ -53,6 +54,7 @@ fn begin(
     requires { get nat_cmp lanes.old number ≡ None }
     ensures there { OnOk result (in_lane lanes.new.entries number place ≡ true) }
     ensures grow { LanesGrow lanes.old.entries lanes.new.entries }
+    ensures only { LanesWithout number place lanes.new.entries lanes.old.entries }
 {
     let mut lane = BTreeSet::new(alloc);
     lane.insert(place)?;
@@ -62,7 +64,9 @@ fn begin(
 
 /// Takes a place out of the lane of a number, and tells whether the lane has none left.
 fn shorten(lanes: &mut BTreeMap<u64, BTreeSet<usize>>, number: u64, place: usize) -> bool
-    ensures without { LanesWithout number place lanes.old.entries lanes.new.entries }
+    ensures stay { LanesWithout number place lanes.old.entries lanes.new.entries }
+    ensures gone { in_lane lanes.new.entries number place ≡ false }
+    ensures only { LanesGrow lanes.new.entries lanes.old.entries }
     ensures none { result ≡ true → (i : ℕ) → in_lane lanes.new.entries number i ≡ false }
 {
     match lanes.get_mut(&number) {
@@ -106,6 +110,7 @@ impl Lanes {
     pub fn add(&mut self, number: u64, place: usize) -> Result<(), AllocError>
         ensures there { OnOk result (in_lane self.new number place ≡ true) }
         ensures grow { LanesGrow self.old self.new }
+        ensures only { LanesWithout number place self.new self.old }
     {
         if !extend(&mut self.lanes, number, place)? {
             begin(&mut self.lanes, self.alloc, number, place)?;
@@ -115,7 +120,9 @@ impl Lanes {
 
     /// Takes a place out of the lane of a number.
     pub fn leave_out(&mut self, number: u64, place: usize)
-        ensures { LanesWithout number place self.old self.new }
+        ensures stay { LanesWithout number place self.old self.new }
+        ensures gone { in_lane self.new number place ≡ false }
+        ensures only { LanesGrow self.new self.old }
     {
         if shorten(&mut self.lanes, number, place) {
             self.lanes.remove(&number);

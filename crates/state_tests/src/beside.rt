@@ -15,7 +15,10 @@ fn waits<R: Abort>(rt: &R, alloc: Global, waiters: &mut Waiters, id: &str, place
 
 /// Whether these are the places of the tasks that wait for an id.
 fn awaited<R: Abort>(rt: &R, alloc: Global, waiters: &Waiters, id: &str, places: &[usize]) -> bool {
-    waiters.of(&text(rt, alloc, id)) == places
+    let found = waiters
+        .of(&text(rt, alloc, id))
+        .expect(rt, "memory is ample");
+    found.as_slice() == places
 }
 
 #[test]
@@ -31,7 +34,7 @@ fn the_places_of_an_id_are_kept(rt: HostRuntime) {
 }
 
 #[test]
-fn places_are_taken_back(rt: HostRuntime) {
+fn places_are_taken_out(rt: HostRuntime) {
     let alloc = rt.alloc();
     let mut waiters = Waiters::new(alloc);
     waits(&rt, alloc, &mut waiters, "x", 3);
@@ -41,9 +44,9 @@ fn places_are_taken_back(rt: HostRuntime) {
         text(&rt, alloc, "x"),
     ];
     waiters.add_all(&ids, 5).expect(&rt, "memory is ample");
-    assert!(rt; awaited(&rt, alloc, &waiters, "x", &[3, 5, 5]));
+    assert!(rt; awaited(&rt, alloc, &waiters, "x", &[3, 5]));
     assert!(rt; awaited(&rt, alloc, &waiters, "y", &[5]));
-    waiters.take_back(&ids);
+    waiters.take_out_all(&ids, 5);
     assert!(rt; awaited(&rt, alloc, &waiters, "x", &[3]));
     assert!(rt; awaited(&rt, alloc, &waiters, "y", &[]));
 }

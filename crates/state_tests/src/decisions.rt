@@ -25,7 +25,7 @@ use task_table::task::Task;
 use task_table::tasks::Tasks;
 
 /// A dependency that completed tasks meet, and failed ones if it says so.
-fn dep(alloc: Global, failure: bool) -> Dep {
+pub(crate) fn dep(alloc: Global, failure: bool) -> Dep {
     Dep {
         ids: Sequence::new(alloc),
         all: true,
@@ -34,7 +34,7 @@ fn dep(alloc: Global, failure: bool) -> Dep {
     }
 }
 
-fn list<R: Abort>(rt: &R, alloc: Global, dep: &mut Dep, id: &str) {
+pub(crate) fn list<R: Abort>(rt: &R, alloc: Global, dep: &mut Dep, id: &str) {
     let id = text(rt, alloc, id);
     dep.ids.push(id).expect(rt, "memory is ample");
 }
@@ -48,7 +48,7 @@ fn on_both<R: Abort>(rt: &R, alloc: Global, failure: bool) -> Dep {
 }
 
 /// A Submit with these dependencies, accepted at moment 1000.
-fn request<R: Abort>(rt: &R, alloc: Global, after: Dep, follow: Dep) -> WholeRequest {
+pub(crate) fn request<R: Abort>(rt: &R, alloc: Global, after: Dep, follow: Dep) -> WholeRequest {
     WholeRequest {
         owner: None,
         direct_to: None,
@@ -68,12 +68,12 @@ fn request<R: Abort>(rt: &R, alloc: Global, after: Dep, follow: Dep) -> WholeReq
 }
 
 /// A Submit that waits for nothing.
-fn plain<R: Abort>(rt: &R, alloc: Global) -> WholeRequest {
+pub(crate) fn plain<R: Abort>(rt: &R, alloc: Global) -> WholeRequest {
     request(rt, alloc, dep(alloc, false), dep(alloc, false))
 }
 
 /// A Submit that waits for `x` and `y`.
-fn after_both<R: Abort>(rt: &R, alloc: Global, failure: bool) -> WholeRequest {
+pub(crate) fn after_both<R: Abort>(rt: &R, alloc: Global, failure: bool) -> WholeRequest {
     let after = on_both(rt, alloc, failure);
     request(rt, alloc, after, dep(alloc, false))
 }
@@ -118,19 +118,31 @@ fn push<R: Abort>(rt: &R, tasks: &mut Tasks, task: Task)
 }
 
 /// Adds a task with a request.
-fn add<R: Abort>(rt: &R, alloc: Global, tasks: &mut Tasks, id: &str, request: WholeRequest) {
+pub(crate) fn add<R: Abort>(rt: &R, alloc: Global, tasks: &mut Tasks, id: &str, request: WholeRequest) {
     let id = text(rt, alloc, id);
     push(rt, tasks, task_of(rt, alloc, &id, request));
 }
 
 /// Settled by a reply of an engine.
-fn by_reply(verdict: Verdict, engine: u32) -> Settled {
+pub(crate) fn by_reply(verdict: Verdict, engine: u32) -> Settled {
     Settled {
         verdict,
         cause: Cause::Reply,
         engine: Some(engine),
         moment: 0,
     }
+}
+
+/// Settles a task, with a count of steps that nobody reads.
+fn settle<L: Ledger, R: Abort>(rt: &R, tasks: &mut Tasks, id: &Text, settled: Settled, blank: Blank)
+    requires name { blank.name ≡ L.name }
+    requires parts { blank.parts ≡ L.parts }
+    requires some { 0 < blank.parts }
+{
+    let mut steps = Steps::<L>::new(blank);
+    tasks
+        .settle(id, settled, None, &mut steps)
+        .expect(rt, "memory is ample");
 }
 
 /// Settles a task on an engine.
@@ -143,26 +155,7 @@ fn finish<R: Abort>(
     engine: u32,
 ) {
     let id = text(rt, alloc, id);
-    tasks
-        .settle(&id, by_reply(verdict, engine), None)
-        .expect(rt, "memory is ample");
-}
-
-/// Settles `x`, and counts the steps.
-fn finish_counted<L: Ledger, R: Abort>(rt: &R, alloc: Global, tasks: &mut Tasks, blank: Blank)
-    requires name { blank.name ≡ L.name }
-    requires parts { blank.parts ≡ L.parts }
-    requires some { 0 < blank.parts }
-{
-    let mut steps = Steps::<L>::new(blank);
-    tasks
-        .settle_counted(
-            &text(rt, alloc, "x"),
-            by_reply(Verdict::Completed, 0),
-            None,
-            &mut steps,
-        )
-        .expect(rt, "memory is ample");
+    settle::<Brand, R>(rt, tasks, &id, by_reply(verdict, engine), Blank::new(1));
 }
 
 fn hand<R: Abort>(rt: &R, alloc: Global, tasks: &mut Tasks, id: &str, engine: u32) {
@@ -298,17 +291,6 @@ fn decided<R: Abort>(
 fn decides<R: Abort>(rt: &R, chooser: &Chooser, state: State, name: &str, outcome: Outcome) {
     let alloc = state.allocator();
     assert_eq!(rt; decided(rt, alloc, chooser, &state, name), outcome);
-}
-
-#[test]
-fn a_counted_settle_settles(rt: HostRuntime) {
-    let alloc = rt.alloc();
-    let mut tasks = Tasks::new(alloc);
-    add(&rt, alloc, &mut tasks, "x", plain(&rt, alloc));
-    add(&rt, alloc, &mut tasks, "y", after_both(&rt, alloc, false));
-    finish_counted::<Brand, HostRuntime>(&rt, alloc, &mut tasks, Blank::new(1));
-    let settled = tasks.find(&text(&rt, alloc, "x"));
-    assert!(rt; settled.is_some_and(|task| task.settled().is_some()));
 }
 
 #[test]

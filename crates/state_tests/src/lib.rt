@@ -17,6 +17,8 @@ mod registry;
 #[cfg(test)]
 mod schemes;
 #[cfg(test)]
+mod settles;
+#[cfg(test)]
 mod state;
 #[cfg(test)]
 mod steps;

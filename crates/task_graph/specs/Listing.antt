@@ -1,37 +1,42 @@
 -- Tasks that wait for others, by the id that they wait for.
-use Rattle.std.specs.Prelude.{◌≡◌, ℕ, ◌-◌, List, [], ◌++◌, length, take, replicate, Option, Some, None, String, bytes_eq, string_bytes, count_by}
-use Rattle.std.specs.Global.{Vec, Global}
+use Rattle.std.specs.Prelude.{◌≡◌, ◌==◌, ◌&&◌, ◌||◌, ℕ, List, Option, Bool, false, not, String, bytes_eq, string_bytes}
+use Rattle.std.specs.Global.{Global}
+use Rattle.std.specs.List.{list_any}
 use Rattle.std.specs.Map.{lookup}
+use Rattle.std.specs.BTreeSet.{BTreeSet}
+use Rattle.place_sets.specs.Lanes.{in_set, keys_in}
 
--- for each id a list of places
-abbrev pub Lists : Type 0
-Lists = List (String Global × Vec ℕ)
+-- for each id a set of places
+abbrev pub Waits : Type 0
+Waits = List (String Global × BTreeSet ℕ)
 
--- the places in a list, where there is one
-abbrev pub places_in : Option (Vec ℕ) → List ℕ
-places_in None = []
-places_in (Some places) = places.items
+abbrev pub set_of : Waits → List ℕ → Option (BTreeSet ℕ)
+set_of waits id = lookup (λ k. bytes_eq id (string_bytes k)) waits
 
--- the places of the tasks that wait for an id
-abbrev pub waiting_for : Lists → List ℕ → List ℕ
-waiting_for lists id = places_in (lookup (λ k. bytes_eq id (string_bytes k)) lists)
+-- the places of the tasks that wait for an id, ascending
+abbrev pub waiting_for : Waits → List ℕ → List ℕ
+waiting_for waits id = keys_in (set_of waits id)
 
--- how often some ids list an id
-abbrev pub times_listed : List ℕ → List (List ℕ) → ℕ
-times_listed id ids = count_by (λ i. bytes_eq i id) ids
+-- whether the task at a place waits for an id
+abbrev pub is_waiting : Waits → List ℕ → ℕ → Bool
+is_waiting waits id place = in_set (set_of waits id) place
 
--- each id has a place more at the end of its list, for each time that some ids list it
-abbrev pub AllAdded : List (List ℕ) → ℕ → Lists → Lists → Type 0
-AllAdded ids place old new = (j : List ℕ) → waiting_for new j ≡ waiting_for old j ++ replicate (times_listed j ids) place
+-- whether some ids list an id
+abbrev pub lists : List (List ℕ) → List ℕ → Bool
+lists ids id = list_any (λ i. bytes_eq i id) ids
 
--- places without so many of the last
-abbrev pub without_last : ℕ → List ℕ → List ℕ
-without_last n places = take (length places - n) places
+-- the task at a place waits for the ids of some kind too
+abbrev pub Noted : (List ℕ → Bool) → ℕ → Waits → Waits → Type 0
+Noted kind place old new = (j : List ℕ) (i : ℕ) → is_waiting new j i ≡ ((kind j && (i == place)) || is_waiting old j i)
 
--- each id has one of the last places of its list fewer, for each time that some ids list it
-abbrev pub AllTaken : List (List ℕ) → Lists → Lists → Type 0
-AllTaken ids old new = (j : List ℕ) → waiting_for new j ≡ without_last (times_listed j ids) (waiting_for old j)
+-- it waits for none of them any more
+abbrev pub TakenOut : (List ℕ → Bool) → ℕ → Waits → Waits → Type 0
+TakenOut kind place old new = (j : List ℕ) (i : ℕ) → is_waiting new j i ≡ (not (kind j && (i == place)) && is_waiting old j i)
 
--- each id has the places that it had
-abbrev pub SameLists : Lists → Lists → Type 0
-SameLists old new = (j : List ℕ) → waiting_for new j ≡ waiting_for old j
+-- all is as it was, but whether it waits for them
+abbrev pub SameBut : (List ℕ → Bool) → ℕ → Waits → Waits → Type 0
+SameBut kind place old new = (j : List ℕ) (i : ℕ) → (kind j && (i == place)) ≡ false → is_waiting new j i ≡ is_waiting old j i
+
+-- each task waits for what it waited for
+abbrev pub SameWaits : Waits → Waits → Type 0
+SameWaits old new = (j : List ℕ) (i : ℕ) → is_waiting new j i ≡ is_waiting old j i

@@ -5,8 +5,8 @@ ghost use Rattle.std.specs.Prelude.{◌≡◌, ◌+◌};
 use std::marker::Model;
 use std::sync::ledger::{Blank, Book, Ledger, Share};
 
-/// How many steps were taken. A step is one touch of a task's place: it is put into the sets of places, or it is looked at
-/// and taken out of those that aren't for it. This takes no bytes, and only `tick` changes it.
+/// How many steps were taken. A step is one look at a task, with the writes of its place to the sets of places that go with
+/// the look, or the change of one. This takes no bytes, and only `tick` changes it.
 #[derive(Drop)]
 pub struct Steps<L: Ledger> {
     book: Book<L>,

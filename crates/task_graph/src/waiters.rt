@@ -1,145 +1,149 @@
 //! The places of the tasks that wait for each id.
 
-ghost use Rattle.std.specs.Prelude.{◌≡◌, ◌++◌, ◌∷◌, [], List, ℕ, None, is_some, true, false, OnOk, OnErr, IfOk, bytes_eq, if◌then◌else◌};
+ghost use Rattle.std.specs.Prelude.{◌≡◌, ℕ, List, [], None, is_some, true, false, OnOk, OnErr, IfOk, bytes_eq};
 ghost use Rattle.std.specs.HashMap.{get_by_text};
-ghost use Rattle.task_graph.specs.Listing.{waiting_for, without_last, AllAdded, AllTaken, SameLists};
+ghost use Rattle.std.specs.List.Sorted.{IsStrictlySortedBy};
+ghost use Rattle.std.specs.Ordering.{nat_cmp};
+ghost use Rattle.task_graph.specs.Listing.{waiting_for, is_waiting, lists, Noted, TakenOut, SameBut, SameWaits};
+ghost use Rattle.place_sets.specs.Sets.{has};
 
 use cluster_types::text::Text;
+use place_sets::places::{add, leave_out, members};
 use std::alloc::{AllocError, Global};
-use std::collections::HashMap;
+use std::collections::{BTreeSet, HashMap};
 use std::marker::Model;
 
-/// For each id the places of the tasks that wait for it, in the order in which they were added. Ids that aren't known yet
-/// are as good as others.
+/// For each id the places of the tasks that wait for it, each once. Ids that aren't known yet are as good as others.
 #[derive(Drop)]
 pub struct Waiters {
-    lists: HashMap<String, Vec<usize>>,
+    sets: HashMap<String, BTreeSet<usize>>,
     alloc: Global,
 }
 
 impl Model for Waiters {
-    ghost use Rattle.task_graph.specs.Listing.{Lists};
+    ghost use Rattle.task_graph.specs.Listing.{Waits};
 
-    ghost Value = { Lists };
+    ghost Value = { Waits };
 
-    ghost view = { λ w. w.lists.entries };
+    ghost view = { λ w. w.sets.entries };
 }
 
-/// Puts a place at the end of an id's list, where it has one, and tells whether it has.
+/// Adds a place to the set of an id, where it has one, and tells whether it has.
 fn extend(
-    lists: &mut HashMap<String, Vec<usize>>,
+    sets: &mut HashMap<String, BTreeSet<usize>>,
     id: &Text,
     place: usize,
 ) -> Result<bool, AllocError>
-    ensures there { IfOk result (λ b. b ≡ is_some (get_by_text lists.old id.now)) }
-    ensures ok { IfOk result (λ b. b ≡ true → (j : List ℕ) → waiting_for lists.new.entries j ≡ (if bytes_eq id.now j then waiting_for lists.old.entries j ++ place ∷ [] else waiting_for lists.old.entries j)) }
-    ensures none { IfOk result (λ b. b ≡ false → lists.new ≡ lists.old) }
-    ensures err { OnErr result ((j : List ℕ) → waiting_for lists.new.entries j ≡ waiting_for lists.old.entries j) }
+    ensures there { IfOk result (λ b. b ≡ is_some (get_by_text sets.old id.now)) }
+    ensures ok { IfOk result (λ b. b ≡ true → Noted (bytes_eq id.now) place sets.old.entries sets.new.entries) }
+    ensures none { IfOk result (λ b. b ≡ false → sets.new ≡ sets.old) }
+    ensures err { OnErr result (SameWaits sets.old.entries sets.new.entries) }
 {
-    match lists.get_mut(id.as_str()) {
-        Some(list) => {
-            list.push(place)?;
+    match sets.get_mut(id.as_str()) {
+        Some(set) => {
+            add(set, place)?;
             Ok(true)
         }
         None => Ok(false),
     }
 }
 
-/// A list of one place.
-fn alone(alloc: Global, place: usize) -> Result<Vec<usize>, AllocError>
-    ensures { IfOk result (λ v. v.items ≡ place ∷ []) }
+/// A set of one place.
+fn alone(alloc: Global, place: usize) -> Result<BTreeSet<usize>, AllocError>
+    ensures there { IfOk result (λ s. has s place ≡ true) }
+    ensures only { IfOk result (λ s. (i : ℕ) → (i ≡ place → ⊥) → has s i ≡ false) }
 {
-    let mut list = Vec::new(alloc);
-    list.push(place)?;
-    Ok(list)
+    let mut set = BTreeSet::new(alloc);
+    add(&mut set, place)?;
+    Ok(set)
 }
 
-/// Begins the list of an id, which has none.
+/// Begins the set of an id, which has none.
 fn begin(
-    lists: &mut HashMap<String, Vec<usize>>,
+    sets: &mut HashMap<String, BTreeSet<usize>>,
     alloc: Global,
     id: &Text,
     place: usize,
 ) -> Result<(), AllocError>
-    requires { get_by_text lists.old id.now ≡ None }
-    ensures ok { OnOk result ((j : List ℕ) → waiting_for lists.new.entries j ≡ (if bytes_eq id.now j then waiting_for lists.old.entries j ++ place ∷ [] else waiting_for lists.old.entries j)) }
-    ensures err { OnErr result ((j : List ℕ) → waiting_for lists.new.entries j ≡ waiting_for lists.old.entries j) }
+    requires { get_by_text sets.old id.now ≡ None }
+    ensures ok { OnOk result (Noted (bytes_eq id.now) place sets.old.entries sets.new.entries) }
+    ensures err { OnErr result (SameWaits sets.old.entries sets.new.entries) }
 {
     let key = String::from_str(alloc, id.as_str())?;
-    let list = alone(alloc, place)?;
-    lists.insert(key, list)?;
+    let set = alone(alloc, place)?;
+    sets.insert(key, set)?;
     Ok(())
 }
 
-/// Takes the last place out of a list, where it has one.
-fn drop_last(list: &mut Vec<usize>)
-    ensures { list.new.items ≡ without_last 1 list.old.items }
+/// Takes a place out of the set of an id, where it has one.
+fn shorten(sets: &mut HashMap<String, BTreeSet<usize>>, id: &Text, place: usize)
+    ensures { TakenOut (bytes_eq id.now) place sets.old.entries sets.new.entries }
 {
-    let _ = list.pop();
-}
-
-/// Takes the last place out of an id's list, where it has one.
-fn shorten(lists: &mut HashMap<String, Vec<usize>>, id: &Text)
-    ensures { (j : List ℕ) → waiting_for lists.new.entries j ≡ (if bytes_eq id.now j then without_last 1 (waiting_for lists.old.entries j) else waiting_for lists.old.entries j) }
-{
-    if let Some(list) = lists.get_mut(id.as_str()) {
-        drop_last(list);
+    if let Some(set) = sets.get_mut(id.as_str()) {
+        leave_out(set, place);
     }
 }
 
 impl Waiters {
     /// No tasks. It takes no memory.
     pub fn new(alloc: Global) -> Waiters
-        ensures { (id : List ℕ) → waiting_for result id ≡ [] }
+        ensures { (id : List ℕ) (place : ℕ) → is_waiting result id place ≡ false }
     {
         Waiters {
-            lists: HashMap::new(alloc),
+            sets: HashMap::new(alloc),
             alloc,
         }
     }
 
-    /// The places of the tasks that wait for an id.
-    pub fn of(&self, id: &Text) -> &[usize]
-        ensures { result.now ≡ waiting_for self.now id.now }
+    /// The places of the tasks that wait for an id, ascending.
+    pub fn of(&self, id: &Text) -> Result<Vec<usize>, AllocError>
+        ensures places { IfOk result (λ v. v.items ≡ waiting_for self.now id.now) }
+        ensures sorted { OnOk result (IsStrictlySortedBy nat_cmp (waiting_for self.now id.now)) }
     {
-        match self.lists.get(id.as_str()) {
-            Some(list) => list.as_slice(),
-            None => &[],
-        }
-    }
-
-    /// Puts a place at the end of an id's list.
-    pub fn add(&mut self, id: &Text, place: usize) -> Result<(), AllocError>
-        ensures ok { OnOk result ((j : List ℕ) → waiting_for self.new j ≡ (if bytes_eq id.now j then waiting_for self.old j ++ place ∷ [] else waiting_for self.old j)) }
-        ensures err { OnErr result ((j : List ℕ) → waiting_for self.new j ≡ waiting_for self.old j) }
-    {
-        if !extend(&mut self.lists, id, place)? {
-            begin(&mut self.lists, self.alloc, id, place)?;
-        }
-        Ok(())
-    }
-
-    /// Puts a place at the end of the list of each of some ids, once for each time that they list it. Where memory is wanting
-    /// each id has what it had.
-    pub fn add_all(&mut self, ids: &[Text], place: usize) -> Result<(), AllocError>
-        ensures ok { OnOk result (AllAdded ids.now place self.old self.new) }
-        ensures err { OnErr result (SameLists self.old self.new) }
-    {
-        for added in 0..ids.len() {
-            if let Err(error) = self.add(&ids[added], place) {
-                self.take_back(&ids[..added]);
-                return Err(error);
+        match self.sets.get(id.as_str()) {
+            Some(set) => {
+                let places = members(self.alloc, set)?;
+                Ok(places)
             }
+            None => Ok(Vec::new(self.alloc)),
+        }
+    }
+
+    /// Notes that the task at a place waits for an id.
+    pub fn add(&mut self, id: &Text, place: usize) -> Result<(), AllocError>
+        ensures ok { OnOk result (Noted (bytes_eq id.now) place self.old self.new) }
+        ensures err { OnErr result (SameWaits self.old self.new) }
+    {
+        if !extend(&mut self.sets, id, place)? {
+            begin(&mut self.sets, self.alloc, id, place)?;
         }
         Ok(())
     }
 
-    /// Takes the last place out of the list of each of some ids, once for each time that they list it.
-    pub fn take_back(&mut self, ids: &[Text])
-        ensures { AllTaken ids.now self.old self.new }
+    /// Notes that it waits for each of some ids. Where memory is wanting that may be noted of some of them.
+    pub fn add_all(&mut self, ids: &[Text], place: usize) -> Result<(), AllocError>
+        ensures ok { OnOk result (Noted (lists ids.now) place self.old self.new) }
+        ensures err { OnErr result (SameBut (lists ids.now) place self.old self.new) }
     {
         for id in ids {
-            shorten(&mut self.lists, id);
+            self.add(id, place)?;
+        }
+        Ok(())
+    }
+
+    /// Takes out that the task at a place waits for an id.
+    pub fn take_out(&mut self, id: &Text, place: usize)
+        ensures { TakenOut (bytes_eq id.now) place self.old self.new }
+    {
+        shorten(&mut self.sets, id, place);
+    }
+
+    /// Takes out that it waits for any of some ids.
+    pub fn take_out_all(&mut self, ids: &[Text], place: usize)
+        ensures { TakenOut (lists ids.now) place self.old self.new }
+    {
+        for id in ids {
+            self.take_out(id, place);
         }
     }
 }

@@ -4,27 +4,35 @@ use Rattle.std.specs.Prelude.{nat_eq, nat_le, ◌==◌, filter_map}
 use Rattle.std.specs.Ordering.{nat_cmp}
 use Rattle.std.specs.BTreeMap.{is_at}
 use Rattle.std.specs.List.{list_any, list_all, cons_option}
-use Rattle.std.specs.Option.{option_and_then}
+use Rattle.std.specs.Option.{is_some, is_none, option_and_then}
 use Rattle.std.proofs.lemmas.Bool.{both_ways, eqb-true, and_from, or_left, or_right}
 use Rattle.cluster_types.specs.declared.event.Dep.{Dep}
 use Rattle.cluster_defs.specs.declared.engine.Engine.{Engine}
 use Rattle.cluster_defs.specs.Words.{Id, is_empty, is_listed, is_number}
 use Rattle.cluster_defs.specs.Engines.{lists_number}
 use Rattle.cluster_defs.specs.declared.settled.Settled.{Settled}
-use Rattle.cluster_defs.specs.Tasks.{Task}
+use Rattle.cluster_defs.specs.Tasks.{Task, runs}
 use Rattle.cluster_defs.specs.Dependencies.{asked, met, quantified, unreachable, on_engine, apart, scattered}
 use Rattle.cluster_defs.specs.Requests.{Request, is_direct, is_bound, is_target}
 use Rattle.cluster_defs.specs.Scheduling.{rests, excludes, usable_on, spoils, follow_spoilt, follow_dead, no_target, is_dead, may_run_as}
 use Rattle.task_table.specs.Seen.{Seen}
 use Rattle.task_table.specs.Standing.{alone}
 use Rattle.task_table.specs.Live.{lone}
-use Rattle.task_table.specs.Waiting.{settled_in, ready_as, ready, awaits_as, is_among}
+use Rattle.task_table.specs.Waiting.{settled_in, ready_as, ready, awaits_as, awaits, is_among}
 use Rattle.task_table.specs.Fitting.{among, fits, hopeless_as, hopeless, is_tied, tied}
 use Rattle.task_table.proofs.Waiting.{any_agree, all_agree, met_agrees, unreachable_agrees, Agrees}
 use Rattle.cluster_types.proofs.Booleans.{and_left}
 use Rattle.cluster_types.proofs.Lists.{all-weaker}
 
 -- WHAT HANGS ON LISTED IDS ALONE
+
+-- a task that is settled waits no more
+settled_rests : (t : Seen) → is_none t.settled ≡ false → rests (alone t) t.row.id ≡ false
+settled_rests t done = by_settled t.settled done
+  where
+    by_settled : (o : Option Settled) → is_none o ≡ false → (not (is_some o) && not (runs t.attempts.last)) ≡ false
+    by_settled None done = cc
+    by_settled (Some s) done = refl
 
 module _ (ts us : List Seen) where
   abbrev Same : List Id → Type 0
@@ -44,7 +52,15 @@ module _ (ts us : List Seen) where
       (met_agrees (λ i. on_engine n (settled_in ts i)) (λ i. on_engine n (settled_in us i)) r.follow (λ i on. ap (on_engine n) (follow_same r same i on)))
 
   pub fits_agrees : (n : ℕ) (t : Seen) → Agrees ts us (Some t) → fits ts t n ≡ fits us t n
-  fits_agrees n t same = ap (λ b. rests (alone t) t.row.id && b && not (excludes (alone t) t.row.id n)) (fits_as t.attempts t.row.id n t.request same)
+  fits_agrees n t same =
+      elim (is_none t.settled) as (λ b. is_none t.settled ≡ b → fits ts t n ≡ fits us t n) [
+        | true ↦ λ open_yet.
+            ap (λ b. rests (alone t) t.row.id && b && not (excludes (alone t) t.row.id n))
+            (fits_as t.attempts t.row.id n t.request (λ i on. same i (and_from (is_none t.settled) (awaits i t) open_yet on)))
+        | false ↦ λ done.
+            ap (λ b. b && may_run_as (among ts [] 0 t.attempts) t.row.id n t.request && not (excludes (alone t) t.row.id n)) (settled_rests t done)
+            ∙ sym (ap (λ b. b && may_run_as (among us [] 0 t.attempts) t.row.id n t.request && not (excludes (alone t) t.row.id n)) (settled_rests t done))
+      ] refl
 
   spoils_same : (live : List Engine) (a : Task) (r : Request) (o : Option Settled) → spoils (among ts live 0 a) [] r o ≡ spoils (among us live 0 a) [] r o
   spoils_same live a r None = refl
@@ -82,7 +98,14 @@ module _ (ts us : List Seen) where
   hopeless_as_same live a (Some r) same = ap (λ b. not (is_direct r) && (r.invalid || b)) (dead_same live a r (after_same r same) (follow_same r same))
 
   pub hopeless_agrees : (live : List Engine) (t : Seen) → Agrees ts us (Some t) → hopeless ts live t ≡ hopeless us live t
-  hopeless_agrees live t same = ap (λ b. rests (alone t) t.row.id && b) (hopeless_as_same live t.attempts t.request same)
+  hopeless_agrees live t same =
+      elim (is_none t.settled) as (λ b. is_none t.settled ≡ b → hopeless ts live t ≡ hopeless us live t) [
+        | true ↦ λ open_yet.
+            ap (λ b. rests (alone t) t.row.id && b)
+            (hopeless_as_same live t.attempts t.request (λ i on. same i (and_from (is_none t.settled) (awaits i t) open_yet on)))
+        | false ↦ λ done.
+            ap (λ b. b && hopeless_as ts live t.attempts t.request) (settled_rests t done) ∙ sym (ap (λ b. b && hopeless_as us live t.attempts t.request) (settled_rests t done))
+      ] refl
 
 -- MORE LIVE ENGINES, MORE HOPE
 

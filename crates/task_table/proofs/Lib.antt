@@ -1,4 +1,5 @@
 pub mod Fits
+pub mod Freed
 pub mod Loading
 pub mod Marking
 pub mod Places

@@ -10,7 +10,7 @@ use Rattle.place_sets.specs.Sets.{holds, holds_at, at_place, at_places}
 use Rattle.place_sets.proofs.Changing.{count_changed, count_past}
 use Rattle.place_sets.proofs.Recounting.{recounted}
 use Rattle.place_sets.specs.Counts.{count_of, hits, one_at, Moved}
-use Rattle.task_graph.specs.Listing.{Lists}
+use Rattle.task_graph.specs.Listing.{Waits}
 use Rattle.task_table.specs.declared.marks.Marks.{Marks}
 use Rattle.task_table.specs.declared.tallies.Classes.{Classes}
 use Rattle.task_table.specs.declared.tallies.Tallies.{Tallies}
@@ -18,9 +18,9 @@ use Rattle.task_table.specs.Seen.{Seen}
 use Rattle.task_table.specs.Loading.{load_in, loaded, Counted}
 use Rattle.task_table.specs.Tallying.{direct_class, finished_class, waiting_class, classes, no_classes, class_at, classes_at, tally_in, tally_at, Told, AllTold, no_tallies, Followed, Less, More, AllLess, AllMore}
 use Rattle.task_table.specs.Marking.{Marked}
-use Rattle.task_table.specs.Places.{asking, Beside}
+use Rattle.task_table.specs.Places.{Alike, Beside}
 use Rattle.task_table.proofs.Loading.{loads_hits}
-use Rattle.task_table.proofs.Waiting.{indexed_same, within_same}
+use Rattle.task_table.proofs.Waiting.{indexed_alike}
 
 at_there : (f : Seen → Seen) (p : ℕ) (ts : List Seen) (t : Seen) → slice_get ts p ≡ Some t → slice_get (at_place f p ts) p ≡ Some (f t)
 at_there f p [] t is = cc
@@ -171,7 +171,7 @@ told_counted ts (Some counts) told = λ n. told n ∙ sym (same_load ts n)
 pub none_told : (ts : List Seen) → AllTold ts no_tallies
 none_told ts = record { loads = tt; directs = tt; finished = tt; unassigned = tt }
 
-all_moved : (f : Seen → Seen) (p : ℕ) (ts us : List Seen) (old new : Tallies) (before after : Classes) → AllTold ts old → us ≡ at_place f p ts
+pub all_moved : (f : Seen → Seen) (p : ℕ) (ts us : List Seen) (old new : Tallies) (before after : Classes) → AllTold ts old → us ≡ at_place f p ts
     → before ≡ classes_at ts p → after ≡ classes_at us p → Followed old before after new → AllTold us new
 all_moved f p ts us old new before after told is one two moved = record {
   loads = told_counted us new.loads (moved_told loaded f p ts us old.loads new.loads before.loads after.loads (counted_told ts old.loads told.loads) is (ap (λ c. c.loads) one) (ap (λ c. c.loads) two) moved.loads);
@@ -226,25 +226,25 @@ all_more_more ts ps p old mid new before after rose one two moved =
 
 -- WHAT IS KEPT BESIDE THE TASKS
 
--- after a change that leaves the requests: where the counts are lost, and where they are right
-pub beside_lost : (ts us : List Seen) (m n : Marks) (waits : Lists) (o : Tallies) → Beside ts m waits o → map asking us ≡ map asking ts → Marked us n → Beside us n waits no_tallies
-beside_lost ts us m n waits o b same marked = record { marked = marked; indexed = indexed_same ts us waits b.indexed same; within = within_same ts us waits b.within same; counted = none_told us }
+-- after a change that leaves the requests and who is settled: where the counts are lost, and where they are right
+pub beside_lost : (ts us : List Seen) (m n : Marks) (waits : Waits) (o : Tallies) → Beside ts m waits o → Alike ts us → Marked us n → Beside us n waits no_tallies
+beside_lost ts us m n waits o b same marked = record { marked = marked; indexed = indexed_alike ts us waits b.indexed same; counted = none_told us }
 
-pub beside_counted : (ts us : List Seen) (m n : Marks) (waits : Lists) (o p : Tallies) → Beside ts m waits o → map asking us ≡ map asking ts → Marked us n → AllTold us p → Beside us n waits p
-beside_counted ts us m n waits o p b same marked counted = record { marked = marked; indexed = indexed_same ts us waits b.indexed same; within = within_same ts us waits b.within same; counted = counted }
+pub beside_counted : (ts us : List Seen) (m n : Marks) (waits : Waits) (o p : Tallies) → Beside ts m waits o → Alike ts us → Marked us n → AllTold us p → Beside us n waits p
+beside_counted ts us m n waits o p b same marked counted = record { marked = marked; indexed = indexed_alike ts us waits b.indexed same; counted = counted }
 
 -- where the counts are taken out
-pub beside_out : (ts : List Seen) (m : Marks) (waits : Lists) (o p : Tallies) → Beside ts m waits o → p ≡ no_tallies → Beside ts m waits p
-beside_out ts m waits o p b out = record { marked = b.marked; indexed = b.indexed; within = b.within; counted = subst (λ q. AllTold ts q) (sym out) (none_told ts) }
+pub beside_out : (ts : List Seen) (m : Marks) (waits : Waits) (o p : Tallies) → Beside ts m waits o → p ≡ no_tallies → Beside ts m waits p
+beside_out ts m waits o p b out = record { marked = b.marked; indexed = b.indexed; counted = subst (λ q. AllTold ts q) (sym out) (none_told ts) }
 
 -- after a change at a place, where the counts follow it
-pub beside_moved : (f : Seen → Seen) (p : ℕ) (ts us : List Seen) (m n : Marks) (waits : Lists) (o kept new : Tallies) (before after : Classes) → Beside ts m waits o → kept ≡ o → map asking us ≡ map asking ts → Marked us n
+pub beside_moved : (f : Seen → Seen) (p : ℕ) (ts us : List Seen) (m n : Marks) (waits : Waits) (o kept new : Tallies) (before after : Classes) → Beside ts m waits o → kept ≡ o → Alike ts us → Marked us n
     → us ≡ at_place f p ts → before ≡ classes_at ts p → after ≡ classes_at us p → Followed kept before after new → Beside us n waits new
 beside_moved f p ts us m n waits o kept new before after b kept_is same marked is one two moved =
     beside_counted ts us m n waits o new b same marked (all_moved f p ts us kept new before after (subst (λ k. AllTold ts k) (sym kept_is) b.counted) is one two moved)
 
 -- after changes at some places, whose tasks were set aside
-pub beside_swept : {E : Type 0} (r : Result ⊤ E) (f : Seen → Seen) (ps : List ℕ) (ts us : List Seen) (m n : Marks) (waits : Lists) (o rest taken new : Tallies) → Beside ts m waits o → map asking us ≡ map asking ts → Marked us n
+pub beside_swept : {E : Type 0} (r : Result ⊤ E) (f : Seen → Seen) (ps : List ℕ) (ts us : List Seen) (m n : Marks) (waits : Waits) (o rest taken new : Tallies) → Beside ts m waits o → Alike ts us → Marked us n
     → IsStrictlySortedBy nat_cmp ps → us ≡ at_places f ps ts → AllLess ts ps o rest → taken ≡ no_tallies → OnOk r (AllMore us ps rest new) → OnErr r (new ≡ taken) → Beside us n waits new
 beside_swept (Ok x) f ps ts us m n waits o rest taken new b same marked sorted is less out ok err =
     beside_counted ts us m n waits o new b same marked (all_swept f ps ts us o rest new sorted is b.counted less ok)

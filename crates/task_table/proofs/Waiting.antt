@@ -1,16 +1,17 @@
 -- A task that is settled changes what is so of the tasks that wait for it alone.
-use Rattle.std.proofs.Common.{◌≡◌, ◌≤◌, ◌<◌, ◌+◌, ℕ, zero, suc, length, replicate, arith, List, [], ◌∷◌, ◌++◌, map, Bool, true, false, not, ◌&&◌, ◌||◌, cond, refl, sym, ap, ◌∙◌, subst, Option, Some, None, bytes_eq, ◌⊎◌, inl}
+use Rattle.std.proofs.Common.{◌≡◌, ◌≤◌, ◌+◌, ℕ, zero, suc, length, arith, List, [], ◌∷◌, ◌++◌, map, Bool, true, false, not, ◌&&◌, ◌||◌, cond, refl, sym, ap, ◌∙◌, subst, Option, Some, None, bytes_eq, ◌⊎◌, inl}
 use Rattle.std.specs.Prelude.{⊤, slice_get, ◌==◌, option_map}
 use Rattle.std.specs.Ordering.{nat_cmp}
 use Rattle.std.specs.BTreeMap.{is_at}
-use Rattle.std.specs.List.{list_any, list_all, sum_by}
-use Rattle.std.proofs.lemmas.List.{length-append, length-replicate}
+use Rattle.std.specs.List.{list_any, list_all}
+use Rattle.std.specs.List.Sorted.{IsStrictlySortedBy}
 use Rattle.std.proofs.lemmas.List.Folds.{list_any-append}
-use Rattle.std.proofs.lemmas.List.Sums.{sum_by-cons, sum_by_push}
-use Rattle.std.specs.Option.{option_and_then}
+use Rattle.std.specs.Option.{is_none, option_and_then}
 use Rattle.std.specs.BTreeSet.{BTreeSet}
-use Rattle.place_sets.specs.Sets.{has, holds, holds_at, Apart}
-use Rattle.place_sets.proofs.Covering.{first_or_later}
+use Rattle.place_sets.specs.Sets.{has, holds, holds_at, Apart, at_place}
+use Rattle.place_sets.specs.Lanes.{in_set, keys_in}
+use Rattle.place_sets.proofs.Ascending.{members_are}
+use Rattle.place_sets.proofs.Sweeping.{apart_at, here_at}
 use Rattle.cluster_types.specs.declared.event.Dep.{Dep}
 use Rattle.cluster_defs.specs.Words.{Id, is_empty, is_listed}
 use Rattle.cluster_defs.specs.declared.settled.Settled.{Settled}
@@ -19,9 +20,9 @@ use Rattle.cluster_defs.specs.Requests.{Request}
 use Rattle.cluster_defs.proofs.Options.{same_id, id_self}
 use Rattle.task_table.specs.Seen.{Seen, seen_in, place_in}
 use Rattle.task_table.specs.Places.{name, settling, asking, Alike}
-use Rattle.task_graph.specs.Listing.{Lists, waiting_for, times_listed, AllAdded, SameLists}
+use Rattle.task_graph.specs.Listing.{Waits, set_of, waiting_for, is_waiting, lists, Noted, TakenOut, SameWaits}
 use Rattle.std.proofs.lemmas.Bool.{both_ways, eqb-true, eq-eqb, or_right, or_left, false_from_ne_true}
-use Rattle.task_table.specs.Waiting.{settled_in, awaits_as, awaits, is_among, Awaited, Indexed, ids_of, listings, Within}
+use Rattle.task_table.specs.Waiting.{settled_in, awaits_as, awaits, waits_on, waiting_on, is_among, Awaited, Indexed, ids_of, LeftFor, LeftAt}
 use Rattle.task_table.proofs.Places.{same_place, found_seen}
 
 -- WHAT HANGS ON LISTED IDS ALONE
@@ -47,10 +48,10 @@ module _ (f g : Id → Option Settled) where
 
 -- COVERED BEFORE, COVERED AFTER
 
--- two tables agree on the ids that a task waits for
+-- two tables agree on the ids that a task waits on
 abbrev pub Agrees : List Seen → List Seen → Option Seen → Type 0
 Agrees ts us None = ⊤
-Agrees ts us (Some t) = (i : Id) → awaits i t ≡ true → settled_in ts i ≡ settled_in us i
+Agrees ts us (Some t) = (i : Id) → waits_on i t ≡ true → settled_in ts i ≡ settled_in us i
 
 module _ (ts us : List Seen) where
   -- outside the set the tasks are the same, and so is what they wait for
@@ -92,12 +93,12 @@ others_settled ts us x j p names apart at once off =
 pub settle_outside : (ts us : List Seen) (x : Id) (p : ℕ) (places : List ℕ) (s : BTreeSet ℕ) → Awaited x ts places → ((i : ℕ) → is_among i places ≡ true → has s i ≡ true) → has s p ≡ true → Apart p ts us → ((j : Id) → bytes_eq j x ≡ false → settled_in ts j ≡ settled_in us j) → Outside ts us s
 settle_outside ts us x p places s awaited marked here apart others = λ i off. (
   apart i (λ e. both_ways (has s p) (subst (λ k. has s k ≡ false) e off) here),
-  agree (slice_get ts i) (false_from_ne_true (holds (awaits x) (slice_get ts i)) (λ on. both_ways (has s i) off (marked i (awaited i on)))),
+  agree (slice_get ts i) (false_from_ne_true (holds (waits_on x) (slice_get ts i)) (λ on. both_ways (has s i) off (marked i (awaited i on)))),
 )
   where
-    agree : (o : Option Seen) → holds (awaits x) o ≡ false → Agrees ts us o
+    agree : (o : Option Seen) → holds (waits_on x) o ≡ false → Agrees ts us o
     agree None off = tt
-    agree (Some t) off = λ j on. others j (false_from_ne_true (bytes_eq j x) (λ same. both_ways (awaits x t) off (subst (λ k. awaits k t ≡ true) (same_id j x same) on)))
+    agree (Some t) off = λ j on. others j (false_from_ne_true (bytes_eq j x) (λ same. both_ways (waits_on x t) off (subst (λ k. waits_on k t ≡ true) (same_id j x same) on)))
 
 -- two ids of one place are one
 at_once : (b c : Bool) (o q : Option ℕ) (p : ℕ) {P : Type 0} → cond b (Some 0) (option_map suc o) ≡ Some p → cond c (Some 0) (option_map suc q) ≡ Some p → (b ≡ true → c ≡ true → P) → ((k : ℕ) → o ≡ Some k → q ≡ Some k → P) → P
@@ -176,88 +177,122 @@ get_last (u ∷ ts) t = get_last ts t
 
 -- THE INDEX
 
-abbrev waits_in : Id → Option (Option Request) → Bool
-waits_in id None = false
-waits_in id (Some o) = awaits_as id o
+abbrev waits_in : Id → Option (Option Settled) → Option (Option Request) → Bool
+waits_in id None o = false
+waits_in id (Some s) None = false
+waits_in id (Some s) (Some o) = is_none s && awaits_as id o
 
-by_requests : (id : Id) (ts : List Seen) (i : ℕ) → holds_at (awaits id) ts i ≡ waits_in id (slice_get (map asking ts) i)
-by_requests id [] i = refl
-by_requests id (t ∷ ts) zero = refl
-by_requests id (t ∷ ts) (suc i) = by_requests id ts i
+by_parts : (id : Id) (ts : List Seen) (i : ℕ) → holds_at (waits_on id) ts i ≡ waits_in id (slice_get (map settling ts) i) (slice_get (map asking ts) i)
+by_parts id [] i = refl
+by_parts id (t ∷ ts) zero = refl
+by_parts id (t ∷ ts) (suc i) = by_parts id ts i
 
--- it hangs on the requests alone
-pub indexed_same : (ts us : List Seen) (waits : Lists) → Indexed ts waits → map asking us ≡ map asking ts → Indexed us waits
-indexed_same ts us waits is same = λ id i on. is id i (by_requests id ts i ∙ ap (λ os. waits_in id (slice_get os i)) (sym same) ∙ sym (by_requests id us i) ∙ on)
+-- it hangs on the requests, and on who is settled
+pub indexed_alike : (ts us : List Seen) (waits : Waits) → Indexed ts waits → Alike ts us → Indexed us waits
+indexed_alike ts us waits is same = λ id i.
+    is id i ∙ by_parts id ts i ∙ ap (λ ss. waits_in id (slice_get ss i) (slice_get (map asking ts) i)) (sym same.settled)
+    ∙ ap (λ os. waits_in id (slice_get (map settling us) i) (slice_get os i)) (sym same.requests) ∙ sym (by_parts id us i)
 
--- a task more, whose place stands with each id that it waits for
-pub indexed_more : (ts : List Seen) (t : Seen) (waits : Lists) → Indexed ts waits → ((id : Id) → awaits id t ≡ true → is_among (length ts) (waiting_for waits id) ≡ true) → Indexed (ts ++ t ∷ []) waits
-indexed_more ts t waits is noted = λ id i on.
-    elim (i == length ts) as (λ b. (i == length ts) ≡ b → is_among i (waiting_for waits id) ≡ true) [
-      | true ↦ λ here.
-          let at : i ≡ length ts = eqb-true i (length ts) here in
-          subst (λ k. is_among k (waiting_for waits id) ≡ true) (sym at)
-          (noted id (ap (holds (awaits id)) (sym (get_last ts t)) ∙ subst (λ k. holds_at (awaits id) (ts ++ t ∷ []) k ≡ true) at on))
-      | false ↦ λ off. is id i (ap (holds (awaits id)) (sym (get_more ts t i (λ e. both_ways (i == length ts) off (eq-eqb i (length ts) e)))) ∙ on)
-    ] refl
+pub indexed_kept : (ts : List Seen) (old new : Waits) → Indexed ts old → SameWaits old new → Indexed ts new
+indexed_kept ts old new is same = λ id i. same id i ∙ is id i
+
+pub past_end : (p : Seen → Bool) (ts : List Seen) → holds_at p ts (length ts) ≡ false
+past_end p [] = refl
+past_end p (t ∷ ts) = past_end p ts
+
+-- the place of a task more waits for nothing yet
+pub fresh_place : (ts : List Seen) (waits : Waits) → Indexed ts waits → (j : Id) → is_waiting waits j (length ts) ≡ false
+fresh_place ts waits is j = is j (length ts) ∙ past_end (waits_on j) ts
+
+listed_awaits : (id : Id) (o : Option Request) → lists (ids_of o) id ≡ awaits_as id o
+listed_awaits id None = refl
+listed_awaits id (Some r) = list_any-append (λ i. bytes_eq i id) r.after.ids r.follow.ids
 
 -- A TASK MORE, NOTED WITH THE IDS THAT IT LISTS
 
-among_left : (xs ys : List ℕ) (i : ℕ) → is_among i xs ≡ true → is_among i (xs ++ ys) ≡ true
-among_left xs ys i on = list_any-append (is_at (nat_cmp i)) xs ys ∙ or_left (is_among i xs) (is_among i ys) on
+at_end : (x o : Bool) → o ≡ false → ((x && true) || o) ≡ x
+at_end true o off = refl
+at_end false o off = off
 
-among_right : (xs ys : List ℕ) (i : ℕ) → is_among i ys ≡ true → is_among i (xs ++ ys) ≡ true
-among_right xs ys i on = list_any-append (is_at (nat_cmp i)) xs ys ∙ or_right (is_among i xs) (is_among i ys) on
+elsewhere : (x o : Bool) → ((x && false) || o) ≡ o
+elsewhere true o = refl
+elsewhere false o = refl
 
-among_times : (n p : ℕ) → 0 < n → is_among p (replicate n p) ≡ true
-among_times zero p some = absurd (omega (arith, some))
-among_times (suc n) p some = let same : is_at (nat_cmp p) p ≡ true = grind (arith) in or_left (is_at (nat_cmp p) p) (is_among p (replicate n p)) same
+module _ (ts : List Seen) (t : Seen) (old new : Waits) where
+  pub indexed_noted : t.settled ≡ None → Indexed ts old → Noted (lists (ids_of t.request)) (length ts) old new → Indexed (ts ++ t ∷ []) new
+  indexed_noted none is added = λ id i. added id i ∙ noted_at id i
+    where
+      last_is : (id : Id) → ((lists (ids_of t.request) id && true) || is_waiting old id (length ts)) ≡ holds_at (waits_on id) (ts ++ t ∷ []) (length ts)
+      last_is id =
+          at_end (lists (ids_of t.request) id) (is_waiting old id (length ts)) (fresh_place ts old is id) ∙ listed_awaits id t.request
+          ∙ sym (ap (λ o. is_none o && awaits id t) none) ∙ ap (holds (waits_on id)) (sym (get_last ts t))
 
-some_times : (id : Id) (ids : List Id) → is_listed id ids ≡ true → 0 < times_listed id ids
-some_times id [] on = cc
-some_times id (i ∷ ids) on =
-    let one : times_listed id (i ∷ ids) ≡ cond (bytes_eq i id) 1 0 + times_listed id ids = sum_by-cons (λ j. cond (bytes_eq j id) 1 0) i ids in
-    first_or_later (bytes_eq i id) (is_listed id ids) on
-    (λ here. let first : ◌≡◌ {A = ℕ} (cond (bytes_eq i id) 1 0) 1 = ap (λ b. cond b 1 0) here in omega (arith, one, first))
-    (λ later. let rest : 0 < times_listed id ids = some_times id ids later in omega (arith, one, rest))
+      noted_at : (id : Id) (i : ℕ) → ((lists (ids_of t.request) id && (i == length ts)) || is_waiting old id i) ≡ holds_at (waits_on id) (ts ++ t ∷ []) i
+      noted_at id i =
+          elim (i == length ts) as (λ b. (i == length ts) ≡ b → ((lists (ids_of t.request) id && b) || is_waiting old id i) ≡ holds_at (waits_on id) (ts ++ t ∷ []) i) [
+            | true ↦ λ here. subst (λ k. ((lists (ids_of t.request) id && true) || is_waiting old id k) ≡ holds_at (waits_on id) (ts ++ t ∷ []) k) (sym (eqb-true i (length ts) here)) (last_is id)
+            | false ↦ λ off.
+                elsewhere (lists (ids_of t.request) id) (is_waiting old id i) ∙ is id i
+                ∙ ap (holds (waits_on id)) (sym (get_more ts t i (λ e. both_ways (i == length ts) off (eq-eqb i (length ts) e))))
+          ] refl
 
-awaits_listed : (id : Id) (o : Option Request) → awaits_as id o ≡ true → is_listed id (ids_of o) ≡ true
-awaits_listed id None on = cc
-awaits_listed id (Some r) on = list_any-append (λ i. bytes_eq i id) r.after.ids r.follow.ids ∙ on
+-- A TASK THAT IS SETTLED, AND TAKEN OUT OF THE IDS THAT IT LISTS
 
-module _ (ts : List Seen) (t : Seen) (old new : Lists) where
-  pub indexed_noted : Indexed ts old → AllAdded (ids_of t.request) (length ts) old new → Indexed (ts ++ t ∷ []) new
-  indexed_noted is added = indexed_more ts t new
-      (λ id i on. subst (λ xs. is_among i xs ≡ true) (sym (added id)) (among_left (waiting_for old id) (replicate (times_listed id (ids_of t.request)) (length ts)) i (is id i on)))
-      (λ id on. subst (λ xs. is_among (length ts) xs ≡ true) (sym (added id)) (among_right (waiting_for old id) (replicate (times_listed id (ids_of t.request)) (length ts)) (length ts)
-      (among_times (times_listed id (ids_of t.request)) (length ts) (some_times id (ids_of t.request) (awaits_listed id t.request on)))))
+gone : (x e o : Bool) → e ≡ true → (x ≡ false → o ≡ false) → (not (x && e) && o) ≡ false
+gone true true o on off = refl
+gone true false o on off = cc
+gone false e o on off = off refl
 
-  pub within_noted : Within ts old → AllAdded (ids_of t.request) (length ts) old new → Within (ts ++ t ∷ []) new
-  within_noted is added = λ id.
-      let n = times_listed id (ids_of t.request) in
-      let long : length (waiting_for new id) ≡ length (waiting_for old id) + n = ap length (added id) ∙ length-append (waiting_for old id) (replicate n (length ts)) ∙ ap (λ m. length (waiting_for old id) + m) (length-replicate n (length ts)) in
-      let more : listings id (ts ++ t ∷ []) ≡ listings id ts + n = sum_by_push (λ u. times_listed id (ids_of u.request)) ts t in
-      let before : length (waiting_for old id) ≤ listings id ts = is id in
-      omega (arith, long, more, before)
+still : (x e o : Bool) → e ≡ false → (not (x && e) && o) ≡ o
+still true true o off = cc
+still true false o off = refl
+still false e o off = refl
 
--- NO MORE PLACES THAN ARE LISTED
+second_off : (a b : Bool) → b ≡ false → (a && b) ≡ false
+second_off true b off = off
+second_off false b off = refl
 
-by_asking : (id : Id) (ts : List Seen) → listings id ts ≡ sum_by (λ o. times_listed id (ids_of o)) (map asking ts)
-by_asking id [] = refl
-by_asking id (t ∷ ts) =
-    sum_by-cons (λ u. times_listed id (ids_of u.request)) t ts ∙ ap (λ n. times_listed id (ids_of t.request) + n) (by_asking id ts)
-    ∙ sym (sum_by-cons (λ o. times_listed id (ids_of o)) (asking t) (map asking ts))
+module _ (f : Seen → Seen) (done : (t : Seen) → is_none (f t).settled ≡ false) (kept_request : (t : Seen) → (f t).request ≡ t.request) (place : ℕ) (old new : Waits) where
+  left_here : (j : Id) (o : Option Seen) → is_waiting old j place ≡ holds (waits_on j) o → LeftFor place old new (option_map f o) → is_waiting new j place ≡ holds (waits_on j) (option_map f o)
+  left_here j None is same = same j place ∙ is
+  left_here j (Some t) is out =
+      out j place
+      ∙ gone (lists (ids_of (f t).request) j) (place == place) (is_waiting old j place) (eq-eqb place place refl)
+      (λ off. is ∙ second_off (is_none t.settled) (awaits j t) (sym (listed_awaits j t.request) ∙ ap (λ o. lists (ids_of o) j) (sym (kept_request t)) ∙ off))
+      ∙ sym (ap (λ b. b && awaits j (f t)) (done t))
 
--- it hangs on the requests alone
-pub within_same : (ts us : List Seen) (waits : Lists) → Within ts waits → map asking us ≡ map asking ts → Within us waits
-within_same ts us waits is same = λ id.
-    let listed : listings id us ≡ listings id ts = by_asking id us ∙ ap (sum_by (λ o. times_listed id (ids_of o))) same ∙ sym (by_asking id ts) in
-    let before : length (waiting_for waits id) ≤ listings id ts = is id in
-    omega (arith, listed, before)
+  left_there : (j : Id) (i : ℕ) (o : Option Seen) → (i == place) ≡ false → LeftFor place old new o → is_waiting new j i ≡ is_waiting old j i
+  left_there j i None off same = same j i
+  left_there j i (Some t) off out = out j i ∙ still (lists (ids_of t.request) j) (i == place) (is_waiting old j i) off
 
--- THE SAME PLACES
+  pub indexed_settled : (ts us : List Seen) → us ≡ at_place f place ts → Indexed ts old → LeftAt us place old new → Indexed us new
+  indexed_settled ts us made is left = λ j i.
+      elim (i == place) as (λ b. (i == place) ≡ b → is_waiting new j i ≡ holds_at (waits_on j) us i) [
+        | true ↦ λ on. subst (λ k. is_waiting new j k ≡ holds_at (waits_on j) us k) (sym (eqb-true i place on)) (here j)
+        | false ↦ λ off.
+            left_there j i (slice_get us place) off left ∙ is j i
+            ∙ ap (holds (waits_on j)) (sym (ap (λ vs. slice_get vs i) made ∙ apart_at f place ts i (λ e. both_ways (i == place) off (eq-eqb i place e))))
+      ] refl
+    where
+      at : slice_get us place ≡ option_map f (slice_get ts place)
+      at = ap (λ vs. slice_get vs place) made ∙ here_at f place ts
 
-pub indexed_kept : (ts : List Seen) (old new : Lists) → Indexed ts old → SameLists old new → Indexed ts new
-indexed_kept ts old new is same = λ id i on. subst (λ xs. is_among i xs ≡ true) (sym (same id)) (is id i on)
+      here : (j : Id) → is_waiting new j place ≡ holds_at (waits_on j) us place
+      here j = left_here j (slice_get ts place) (is j place) (subst (LeftFor place old new) at left) ∙ ap (holds (waits_on j)) (sym at)
 
-pub within_kept : (ts : List Seen) (old new : Lists) → Within ts old → SameLists old new → Within ts new
-within_kept ts old new is same = λ id. subst (λ xs. length xs ≤ listings id ts) (sym (same id)) (is id)
+-- THE PLACES OF THOSE THAT WAIT ON AN ID
+
+by_set : (o : Option (BTreeSet ℕ)) (i : ℕ) → is_among i (keys_in o) ≡ in_set o i
+by_set None i = refl
+by_set (Some s) i = refl
+
+pub awaited_of : (ts : List Seen) (waits : Waits) (id : Id) (places : List ℕ) → Indexed ts waits → places ≡ waiting_for waits id → Awaited id ts places
+awaited_of ts waits id places is same = λ i on. subst (λ qs. is_among i qs ≡ true) (sym same) (by_set (set_of waits id) i ∙ is id i ∙ on)
+
+pub waiting_is : (ts : List Seen) (waits : Waits) (id : Id) → Indexed ts waits → IsStrictlySortedBy nat_cmp (waiting_for waits id) → waiting_for waits id ≡ waiting_on id ts
+waiting_is ts waits id is sorted = members_are (waits_on id) ts (waiting_for waits id) sorted (λ i. by_set (set_of waits id) i ∙ is id i)
+
+-- what a bound by those places says of the table
+pub bound_of : (ts us : List Seen) (waits : Waits) (id : Id) (ws ps : List ℕ) (n m : ℕ) → Indexed ts waits → IsStrictlySortedBy nat_cmp (waiting_for waits id) → ps ≡ waiting_for waits id → ws ≡ ps → ts ≡ us → n ≤ m + (1 + length ws) → n ≤ m + (1 + length (waiting_on id us))
+bound_of ts us waits id ws ps n m is sorted read same seen cost =
+    subst (λ vs. n ≤ m + (1 + length (waiting_on id vs))) seen (subst (λ qs. n ≤ m + (1 + length qs)) (same ∙ read ∙ waiting_is ts waits id is sorted) cost)

@@ -1,4 +1,5 @@
 pub mod Fitting
+pub mod Freeing
 pub mod Live
 pub mod Loading
 pub mod Marking

@@ -6,10 +6,10 @@ use Rattle.cluster_defs.specs.declared.settled.Settled.{Settled}
 use Rattle.task_table.specs.declared.marks.Marks.{Marks}
 use Rattle.task_table.specs.Seen.{Seen, place_in}
 use Rattle.task_table.specs.Marking.{Marked}
-use Rattle.task_table.specs.Waiting.{Indexed, Within}
+use Rattle.task_table.specs.Waiting.{Indexed}
 use Rattle.task_table.specs.Tallying.{AllTold}
 use Rattle.task_table.specs.declared.tallies.Tallies.{Tallies}
-use Rattle.task_graph.specs.Listing.{Lists}
+use Rattle.task_graph.specs.Listing.{Waits}
 
 abbrev pub name : Seen → Id
 name t = t.row.id
@@ -36,10 +36,9 @@ pub record Alike (old new : List Seen) : Type 0 where
 abbrev pub Placed : List Seen → (Id → Option ℕ) → Type 0
 Placed ts place_of = (id : Id) → place_of id ≡ place_in id ts
 
--- what is kept beside the tasks: sets of places, for each id the places of those that wait for it and no more than list it, and
--- how many there are of some classes
-pub record Beside (ts : List Seen) (marks : Marks) (waits : Lists) (tallies : Tallies) : Type 0 where
+-- what is kept beside the tasks: sets of places, for each id the places of those that wait on it, and how many there are of
+-- some classes
+pub record Beside (ts : List Seen) (marks : Marks) (waits : Waits) (tallies : Tallies) : Type 0 where
   pub marked : Marked ts marks
   pub indexed : Indexed ts waits
-  pub within : Within ts waits
   pub counted : AllTold ts tallies

@@ -1,11 +1,11 @@
 -- Tasks that wait for others: how these were settled, and where those are that list an id.
-use Rattle.std.specs.Prelude.{◌≡◌, ◌≤◌, ℕ, nat_le, List, [], ◌++◌, length, Option, Some, None, Bool, true, false, not, ◌&&◌, ◌||◌}
+use Rattle.std.specs.Prelude.{◌≡◌, ℕ, nat_le, List, [], ◌++◌, Option, Some, None, Bool, true, false, not, ◌&&◌, ◌||◌, slice_get}
 use Rattle.std.specs.Ordering.{nat_cmp}
-use Rattle.std.specs.List.{list_any, sum_by}
+use Rattle.std.specs.List.{list_any}
 use Rattle.std.specs.BTreeMap.{is_at}
-use Rattle.std.specs.Option.{option_and_then}
-use Rattle.place_sets.specs.Sets.{holds_at}
-use Rattle.task_graph.specs.Listing.{Lists, waiting_for, times_listed}
+use Rattle.std.specs.Option.{is_none, option_and_then}
+use Rattle.place_sets.specs.Sets.{holds_at, places_where}
+use Rattle.task_graph.specs.Listing.{Waits, is_waiting, lists, TakenOut, SameWaits}
 use Rattle.cluster_defs.specs.Words.{Id, is_listed}
 use Rattle.cluster_defs.specs.declared.settled.Settled.{Settled}
 use Rattle.cluster_defs.specs.Tasks.{Task}
@@ -39,23 +39,31 @@ awaits id t = awaits_as id t.request
 abbrev pub is_among : ℕ → List ℕ → Bool
 is_among i places = list_any (is_at (nat_cmp i)) places
 
--- some places have all tasks that wait for an id, and maybe more
-abbrev pub Awaited : Id → List Seen → List ℕ → Type 0
-Awaited id ts places = (i : ℕ) → holds_at (awaits id) ts i ≡ true → is_among i places ≡ true
+-- whether a task isn't settled, and lists an id
+abbrev pub waits_on : Id → Seen → Bool
+waits_on id t = is_none t.settled && awaits id t
 
--- each id has the places of all tasks that wait for it, and maybe more
-abbrev pub Indexed : List Seen → Lists → Type 0
-Indexed ts waits = (id : Id) → Awaited id ts (waiting_for waits id)
+-- the places of the tasks that wait on an id, ascending
+abbrev pub waiting_on : Id → List Seen → List ℕ
+waiting_on id ts = places_where (waits_on id) ts
+
+-- some places have all tasks that wait on an id, and maybe more
+abbrev pub Awaited : Id → List Seen → List ℕ → Type 0
+Awaited id ts places = (i : ℕ) → holds_at (waits_on id) ts i ≡ true → is_among i places ≡ true
+
+-- each id has the places of the tasks that wait on it, and no others
+abbrev pub Indexed : List Seen → Waits → Type 0
+Indexed ts waits = (id : Id) (i : ℕ) → is_waiting waits id i ≡ holds_at (waits_on id) ts i
 
 -- the ids that a task lists: those of `after`, then those of `follow`
 abbrev pub ids_of : Option Request → List Id
 ids_of None = []
 ids_of (Some r) = r.after.ids ++ r.follow.ids
 
--- how often the tasks list an id
-abbrev pub listings : Id → List Seen → ℕ
-listings id ts = sum_by (λ t. times_listed id (ids_of t.request)) ts
+-- the task at a place is taken out of all ids that it lists
+abbrev pub LeftFor : ℕ → Waits → Waits → Option Seen → Type 0
+LeftFor place old new None = SameWaits old new
+LeftFor place old new (Some t) = TakenOut (lists (ids_of t.request)) place old new
 
--- no id has more places than the tasks list it
-abbrev pub Within : List Seen → Lists → Type 0
-Within ts waits = (id : Id) → length (waiting_for waits id) ≤ listings id ts
+abbrev pub LeftAt : List Seen → ℕ → Waits → Waits → Type 0
+LeftAt ts place old new = LeftFor place old new (slice_get ts place)

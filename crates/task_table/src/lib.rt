@@ -4,6 +4,7 @@
 pub mod attempts;
 mod finished;
 pub mod fitting;
+pub mod freeing;
 pub mod laning;
 pub mod live;
 pub mod loads;

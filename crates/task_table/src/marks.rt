@@ -1,15 +1,13 @@
 //! Sets of places of tasks, by which what is due is found without a look at all tasks. A place that is put into the sets
 //! may change, whatever the change.
 
-ghost use Rattle.std.specs.Prelude.{◌≡◌, ◌≤◌, ◌+◌, [], length, OnOk, IfOk};
+ghost use Rattle.std.specs.Prelude.{[], OnOk};
 ghost use Rattle.task_table.specs.Marking.{Marked, HasAt, HasAll, Woken, AllWoken, AllGrow};
 
 use place_sets::lanes::Lanes;
 use place_sets::places::add;
 use std::alloc::{AllocError, Global};
 use std::collections::BTreeSet;
-use std::sync::ledger::Ledger;
-use task_graph::steps::Steps;
 
 /// Places of tasks, each set with all that it is for, and maybe more.
 pub struct Marks {
@@ -76,30 +74,23 @@ pub fn no_marks(alloc: Global) -> Marks
     }
 }
 
-/// Adds a place to the sets that hang on how other tasks were settled. It is a step.
-fn wake<L: Ledger>(marks: &mut Marks, place: usize, steps: &mut Steps<L>) -> Result<(), AllocError>
+/// Adds a place to the sets that hang on how other tasks were settled.
+fn wake(marks: &mut Marks, place: usize) -> Result<(), AllocError>
     ensures there { OnOk result (Woken place marks.new) }
     ensures grow { AllGrow marks.old marks.new }
-    ensures cost { steps.new ≡ steps.old + 1 }
 {
-    steps.tick();
     add(&mut marks.free, place)?;
     add(&mut marks.doubtful, place)?;
     Ok(())
 }
 
-/// Adds some places to the sets that hang on how other tasks were settled. Each is a step.
-pub fn wake_all<L: Ledger>(
-    marks: &mut Marks,
-    places: &[usize],
-    steps: &mut Steps<L>,
-) -> Result<(), AllocError>
+/// Adds some places to the sets that hang on how other tasks were settled.
+pub fn wake_all(marks: &mut Marks, places: &[usize]) -> Result<(), AllocError>
     ensures there { OnOk result (AllWoken places.now marks.new) }
     ensures grow { AllGrow marks.old marks.new }
-    ensures cost { steps.new ≤ steps.old + length places.now }
 {
     for place in places {
-        wake(marks, *place, steps)?;
+        wake(marks, *place)?;
     }
     Ok(())
 }

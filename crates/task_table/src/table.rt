@@ -1,6 +1,6 @@
 //! Tasks by place and by id.
 
-ghost use Rattle.std.specs.Prelude.{◌≡◌, ◌++◌, ◌∷◌, ◌<◌, ℕ, [], length, map, slice_get, Some, None, OnOk, OnErr, IfErr, List, bytes_eq, if◌then◌else◌};
+ghost use Rattle.std.specs.Prelude.{◌≡◌, ◌++◌, ◌∷◌, ◌<◌, ◌+◌, ℕ, [], length, map, slice_get, Some, None, OnOk, OnErr, IfErr, List, bytes_eq, if◌then◌else◌};
 ghost use Rattle.std.specs.HashMap.{get_by_text};
 ghost use Rattle.std.specs.Option.{option_copied, option_and_then};
 ghost use Rattle.std.specs.Vec.{vec_len, vec_capacity};
@@ -8,7 +8,7 @@ ghost use Rattle.place_sets.specs.Sets.{Apart, at_place, at_places};
 ghost use Rattle.task_table.specs.Seen.{handed_to, ended_on, lost_all, replied_with, aborted_out, settled_with, purged_out, seen_in, place_in, on_unsettled};
 ghost use Rattle.cluster_defs.specs.Words.{or_else};
 ghost use Rattle.task_table.specs.Marking.{Aside};
-ghost use Rattle.task_table.specs.Places.{Alike, name, asking};
+ghost use Rattle.task_table.specs.Places.{Alike, name};
 
 use crate::task::Task;
 use cluster_defs::attempt::Ending;
@@ -18,6 +18,8 @@ use cluster_types::text::Text;
 use std::alloc::{AllocError, Global};
 use std::collections::HashMap;
 use std::marker::Model;
+use std::sync::ledger::Ledger;
+use task_graph::steps::Steps;
 
 /// Tasks in order of number, which contracts see as a list. A task is found by its place or its id without a search.
 #[derive(Drop)]
@@ -61,7 +63,6 @@ fn hand_at(tasks: &mut [Task], place: usize, engine: u32)
 fn settle_at(tasks: &mut [Task], place: usize, settled: Settled, outcome: Option<SharedMessage>)
     ensures ok { tasks.new ≡ at_place (settled_with settled outcome) place tasks.old }
     ensures names { map name tasks.new ≡ map name tasks.old }
-    ensures requests { map asking tasks.new ≡ map asking tasks.old }
     ensures apart { Apart place tasks.old tasks.new }
 {
     if place < tasks.len() {
@@ -285,13 +286,20 @@ impl Table {
         hand_at(&mut self.tasks, place, engine);
     }
 
-    /// Settles the task at a place.
-    pub fn settle_at(&mut self, place: usize, settled: Settled, outcome: Option<SharedMessage>)
+    /// Settles the task at a place. It is a step.
+    pub fn settle_at<L: Ledger>(
+        &mut self,
+        place: usize,
+        settled: Settled,
+        outcome: Option<SharedMessage>,
+        steps: &mut Steps<L>,
+    )
         ensures ok { self.new ≡ at_place (settled_with settled outcome) place self.old }
         ensures names { map name self.new ≡ map name self.old }
-        ensures requests { map asking self.new ≡ map asking self.old }
         ensures apart { Apart place self.old self.new }
+        ensures cost { steps.new ≡ steps.old + 1 }
     {
+        steps.tick();
         settle_at(&mut self.tasks, place, settled, outcome);
     }
 

@@ -1,18 +1,18 @@
 //! All tasks, with what is kept beside them.
 
-ghost use Rattle.std.specs.Prelude.{◌≡◌, ◌<◌, ◌≤◌, ◌+◌, ◌*◌, ◌++◌, ◌∷◌, [], length, map, slice_get, Some, None, IfOk, IfErr, IfSome, OnOk, OnErr};
-ghost use Rattle.std.specs.List.Sorted.{IsStrictlySortedBy};
+ghost use Rattle.std.specs.Prelude.{◌≡◌, ◌<◌, ◌≤◌, ◌+◌, ◌++◌, ◌∷◌, ℕ, List, [], length, map, slice_get, Some, None, false, IfOk, IfErr, IfSome, OnOk, OnErr};
 ghost use Rattle.std.specs.Option.{option_copied, option_and_then};
-ghost use Rattle.std.specs.Ordering.{nat_cmp};
-ghost use Rattle.place_sets.specs.Sets.{at_place};
+ghost use Rattle.place_sets.specs.Sets.{at_place, places_where};
+ghost use Rattle.task_table.specs.Freeing.{newly_met, newly_dead};
 ghost use Rattle.task_table.specs.Seen.{handed_to, ended_on, lost_all, replied_with, aborted_out, settled_with, purged_out, seen_in, place_in, changed, on_unsettled};
 ghost use Rattle.task_table.specs.Marking.{Marked};
 ghost use Rattle.task_table.specs.Loading.{Counts, CountedAnew};
 ghost use Rattle.task_table.specs.Tallying.{AllTold};
-ghost use Rattle.task_table.specs.Places.{Alike, asking};
-ghost use Rattle.task_table.specs.Waiting.{Awaited, ids_of, listings};
-ghost use Rattle.task_graph.specs.Listing.{AllAdded, AllTaken, SameLists};
+ghost use Rattle.task_table.specs.Places.{Alike};
+ghost use Rattle.task_table.specs.Waiting.{Awaited, LeftAt, ids_of, waiting_on};
+ghost use Rattle.task_graph.specs.Listing.{is_waiting, lists, Noted, TakenOut, SameBut, SameWaits};
 
+use crate::freeing::{Freed, freed_of};
 use crate::loads::tallied;
 use crate::marks::{Marks, mark, mark_all, no_marks, wake_all};
 use crate::table::Table;
@@ -24,8 +24,8 @@ use cluster_defs::settled::Settled;
 use cluster_types::shared_message::SharedMessage;
 use cluster_types::text::Text;
 use place_sets::flags::set;
+use place_sets::places::members;
 use std::alloc::{AllocError, Global};
-use std::collections::BTreeSet;
 use std::marker::{Brand, Model};
 use std::sync::ledger::{Blank, Ledger};
 use task_graph::steps::Steps;
@@ -38,7 +38,7 @@ pub struct Tasks {
     table: Table,
     /// Places of those of which something may be due.
     marks: Marks,
-    /// Places of those that wait for an id.
+    /// For each id the places of the tasks that aren't settled and list it.
     waiters: Waiters,
     /// How many run, finished or wait, by engine.
     tallies: Tallies,
@@ -92,37 +92,36 @@ fn hand_in(
     Ok(())
 }
 
-/// How a task is settled, and the outcome that is kept for it.
+/// How the task at a place is settled, and the outcome that is kept for it.
 #[derive(Drop)]
 struct Settlement {
+    place: usize,
     settled: Settled,
     outcome: Option<SharedMessage>,
 }
 
-/// Settles the task of an id, with the places of all tasks that wait for it: what is due of these may change. Its own place
-/// is touched twice, and so is each of those.
+/// Settles the task of an id, with the places of all tasks that wait on it: what is due of these may change. The settle is a
+/// step, and so is the look at each of those.
 fn settle_in<L: Ledger>(
     table: &mut Table,
     marks: &mut Marks,
     id: &Text,
-    place: usize,
     waiting: &[usize],
     settlement: Settlement,
     steps: &mut Steps<L>,
 ) -> Result<(), AllocError>
     requires marked { Marked table.old marks.old }
-    requires place { place_in id.now table.old ≡ Some place }
+    requires place { place_in id.now table.old ≡ Some settlement.place }
     requires waiting { Awaited id.now table.old waiting.now }
-    ensures ok { OnOk result (table.new ≡ at_place (settled_with settlement.settled settlement.outcome) place table.old) }
-    ensures requests { map asking table.new ≡ map asking table.old }
+    ensures ok { OnOk result (table.new ≡ at_place (settled_with settlement.settled settlement.outcome) settlement.place table.old) }
+    ensures err { OnErr result (table.new ≡ table.old) }
     ensures marked { Marked table.new marks.new }
-    ensures cost { steps.new ≤ steps.old + 2 * (1 + length waiting.now) }
+    ensures cost { steps.new ≤ steps.old + (1 + length waiting.now) }
 {
-    steps.tick();
+    let place = settlement.place;
     mark(marks, place)?;
-    wake_all(marks, waiting, steps)?;
-    table.settle_at(place, settlement.settled, settlement.outcome);
-    steps.tick();
+    wake_all(marks, waiting)?;
+    table.settle_at(place, settlement.settled, settlement.outcome, steps);
     tidy(table, marks, place);
     tidy_waiting_all(table, marks, waiting, steps);
     Ok(())
@@ -171,15 +170,6 @@ fn take_reply_in(
     Ok(())
 }
 
-/// The places in a set.
-pub fn places_in(alloc: Global, set: &BTreeSet<usize>) -> Result<Vec<usize>, AllocError>
-    ensures places { IfOk result (λ v. v.items ≡ set.now.keys) }
-    ensures sorted { OnOk result (IsStrictlySortedBy nat_cmp set.now.keys) }
-{
-    let _many = set.len();
-    set.iter().copied().collect(alloc)
-}
-
 /// Has the places of tasks that were watched by an engine that ended watched by others, where there are any.
 fn watch_anew<L: Ledger>(
     table: &Table,
@@ -196,7 +186,7 @@ fn watch_anew<L: Ledger>(
     let mut steps = Steps::<L>::new(blank);
     let _ = set(&mut marks.ended, engine);
     let places = marks.watches.places(table.allocator(), u64::from(engine))?;
-    wake_all(marks, &places, &mut steps)?;
+    wake_all(marks, &places)?;
     tidy_waiting_all(table, marks, &places, &mut steps);
     Ok(())
 }
@@ -208,7 +198,7 @@ fn end_in(table: &mut Table, marks: &mut Marks, engine: u32) -> Result<(), Alloc
     ensures same { Alike table.old table.new }
     ensures marked { Marked table.new marks.new }
 {
-    let places = places_in(table.allocator(), &marks.running)?;
+    let places = members(table.allocator(), &marks.running)?;
     mark_all(marks, &places)?;
     table.end_all(&places, engine)?;
     tidy_all(table, marks, &places);
@@ -222,7 +212,7 @@ fn lose_in(table: &mut Table, marks: &mut Marks) -> Result<(), AllocError>
     ensures same { Alike table.old table.new }
     ensures marked { Marked table.new marks.new }
 {
-    let places = places_in(table.allocator(), &marks.running)?;
+    let places = members(table.allocator(), &marks.running)?;
     mark_all(marks, &places)?;
     table.lose_each(&places)?;
     tidy_all(table, marks, &places);
@@ -235,33 +225,50 @@ fn counted_in(table: &Table, marks: &Marks) -> Result<Option<Vec<u32>>, AllocErr
     ensures { IfOk result (λ counts. CountedAnew table.now counts) }
 {
     let alloc = table.allocator();
-    let places = places_in(alloc, &marks.running)?;
+    let places = members(alloc, &marks.running)?;
     tallied(alloc, table, &places)
 }
 
-/// Notes that a task, which has a place, waits for the ids that it lists. Where memory is wanting nothing is noted.
+/// Notes that the task at a place waits for the ids that it lists. Where memory is wanting that may be noted of some.
 fn note_waits(waiters: &mut Waiters, task: &Task, place: usize) -> Result<(), AllocError>
-    ensures ok { OnOk result (AllAdded (ids_of task.now.request) place waiters.old waiters.new) }
-    ensures err { OnErr result (SameLists waiters.old waiters.new) }
+    ensures ok { OnOk result (Noted (lists (ids_of task.now.request)) place waiters.old waiters.new) }
+    ensures err { OnErr result (SameBut (lists (ids_of task.now.request)) place waiters.old waiters.new) }
 {
     let request = task.request();
-    let after = request.after.ids.as_slice();
-    let follow = request.follow.ids.as_slice();
-    waiters.add_all(after, place)?;
-    if let Err(error) = waiters.add_all(follow, place) {
-        waiters.take_back(after);
-        return Err(error);
-    }
+    waiters.add_all(request.after.ids.as_slice(), place)?;
+    waiters.add_all(request.follow.ids.as_slice(), place)?;
     Ok(())
 }
 
-/// Takes out again what was noted last, of a task.
-fn forget_waits(waiters: &mut Waiters, task: &Task)
-    ensures { AllTaken (ids_of task.now.request) waiters.old waiters.new }
+/// Takes out that the task at a place waits for the ids that it lists.
+fn forget_waits(waiters: &mut Waiters, task: &Task, place: usize)
+    ensures { TakenOut (lists (ids_of task.now.request)) place waiters.old waiters.new }
 {
     let request = task.request();
-    waiters.take_back(request.follow.ids.as_slice());
-    waiters.take_back(request.after.ids.as_slice());
+    waiters.take_out_all(request.after.ids.as_slice(), place);
+    waiters.take_out_all(request.follow.ids.as_slice(), place);
+}
+
+/// Takes the task at a place out of the ids that it lists.
+fn leave_waits(table: &Table, waiters: &mut Waiters, place: usize)
+    ensures { LeftAt table.now place waiters.old waiters.new }
+{
+    if let Some(task) = table.as_slice().get(place) {
+        forget_waits(waiters, task, place);
+    }
+}
+
+/// Notes that a task waits for the ids that it lists, whose place waits for none yet. Where memory is wanting nothing is noted.
+fn note_new(waiters: &mut Waiters, task: &Task, place: usize) -> Result<(), AllocError>
+    requires { (j : List ℕ) → is_waiting waiters.old j place ≡ false }
+    ensures ok { OnOk result (Noted (lists (ids_of task.now.request)) place waiters.old waiters.new) }
+    ensures err { OnErr result (SameWaits waiters.old waiters.new) }
+{
+    if let Err(error) = note_waits(waiters, task, place) {
+        forget_waits(waiters, task, place);
+        return Err(error);
+    }
+    Ok(())
 }
 
 /// Puts a task at the end, or gives it back where memory is wanting.
@@ -284,7 +291,7 @@ fn push_onto(table: &mut Table, marks: &mut Marks, task: Task) -> Result<(), Tas
     }
 }
 
-/// Puts a task at the end that was noted with the ids that it lists. Where memory is wanting that is taken back.
+/// Puts a task at the end that was noted with the ids that it lists. Where memory is wanting it is taken out of them.
 fn push_noted(
     table: &mut Table,
     marks: &mut Marks,
@@ -297,12 +304,13 @@ fn push_noted(
     ensures err { OnErr result (table.new ≡ table.old) }
     ensures marked { Marked table.new marks.new }
     ensures noted { OnOk result (waiters.new ≡ waiters.old) }
-    ensures forgotten { OnErr result (AllTaken (ids_of task.request) waiters.old waiters.new) }
+    ensures forgotten { OnErr result (TakenOut (lists (ids_of task.request)) (length table.old) waiters.old waiters.new) }
 {
+    let place = table.len();
     match push_onto(table, marks, task) {
         Ok(()) => Ok(()),
         Err(task) => {
-            forget_waits(waiters, &task);
+            forget_waits(waiters, &task, place);
             Err(AllocError)
         }
     }
@@ -371,7 +379,7 @@ impl Tasks {
         let place = self.table.len();
         let after = classes_of(&task);
         let kept = self.tallies.take();
-        note_waits(&mut self.waiters, &task, place)?;
+        note_new(&mut self.waiters, &task, place)?;
         push_noted(&mut self.table, &mut self.marks, &mut self.waiters, task)?;
         follow(&mut self.tallies, kept, no_classes(), after)
     }
@@ -418,9 +426,27 @@ impl Tasks {
         Ok(())
     }
 
-    /// Settles a task, and counts the touches of places of tasks: at most two of its own, and two for each time that a task
-    /// lists it.
-    pub fn settle_counted<L: Ledger>(
+    /// The places of the tasks that aren't settled and list an id, ascending.
+    pub fn waiting_for(&self, id: &Text) -> Result<Vec<usize>, AllocError>
+        ensures { IfOk result (λ v. v.items ≡ waiting_on id.now self.now) }
+    {
+        let places = self.waiters.of(id)?;
+        Ok(places)
+    }
+
+    /// The places of the tasks of which a settle newly makes met what they wait for, and of those of which it newly makes that
+    /// unreachable.
+    pub fn freed(&self, id: &Text, settled: Settled) -> Result<Freed, AllocError>
+        ensures met { IfOk result (λ f. f.met.items ≡ places_where (newly_met id.now settled self.now) self.now) }
+        ensures dead { IfOk result (λ f. f.dead.items ≡ places_where (newly_dead id.now settled self.now) self.now) }
+    {
+        let waiting = self.waiting_for(id)?;
+        let freed = freed_of(&self.table, id, settled, &waiting)?;
+        Ok(freed)
+    }
+
+    /// Settles a task. The settle is a step, and so is the look at each task that isn't settled and lists it.
+    pub fn settle<L: Ledger>(
         &mut self,
         id: &Text,
         settled: Settled,
@@ -428,21 +454,26 @@ impl Tasks {
         steps: &mut Steps<L>,
     ) -> Result<(), AllocError>
         ensures ok { OnOk result (self.new ≡ changed id.now (settled_with settled outcome) self.old) }
-        ensures cost { steps.new ≤ steps.old + 2 * (1 + listings id.now self.old) }
+        ensures cost { steps.new ≤ steps.old + (1 + length (waiting_on id.now self.old)) }
     {
         if let Some(place) = self.table.place_of(id) {
+            let waiting = self.waiters.of(id)?;
             let before = classes_at(&self.table, place);
             let kept = self.tallies.take();
-            let waiting = self.waiters.of(id);
+            let settlement = Settlement {
+                place,
+                settled,
+                outcome,
+            };
             settle_in(
                 &mut self.table,
                 &mut self.marks,
                 id,
-                place,
-                waiting,
-                Settlement { settled, outcome },
+                &waiting,
+                settlement,
                 steps,
             )?;
+            leave_waits(&self.table, &mut self.waiters, place);
             follow(
                 &mut self.tallies,
                 kept,
@@ -451,35 +482,6 @@ impl Tasks {
             )?;
         }
         Ok(())
-    }
-
-    /// Settles a task, with a count of its own that nobody reads.
-    fn settle_anew<L: Ledger>(
-        &mut self,
-        id: &Text,
-        settled: Settled,
-        outcome: Option<SharedMessage>,
-        blank: Blank,
-    ) -> Result<(), AllocError>
-        requires name { blank.name ≡ L.name }
-        requires parts { blank.parts ≡ L.parts }
-        requires some { 0 < blank.parts }
-        ensures { OnOk result (self.new ≡ changed id.now (settled_with settled outcome) self.old) }
-    {
-        let mut steps = Steps::<L>::new(blank);
-        self.settle_counted(id, settled, outcome, &mut steps)
-    }
-
-    /// Settles a task.
-    pub fn settle(
-        &mut self,
-        id: &Text,
-        settled: Settled,
-        outcome: Option<SharedMessage>,
-    ) -> Result<(), AllocError>
-        ensures { OnOk result (self.new ≡ changed id.now (settled_with settled outcome) self.old) }
-    {
-        self.settle_anew::<Brand>(id, settled, outcome, Blank::new(1))
     }
 
     /// Lets the outcome of a task go.
@@ -522,7 +524,7 @@ impl Tasks {
     pub fn end_on(&mut self, engine: u32) -> Result<(), AllocError>
         ensures { OnOk result (self.new ≡ map (on_unsettled (ended_on engine)) self.old) }
     {
-        let places = places_in(self.table.allocator(), &self.marks.running)?;
+        let places = members(self.table.allocator(), &self.marks.running)?;
         let rest = set_aside(&mut self.tallies, &self.table, &places)?;
         end_in(&mut self.table, &mut self.marks, engine)?;
         take_back(&mut self.tallies, rest, &self.table, &places)
@@ -532,7 +534,7 @@ impl Tasks {
     pub fn lose_all(&mut self) -> Result<(), AllocError>
         ensures { OnOk result (self.new ≡ map (on_unsettled lost_all) self.old) }
     {
-        let places = places_in(self.table.allocator(), &self.marks.running)?;
+        let places = members(self.table.allocator(), &self.marks.running)?;
         let rest = set_aside(&mut self.tallies, &self.table, &places)?;
         lose_in(&mut self.table, &mut self.marks)?;
         take_back(&mut self.tallies, rest, &self.table, &places)

@@ -1,6 +1,6 @@
 use Rattle.std.proofs.Common.{sym, ap}
 use Rattle.task_table.specs.Seen.{settled_with}
-use Rattle.task_table.specs.Places.{name, asking}
+use Rattle.task_table.specs.Places.{name}
 use Rattle.task_table.proofs.Places.{set_at, past_at, map_set, apart_set}
 use Rattle.task_table.proofs.table.settle_at.Goals as goal
 
@@ -9,9 +9,6 @@ returns-then-place-tasks-clause-ok c = set_at (settled_with c.args.settled c.arg
 
 pub returns-then-place-tasks-clause-names : goal.returns-then-place-tasks-clause-names
 returns-then-place-tasks-clause-names c = map_set name c.args.tasks.now c.args.place c.index-tasks-place.result c.settle.new.self c.if-place-tasks.true (ap name c.settle.ensures)
-
-pub returns-then-place-tasks-clause-requests : goal.returns-then-place-tasks-clause-requests
-returns-then-place-tasks-clause-requests c = map_set asking c.args.tasks.now c.args.place c.index-tasks-place.result c.settle.new.self c.if-place-tasks.true (ap asking c.settle.ensures)
 
 pub returns-then-place-tasks-clause-apart : goal.returns-then-place-tasks-clause-apart
 returns-then-place-tasks-clause-apart c = apart_set c.args.tasks.now c.args.place c.settle.new.self

@@ -6,7 +6,8 @@ tidy-requires g c =
     let ts = c.args.table.now in
     let m = c.mark.new.marks in
     let n = c.wake_all.new.marks in
-    marked_settled ts c.settle_at.new.self n c.args.id.now c.args.place c.args.waiting.now
+    let place = c.args.settlement.place in
+    marked_settled ts c.settle_at.new.self n c.args.id.now place c.args.waiting.now
     (marked_grown ts m n (marked_grown ts c.args.marks.now m c.requires.marked c.mark.ensures.grow) c.wake_all.ensures.grow)
-    (has_grown c.args.place m n c.in_ok-mark.ensures.there c.wake_all.ensures.grow)
+    (has_grown place m n c.in_ok-mark.ensures.there c.wake_all.ensures.grow)
     c.in_ok-wake_all.ensures.there c.requires.place c.requires.waiting c.settle_at.ensures.apart c.settle_at.ensures.names

@@ -25,7 +25,7 @@ returns-then-is_laned c =
       finals = c.requires.finals;
       directs = c.requires.directs;
       running = c.requires.running;
-      free = free_without ts place m.free c.leave_out.new.set m.lanes c.is_laned.new.lanes (subst (λ b. LanedFor ts place m.lanes c.is_laned.new.lanes b (slice_get ts place)) c.if-is_laned.true c.is_laned.ensures) c.leave_out.ensures c.requires.free;
+      free = free_without ts place m.free c.leave_out.new.set m.lanes c.is_laned.new.lanes (subst (λ b. LanedFor ts place m.lanes c.is_laned.new.lanes b (slice_get ts place)) c.if-is_laned.true c.is_laned.ensures) c.leave_out.ensures.stay c.requires.free;
       hopeless = c.requires.hopeless;
       late = c.requires.late;
     }

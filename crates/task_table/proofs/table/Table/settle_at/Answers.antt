@@ -6,7 +6,7 @@ use Rattle.task_table.proofs.Places.{placed_same}
 use Rattle.task_table.proofs.table.Table.settle_at.Goals as goal
 
 pub invariant_of-self : goal.invariant_of-self
-invariant_of-self c =
+invariant_of-self g c =
     let ts = c.self.inside.tasks.items in
     let new = c.settle_at.new.tasks in
     let g = get_by_text c.self.inside.places in

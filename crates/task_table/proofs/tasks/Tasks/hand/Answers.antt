@@ -10,7 +10,7 @@ invariant_of-self c =
     let us = c.hand_in.new.table in
     let n = c.hand_in.new.marks in
     let waits = c.self.inside.waiters in
-    subst (λ o. Beside us n waits o) (sym c.take-kept.ensures.after) (beside_lost c.self.inside.table us c.self.inside.marks n waits c.self.inside.tallies c.self.invariant c.hand_in.ensures.same.requests c.hand_in.ensures.marked)
+    subst (λ o. Beside us n waits o) (sym c.take-kept.ensures.after) (beside_lost c.self.inside.table us c.self.inside.marks n waits c.self.inside.tallies c.self.invariant c.hand_in.ensures.same c.hand_in.ensures.marked)
 
 pub invariant_of-self-in_err-follow : goal.invariant_of-self-in_err-follow
 invariant_of-self-in_err-follow c =
@@ -18,13 +18,13 @@ invariant_of-self-in_err-follow c =
     let n = c.hand_in.new.marks in
     let waits = c.self.inside.waiters in
     subst (λ o. Beside us n waits o) (sym (c.in_err-follow.ensures.err ∙ c.take-kept.ensures.after))
-    (beside_lost c.self.inside.table us c.self.inside.marks n waits c.self.inside.tallies c.self.invariant c.hand_in.ensures.same.requests c.hand_in.ensures.marked)
+    (beside_lost c.self.inside.table us c.self.inside.marks n waits c.self.inside.tallies c.self.invariant c.hand_in.ensures.same c.hand_in.ensures.marked)
 
 pub invariant_of-self-in-Continue-branch-2 : goal.invariant_of-self-in-Continue-branch-2
 invariant_of-self-in-Continue-branch-2 c =
     let f = handed_to c.args.engine in
     beside_moved f c.in-Some.place c.self.inside.table c.hand_in.new.table c.self.inside.marks c.hand_in.new.marks c.self.inside.waiters c.self.inside.tallies c.take-kept.result c.follow.new.tallies c.classes_at-before.result c.classes_at.result
-    c.self.invariant c.take-kept.ensures.value c.hand_in.ensures.same.requests c.hand_in.ensures.marked c.in_ok-hand_in.ensures.ok c.classes_at-before.ensures c.classes_at.ensures c.in_ok-follow.ensures.ok
+    c.self.invariant c.take-kept.ensures.value c.hand_in.ensures.same c.hand_in.ensures.marked c.in_ok-hand_in.ensures.ok c.classes_at-before.ensures c.classes_at.ensures c.in_ok-follow.ensures.ok
 
 pub returns-in_ok-follow : goal.returns-in_ok-follow
 returns-in_ok-follow c =

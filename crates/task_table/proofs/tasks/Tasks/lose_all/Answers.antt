@@ -18,7 +18,7 @@ invariant_of-self-in_err-lose_in c =
     let us = c.lose_in.new.table in
     let n = c.lose_in.new.marks in
     let waits = c.self.inside.waiters in
-    subst (λ o. Beside us n waits o) (sym c.set_aside.ensures.after) (beside_lost c.self.inside.table us c.self.inside.marks n waits c.self.inside.tallies c.self.invariant c.lose_in.ensures.same.requests c.lose_in.ensures.marked)
+    subst (λ o. Beside us n waits o) (sym c.set_aside.ensures.after) (beside_lost c.self.inside.table us c.self.inside.marks n waits c.self.inside.tallies c.self.invariant c.lose_in.ensures.same c.lose_in.ensures.marked)
 
 pub invariant_of-self-2 : goal.invariant_of-self-2
 invariant_of-self-2 c =
@@ -29,6 +29,6 @@ invariant_of-self-2 c =
     let after : c.deref-2.result.now ≡ keys = c.deref-2.ensures.value ∙ c.in_ok-places.ensures.places in
     let swept : c.lose_in.new.table ≡ at_places f keys ts = c.in_ok-lose_in.ensures.ok ∙ sym (sweep runs_open f ts c.self.inside.marks.running c.in_ok-places.ensures.sorted c.self.invariant.marked.running idle_lost) in
     beside_swept c.take_back.result f keys ts c.lose_in.new.table c.self.inside.marks c.lose_in.new.marks c.self.inside.waiters c.self.inside.tallies c.in_ok-rest.rest c.set_aside.new.tallies c.take_back.new.tallies
-    c.self.invariant c.lose_in.ensures.same.requests c.lose_in.ensures.marked c.in_ok-places.ensures.sorted swept
+    c.self.invariant c.lose_in.ensures.same c.lose_in.ensures.marked c.in_ok-places.ensures.sorted swept
     (subst (λ qs. AllLess ts qs c.self.inside.tallies c.in_ok-rest.rest) before c.in_ok-rest.ensures.ok) c.set_aside.ensures.after
     (subst (λ qs. OnOk c.take_back.result (AllMore c.lose_in.new.table qs c.in_ok-rest.rest c.take_back.new.tallies)) after c.take_back.ensures.ok) c.take_back.ensures.err
