@@ -118,7 +118,13 @@ fn push<R: Abort>(rt: &R, tasks: &mut Tasks, task: Task)
 }
 
 /// Adds a task with a request.
-pub(crate) fn add<R: Abort>(rt: &R, alloc: Global, tasks: &mut Tasks, id: &str, request: WholeRequest) {
+pub(crate) fn add<R: Abort>(
+    rt: &R,
+    alloc: Global,
+    tasks: &mut Tasks,
+    id: &str,
+    request: WholeRequest,
+) {
     let id = text(rt, alloc, id);
     push(rt, tasks, task_of(rt, alloc, &id, request));
 }

@@ -64,9 +64,7 @@ fn three_of_a_thousand<L: Ledger, R: Abort>(rt: &R, alloc: Global, blank: Blank)
     let mut tasks = a_thousand(rt, alloc);
     let mut steps = Steps::<L>::new(blank);
     let three = settle_with_three(rt, &mut tasks, &x, &mut steps);
-    let settled = tasks
-        .find(&x)
-        .is_some_and(|task| task.settled().is_some());
+    let settled = tasks.find(&x).is_some_and(|task| task.settled().is_some());
     three && settled
 }
 

@@ -85,7 +85,12 @@ fn is_newly_dead(table: &Table, id: &Text, settled: Settled, place: usize) -> bo
 }
 
 /// Those of some places whose tasks a settle newly makes met.
-fn met_of(table: &Table, id: &Text, settled: Settled, places: &[usize]) -> Result<Vec<usize>, AllocError>
+fn met_of(
+    table: &Table,
+    id: &Text,
+    settled: Settled,
+    places: &[usize],
+) -> Result<Vec<usize>, AllocError>
     ensures { IfOk result (λ v. v.items ≡ filter (holds_at (newly_met id.now settled table.now) table.now) places.now) }
 {
     places
@@ -96,7 +101,12 @@ fn met_of(table: &Table, id: &Text, settled: Settled, places: &[usize]) -> Resul
 }
 
 /// Those of some places whose tasks it newly makes unreachable.
-fn dead_of(table: &Table, id: &Text, settled: Settled, places: &[usize]) -> Result<Vec<usize>, AllocError>
+fn dead_of(
+    table: &Table,
+    id: &Text,
+    settled: Settled,
+    places: &[usize],
+) -> Result<Vec<usize>, AllocError>
     ensures { IfOk result (λ v. v.items ≡ filter (holds_at (newly_dead id.now settled table.now) table.now) places.now) }
 {
     places
@@ -107,7 +117,12 @@ fn dead_of(table: &Table, id: &Text, settled: Settled, places: &[usize]) -> Resu
 }
 
 /// What a settle of an id frees, of the tasks at some places.
-pub fn freed_of(table: &Table, id: &Text, settled: Settled, places: &[usize]) -> Result<Freed, AllocError>
+pub fn freed_of(
+    table: &Table,
+    id: &Text,
+    settled: Settled,
+    places: &[usize],
+) -> Result<Freed, AllocError>
     ensures met { IfOk result (λ f. f.met.items ≡ filter (holds_at (newly_met id.now settled table.now) table.now) places.now) }
     ensures dead { IfOk result (λ f. f.dead.items ≡ filter (holds_at (newly_dead id.now settled table.now) table.now) places.now) }
 {
@@ -120,5 +135,4 @@ pub fn freed_of(table: &Table, id: &Text, settled: Settled, places: &[usize]) ->
 pub fn settles_one()
     ensures settled { SettlesOne }
     ensures freed { FreesListed }
-{
-}
+{}
