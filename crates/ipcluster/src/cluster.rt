@@ -46,7 +46,12 @@ const HISTORY_FULL: u8 = 9;
 /// Listens at the four ports from the first one on. Where that is at every interface, a line says so.
 fn open_ports(rt: &HostRuntime, host: &str, first: u16) -> Result<Ports<TcpPort>, StandingEnding> {
     if EVERY_INTERFACE.contains(&host) {
-        let _ = eprintln!(rt; "ipcluster: {} is every interface of this machine: keep strangers from the ports {} to {}", host, first, first.saturating_add(3));
+        let _ = eprintln!(rt;
+            "ipcluster: {} is every interface of this machine: keep strangers from the ports {} to {}",
+            host,
+            first,
+            first.saturating_add(3)
+        );
     }
     Ok(Ports {
         hub: open_port(rt, host, first)?,
@@ -165,7 +170,10 @@ pub fn run_cluster<H: Threads + Wait + Drop + Copy + Send + Sync + 'static, E: S
             };
             let status = stand(start, words, ports, FileDisk::new(file), errors);
             if let Ok(HISTORY_FULL) = status {
-                let _ = eprintln!(rt; "ipcluster: started again over {} it goes on, and counts anew", database.as_str());
+                let _ = eprintln!(rt;
+                    "ipcluster: started again over {} it goes on, and counts anew",
+                    database.as_str()
+                );
             }
             status
         }

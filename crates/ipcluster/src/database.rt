@@ -22,7 +22,11 @@ pub enum DatabaseError {
 /// Opens a file for reading, and for writing where it is asked for.
 fn open(rt: &HostRuntime, path: &str, write: bool, create: bool) -> io::Result<File> {
     let mut options = OpenOptions::new();
-    options.read(true).write(write).create_new(create).mode(OF_OWNER);
+    options
+        .read(true)
+        .write(write)
+        .create_new(create)
+        .mode(OF_OWNER);
     options.open(rt, path)
 }
 
@@ -77,10 +81,7 @@ pub fn open_for_changes(rt: &HostRuntime, path: &str) -> Result<File, DatabaseEr
 
 /// Opens the file of the database that a command names, where it names one: `replay` makes a file that isn't there, the
 /// others change none. Where it can't be had a line says why.
-pub fn open_database(
-    rt: &HostRuntime,
-    command: &Command,
-) -> Result<Option<File>, DatabaseError> {
+pub fn open_database(rt: &HostRuntime, command: &Command) -> Result<Option<File>, DatabaseError> {
     let Some(path) = command.database() else {
         return Ok(None);
     };
