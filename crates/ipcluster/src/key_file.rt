@@ -50,13 +50,18 @@ fn text_in(rt: &HostRuntime, path: &str) -> Result<String, KeyFileError> {
     Ok(text)
 }
 
+/// A text without its last line feed.
+fn without_line_feed(text: &str) -> &str {
+    match text.strip_suffix('\n') {
+        Some(front) => front,
+        None => text,
+    }
+}
+
 /// The word that hands on the key of a file, whose last line feed isn't part of it.
 fn key_word(rt: &HostRuntime, path: &str) -> Result<Text, KeyFileError> {
     let text = text_in(rt, path)?;
-    let key = match text.as_str().strip_suffix('\n') {
-        Some(key) => key,
-        None => text.as_str(),
-    };
+    let key = without_line_feed(text.as_str());
     if key.is_empty() || key.len() > LONGEST_KEY {
         return Err(KeyFileError::NoKey);
     }
