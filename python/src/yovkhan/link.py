@@ -231,8 +231,7 @@ class Stream:
         self._greeting, self._answer = len(GREETING), answer
 
     def send(self, pieces: Sequence[Octets]) -> bool:
-        """Sends octets, behind those that wait. Any thread may call it. Whether the stream was open. Many octets are written by the
-        loop's thread, while the caller goes on: it may have the digests of the next ones to make."""
+        """Sends octets, behind those that wait. Any thread may call it. Whether the stream was open."""
         with self._lock:
             if not self.is_open:
                 return False
@@ -240,14 +239,13 @@ class Stream:
             self._out.extend(memoryview(it).cast("B") for it in pieces if len(it))
             if waits:
                 return True
-            if sum(map(len, pieces)) < LARGE:
-                try:
-                    self._write()
-                except OSError:
-                    self._loop.call(self._end)
-                    return True
+            try:
+                self._write()
+            except OSError:
+                self._loop.call(self._end)
+                return True
             if self._out:
-                self._loop.call(self._go_on_writing)
+                self._loop.call(self._ask_to_write)
         return True
 
     def _write(self) -> None:
@@ -272,6 +270,11 @@ class Stream:
         """Whether octets wait to be written."""
         return bool(self._out)
 
+    def _ask_to_write(self) -> None:
+        if self.is_open and not self._writing:
+            self._writing = True
+            self._loop.change(self._socket, selectors.EVENT_READ | selectors.EVENT_WRITE)
+
     def _serve(self, events: int) -> None:
         if events & selectors.EVENT_WRITE:
             self._go_on_writing()
@@ -279,19 +282,16 @@ class Stream:
             self._read()
 
     def _go_on_writing(self) -> None:
-        """Writes what waits, and asks to be called again where the socket doesn't take all of it. In the loop's thread alone."""
-        if not self.is_open:
-            return
         with self._lock:
             try:
                 self._write()
             except OSError:
                 self._loop.call(self._end)
                 return
-            waits = bool(self._out)
-        if waits != self._writing:
-            self._writing = waits
-            self._loop.change(self._socket, selectors.EVENT_READ | (selectors.EVENT_WRITE if waits else 0))
+            done = not self._out
+        if done and self.is_open:
+            self._writing = False
+            self._loop.change(self._socket, selectors.EVENT_READ)
 
     def _read(self) -> None:
         try:
