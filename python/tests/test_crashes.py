@@ -163,6 +163,10 @@ def test_a_client_that_was_killed(cluster, client, tmp_path):
     """, name=name, path=path)
     first = subprocess.Popen([sys.executable, "-c", script], stdout=subprocess.PIPE, text=True)
     assert first.stdout.readline() == "sent\n"
+    until = time.monotonic() + LIMIT
+    while not {f"{name}/{it}" for it in range(200)} <= set(client.hub_history()):  # what a killed client had in its socket may be lost
+        assert time.monotonic() < until
+        time.sleep(0.01)
     first.send_signal(signal.SIGKILL)
     first.wait(LIMIT)
     first.stdout.close()
