@@ -1,6 +1,10 @@
 pub mod Entries
 pub mod Counts
+pub mod Outcomes
 pub mod Once
+pub mod Numbers
+pub mod Submitted
+pub mod Digits
 pub mod Parts
 pub mod Fractions
 pub mod Strings

@@ -1,5 +1,5 @@
 -- Worked identifiers, messages and answers, computed.
-use Rattle.std.proofs.Common.{◌≡◌, refl, codes, true, false, [], ◌∷◌, ◌++◌, List, ℕ, arith}
+use Rattle.std.proofs.Common.{◌≡◌, refl, codes, true, false, None, [], ◌∷◌, ◌++◌, List, ℕ, arith}
 use Rattle.std.proofs.lemmas.Fmt.{decimal_digit}
 use Rattle.serde_json.proofs.OnLiterals.{serde_json_on_literals}
 use Rattle.std.specs.Str.{is_utf8, chars}
@@ -14,7 +14,11 @@ use Rattle.client_core.specs.declared.took.Took.TheVariants.{Settled, Other, Str
 use Rattle.client_core.specs.Identifier.{client_id}
 use Rattle.client_core.specs.Limits.{is_within_limits, is_engine}
 use Rattle.client_core.specs.Messages.{dependency_text, submit_metadata, execute_content}
+use Rattle.client_core.specs.declared.answered.Answered.TheVariants.{Failed}
+use Rattle.client_core.specs.declared.stand.Stand.TheVariants.{Unsettled, Settled as StandSettled}
 use Rattle.client_core.specs.Clients.{Used}
+use Rattle.client_core.specs.Numbers.{numbered, numbered_id}
+use Rattle.client_core.specs.Answers.{answered}
 use Rattle.client_core.specs.Taking.{took, type_in, task_in}
 
 pub zero_octets : client_id (0 ∷ 0 ∷ 0 ∷ 0 ∷ 0 ∷ 0 ∷ 0 ∷ 0 ∷ 0 ∷ 0 ∷ 0 ∷ 0 ∷ 0 ∷ 0 ∷ 0 ∷ 0 ∷ []) ≡ codes "00000000-0000-4000-8000-000000000000"
@@ -64,7 +68,7 @@ answer msg_type parent content = record {
 }
 
 abbrev used : Used
-used = (codes "a", false) ∷ (codes "b", true) ∷ []
+used = (codes "a", Unsettled false) ∷ (codes "b", StandSettled None) ∷ []
 
 pub outcome : took used (answer (codes "execute_reply") (codes "{\"msg_id\":\"a\"}") (codes "{\"status\":\"ok\"}")) ≡ Settled (codes "a") true
 unfolding serde_json_on_literals is_utf8 chars took type_in task_in read_header read_task read_status submit_refused
@@ -93,3 +97,20 @@ of_another_client = refl
 pub no_parent : took used (answer (codes "execute_reply") (codes "{}") (codes "{\"status\":\"ok\"}")) ≡ Stranger
 unfolding serde_json_on_literals is_utf8 chars took type_in task_in read_header read_task read_status submit_refused
 no_parent = refl
+
+-- the numbers 0 and 513 as ids
+pub id_of_0 : numbered_id 0 ≡ codes "00000000-0000-4000-8000-000000000000"
+unfolding client_id by_index numbered
+id_of_0 = refl
+
+pub id_of_513 : numbered_id 513 ≡ codes "00000000-0000-4000-8000-000000000201"
+unfolding client_id by_index numbered
+id_of_513 = refl
+
+pub no_value : answered (codes "{\"status\":\"error\",\"ename\":\"ZeroDivision\",\"evalue\":7,\"result\":\"42\"}") ≡ Failed (codes "ZeroDivision") []
+unfolding serde_json_on_literals is_utf8 chars answered
+no_value = refl
+
+pub nothing_said : answered (codes "[]") ≡ Failed [] []
+unfolding serde_json_on_literals is_utf8 chars answered
+nothing_said = refl

@@ -1,6 +1,11 @@
 pub mod Limits
 pub mod Identifier
+pub mod Numbers
+pub mod Metadata
 pub mod Messages
+pub mod Answers
+pub mod Noting
 pub mod Clients
 pub mod Sending
+pub mod Submissions
 pub mod Taking

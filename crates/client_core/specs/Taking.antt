@@ -7,7 +7,8 @@ use Rattle.cluster_defs.specs.Reply.{read_task, read_status}
 use Rattle.cluster_defs.specs.Texts.{submit_refused}
 use Rattle.client_core.specs.declared.took.Took.{Took}
 use Rattle.client_core.specs.declared.took.Took.TheVariants.{Settled, Other, Stranger}
-use Rattle.client_core.specs.Clients.{Known, Used, settled_in, with_settled}
+use Rattle.client_core.specs.Answers.{answered}
+use Rattle.client_core.specs.Clients.{Known, Used, settled_in, after_outcome}
 
 -- the outcome of a task, by the status in its content
 abbrev pub settled_by : List ℕ → Option Bool → Took
@@ -39,19 +40,19 @@ task_in parent = result_ok (read_task parent)
 unfoldable pub took : Used → Message → Took
 took used message = took_under used message.content (type_in message.header) (task_in message.parent)
 
--- an outcome settles its task
-abbrev pub used_after : Used → Took → Used
-used_after used (Settled id ok) = with_settled used id
-used_after used Other = used
-used_after used Stranger = used
+-- an outcome settles its task, and what the message answers is noted where the task is watched
+abbrev pub used_after : Used → Message → Took → Used
+used_after used message (Settled id ok) = after_outcome used id (answered message.content) ok
+used_after used message Other = used
+used_after used message Stranger = used
 
-abbrev pub after_taking : Known → Took → Known
-after_taking client t = record client { used = used_after client.used t }
+abbrev pub after_taking : Known → Message → Took → Known
+after_taking client message t = record client { used = used_after client.used message t }
 
 -- what messages are to a client that takes one after another
 abbrev pub took_all : Used → List Message → List Took
 took_all used [] = []
-took_all used (message ∷ messages) = took used message ∷ took_all (used_after used (took used message)) messages
+took_all used (message ∷ messages) = took used message ∷ took_all (used_after used message (took used message)) messages
 
 abbrev pub settles : List ℕ → Took → Bool
 settles id (Settled settled ok) = bytes_eq settled id

@@ -1,15 +1,23 @@
 //! What a message says of a task.
 
-ghost use Rattle.std.specs.Prelude.{◌≡◌, ◌⊎◌, Ok, Err, IfOk, IfErr};
+ghost use Rattle.std.specs.Prelude.{◌≡◌, ◌⊎◌, Ok, Err, None, Some, IfOk, IfErr, option_map, option_and_then};
+ghost use Rattle.serde_json.specs.Find.{get, as_str};
+ghost use Rattle.jupyter_header.specs.Borrowed.{view};
 ghost use Rattle.std.specs.Result.{result_ok};
 ghost use Rattle.cluster_defs.specs.Reply.{read_task, read_status};
 ghost use Rattle.client_core.specs.Taking.{type_in, task_in};
+ghost use Rattle.client_core.specs.Answers.{is_text_of, number_in, is_ok, says_ok, result_in, answered_in, answered};
 
+use crate::answered::Answered;
 use cluster_defs::fault::ReadError;
 use cluster_types::text::Text;
-use json::Scratch;
+use itoa::Buffer;
+use json::{Scratch, Value};
+use jupyter_header::fields::text_field;
 use jupyter_header::header::read_header;
+use jupyter_header::object::read_object;
 use jupyter_header::reply::read_reply;
+use jupyter_header::values::{get, text};
 use std::alloc::{AllocError, Global};
 
 /// A parent header that reads, whatever it names.
@@ -85,5 +93,102 @@ pub fn status_in(
         Ok(ok) => Ok(Some(ok)),
         Err(ReadError::OutOfMemory) => Err(AllocError),
         Err(_) => Ok(None),
+    }
+}
+
+/// Whether this is the decimal text of a number.
+fn is_text_of(text: &str, number: i64) -> bool
+    ensures { result ≡ is_text_of text.now number }
+{
+    let mut buffer = Buffer::new();
+    text == buffer.format(number)
+}
+
+/// The number of 64 bits whose decimal text this is.
+fn number_in(text: &str) -> Option<i64>
+    ensures { result ≡ number_in text.now }
+{
+    match text.parse::<i64>() {
+        Ok(number) => {
+            if is_text_of(text, number) {
+                Some(number)
+            } else {
+                None
+            }
+        }
+        Err(_) => None,
+    }
+}
+
+/// Whether a word is `ok`.
+fn is_ok(word: Option<&str>) -> bool
+    ensures { result ≡ is_ok (option_map (λ w. w.now) word.entry) }
+{
+    matches!(word, Some("ok"))
+}
+
+/// Whether the status of a value is `ok`.
+fn says_ok(value: &Value<'_>) -> bool
+    ensures { result ≡ says_ok (view value.now) }
+{
+    is_ok(get(value, "status").and_then(text))
+}
+
+/// The number of 64 bits whose decimal text a word is.
+fn number_told(word: Option<&str>) -> Option<i64>
+    ensures { result ≡ option_and_then number_in (option_map (λ w. w.now) word.entry) }
+{
+    match word {
+        Some(text) => number_in(text),
+        None => None,
+    }
+}
+
+/// The number that is the result of a value, where its status is `ok`.
+fn result_in(value: &Value<'_>) -> Option<i64>
+    ensures { result ≡ result_in (view value.now) }
+{
+    if !says_ok(value) {
+        return None;
+    }
+    number_told(get(value, "result").and_then(text))
+}
+
+/// What a value answers.
+fn answered_by(alloc: Global, value: &Value<'_>) -> Result<Answered, AllocError>
+    ensures { IfOk result (λ a. a ≡ answered_in (Some (view value.now))) }
+{
+    match result_in(value) {
+        Some(number) => Ok(Answered::Value(number)),
+        None => Ok(Answered::Failed {
+            ename: text_field(alloc, value, "ename")?,
+            evalue: text_field(alloc, value, "evalue")?,
+        }),
+    }
+}
+
+/// An answer without a value and without texts.
+fn nothing_said(alloc: Global) -> Result<Answered, AllocError>
+    ensures { IfOk result (λ a. a ≡ answered_in None) }
+{
+    Ok(Answered::Failed {
+        ename: Text::new(alloc, "")?,
+        evalue: Text::new(alloc, "")?,
+    })
+}
+
+/// What a content answers: the number that is its result, else its error.
+#[tactic(auto, unfolding(crate::specs::Answers::answered))]
+pub fn answered_in(
+    alloc: Global,
+    content: &[u8],
+    scratch: &mut Scratch,
+) -> Result<Answered, AllocError>
+    ensures { IfOk result (λ a. a ≡ answered content.now) }
+{
+    match read_object(alloc, content, scratch) {
+        Ok(value) => answered_by(alloc, &value),
+        Err(ReadError::OutOfMemory) => Err(AllocError),
+        Err(_) => nothing_said(alloc),
     }
 }

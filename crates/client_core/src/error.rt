@@ -1,5 +1,7 @@
 //! Why a request isn't made.
 
+use cluster_types::sequence::Sequence;
+use cluster_types::shared_message::SharedMessage;
 use std::alloc::AllocError;
 use thiserror::Error;
 
@@ -13,6 +15,12 @@ pub enum SubmitError {
     #[error("out of memory")]
     OutOfMemory,
 }
+
+/// Why a client doesn't make a list of requests.
+pub type SendError = SubmitError;
+
+/// The messages of a list of requests, in order.
+pub type Messages = Sequence<SharedMessage>;
 
 impl From<AllocError> for SubmitError {
     ghost use Rattle.std.specs.Prelude.{◌≡◌};

@@ -5,8 +5,10 @@ ghost use Rattle.client_core.specs.Clients.{settled_in, used_in};
 ghost use Rattle.client_core.specs.Taking.{took, took_for};
 
 use crate::answers::{status_in, task_in, type_in};
+use crate::stand::Stand;
+use crate::task::Task;
 use crate::took::Took;
-use crate::used::settled_in;
+use crate::used::stand_in;
 use cluster_types::shared_message::SharedMessage;
 use cluster_types::text::Text;
 use json::Scratch;
@@ -37,9 +39,9 @@ fn took_unsettled(
 }
 
 /// What a message of a type about the task of an id is, which is looked up once.
-fn took_for(
+fn took_for<W>(
     alloc: Global,
-    used: &BTreeMap<String, bool>,
+    used: &BTreeMap<String, Task<W>>,
     content: &[u8],
     msg_type: &Text,
     id: Text,
@@ -47,18 +49,20 @@ fn took_for(
 ) -> Result<Took, AllocError>
     ensures { IfOk result (λ t. t ≡ took_for content.now msg_type.now id (settled_in (used_in used.now.entries) id)) }
 {
-    match settled_in(used, id.as_str()) {
+    match stand_in(used, id.as_str()) {
         None => Ok(Took::Stranger),
-        Some(true) => Ok(Took::Other),
-        Some(false) => took_unsettled(alloc, content, msg_type, id, scratch),
+        Some(Stand::Settled(_)) => Ok(Took::Other),
+        Some(Stand::Unsettled { watched: _ }) => {
+            took_unsettled(alloc, content, msg_type, id, scratch)
+        }
     }
 }
 
 /// What a message is to a client that used these ids.
 #[tactic(auto, unfolding(crate::specs::Taking::took))]
-pub fn took(
+pub fn took<W>(
     alloc: Global,
-    used: &BTreeMap<String, bool>,
+    used: &BTreeMap<String, Task<W>>,
     message: &SharedMessage,
     scratch: &mut Scratch,
 ) -> Result<Took, AllocError>

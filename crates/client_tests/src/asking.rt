@@ -102,13 +102,15 @@ fn a_request_is_answered(rt: HostRuntime) {
         &[u64],
         &[u64],
         (Result<bool, DialledEnd>, bool, usize),
-    ); 8] = [
+    ); 9] = [
         (&whole, &[], &[], (Ok(true), true, 228)),
         (&bad_behind, &[], &[], (Ok(true), true, 228)),
         (&unanswered, &[], &[], (Err(DialledEnd::Ended), true, 228)),
         (&OWN[..64], &[], &[], (Err(DialledEnd::Ended), true, 94)),
         (&bad, &[], &[], (Err(bad_flags), true, 228)),
         (&whole, &[1], &[], (LINK_FAULT, true, 64)),
+        // the answer came by the first read, and no other is made
+        (&whole, &[2], &[], (Ok(true), true, 228)),
         (&whole, &[], &[1], (LINK_FAULT, true, 0)),
         (&whole, &[], &[3], (LINK_FAULT, true, 94)),
     ];

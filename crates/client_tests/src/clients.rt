@@ -1,15 +1,14 @@
 //! What a client sends, and what messages are to it.
 
-ghost use Rattle.std.specs.Prelude.{◌≡◌, ◌≤◌, [], true};
+ghost use Rattle.std.specs.Prelude.{◌≤◌};
 ghost use Rattle.cluster_types.specs.Limits.{last_moment};
-ghost use Rattle.client_core.specs.Limits.{is_within_limits};
 
 use client_core::client::Client;
 use client_core::error::SubmitError;
 use client_core::limits::{is_engine, is_within_limits};
+use client_core::metadata::plain_meta;
 use client_core::took::Took;
 use cluster_defs::content::SubmitMeta;
-use cluster_types::event::Dep;
 use cluster_types::sequence::Sequence;
 use cluster_types::shared_message::SharedMessage;
 use cluster_types::text::Text;
@@ -23,31 +22,6 @@ const ZERO_PARENT: &str = "{\"msg_id\":\"00000000-0000-4000-8000-000000000000\"}
 const EXAMPLE: [u8; 16] = [
     0x91, 0x91, 0x08, 0xf7, 0x52, 0xd1, 0xf3, 0x20, 0x5b, 0xac, 0xf8, 0x47, 0xdb, 0x41, 0x48, 0xa8,
 ];
-
-/// A dependency on no task.
-fn no_task(alloc: Global) -> Dep
-    ensures { result.ids ≡ [] }
-{
-    Dep {
-        ids: Sequence::new(alloc),
-        all: true,
-        success: true,
-        failure: false,
-    }
-}
-
-/// Metadata that asks for nothing.
-fn nothing_asked(alloc: Global) -> SubmitMeta
-    ensures { is_within_limits result ≡ true }
-{
-    SubmitMeta {
-        after: no_task(alloc),
-        follow: no_task(alloc),
-        targets: Sequence::new(alloc),
-        timeout: 0,
-        retries: 0,
-    }
-}
 
 /// Whether a message has these parts, no parent and no buffers.
 fn has_parts(
@@ -79,7 +53,7 @@ fn submitted(
 ) -> Result<SharedMessage, SubmitError>
     requires { moment ≤ last_moment }
 {
-    let meta = nothing_asked(alloc);
+    let meta = plain_meta(alloc);
     client.submit(code, &meta, [0; 16], moment)
 }
 
@@ -238,7 +212,7 @@ fn a_task_may_fail(rt: HostRuntime) {
 
 /// Metadata with these ids to follow, and a number of retries.
 fn following<R: Abort>(rt: &R, alloc: Global, ids: &[&str], retries: u32) -> SubmitMeta {
-    let mut meta = nothing_asked(alloc);
+    let mut meta = plain_meta(alloc);
     for id in ids {
         let text = Text::new(alloc, id).expect(rt, "memory is ample");
         meta.follow.ids.push(text).expect(rt, "memory is ample");

@@ -53,7 +53,7 @@ fn asked<R: Wait + Abort + Drop + Copy>(
     let end = run_client(&mut host, action, &key, &mut dialer, &mut output);
     let status = match end {
         ClientEnd::Answered { ok, .. } => u8::from(!ok),
-        ClientEnd::OutputFault => 4,
+        ClientEnd::OutputFault { .. } => 4,
         ClientEnd::OutOfMemory => 8,
         _ => 13,
     };

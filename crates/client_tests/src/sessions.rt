@@ -89,7 +89,7 @@ fn a_session_is_served(rt: HostRuntime) {
     let whole = joined(&rt, alloc, &[OWN, FIRST, FORGED, OTHER, SECOND]);
     let bad = joined(&rt, alloc, &[OWN, FIRST, b"\x08", SECOND]);
     // The writes are the greeting, READY, the registration and the two replies.
-    let cases: [(&[u8], &[u64], &[u64], (DialledEnd, bool, usize)); 7] = [
+    let cases: [(&[u8], &[u64], &[u64], (DialledEnd, bool, usize)); 8] = [
         (&whole, &[], &[], (DialledEnd::Ended, true, 980)),
         (&OWN[..64], &[], &[], (DialledEnd::Ended, true, 94)),
         (
@@ -103,6 +103,8 @@ fn a_session_is_served(rt: HostRuntime) {
             ),
         ),
         (&whole, &[1], &[], (LINK_FAULT, true, 64)),
+        // what came by the first read is answered before the second one
+        (&whole, &[2], &[], (LINK_FAULT, true, 980)),
         (&whole, &[], &[1], (LINK_FAULT, true, 0)),
         (&whole, &[], &[3], (LINK_FAULT, true, 94)),
         (&whole, &[], &[5], (LINK_FAULT, true, 654)),

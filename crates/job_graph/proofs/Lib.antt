@@ -5,3 +5,6 @@ pub mod Rows
 pub mod Once
 pub mod Requests
 pub mod Held
+mod Formed
+mod Pigeons
+mod Submitted

@@ -1,4 +1,4 @@
-//! Jobs: tasks that wait for one another, read from a text of lines.
+//! Jobs: tasks that wait for one another, read from a text of lines and submitted over a client.
 #![tactic(auto)]
 
 pub mod error;
@@ -7,4 +7,5 @@ mod line;
 mod names;
 mod parts;
 pub mod read;
+pub mod submit;
 pub mod task;

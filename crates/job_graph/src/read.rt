@@ -3,7 +3,7 @@
 ghost use Rattle.std.specs.Prelude.{◌≡◌, ◌⊎◌, ◌++◌, Ok, Err, None, Some, [], IfOk, IfErr, OnOk};
 ghost use Rattle.std.specs.List.{cons_option};
 ghost use Rattle.job_graph.specs.Lines.{line_task};
-ghost use Rattle.job_graph.specs.Jobs.{is_taken, are_known, task_fault, fault_of, first_fault, tasks_in, counted, job_of};
+ghost use Rattle.job_graph.specs.Jobs.{IsJob, is_taken, are_known, task_fault, fault_of, first_fault, tasks_in, counted, job_of};
 
 use crate::error::JobError;
 use crate::line::line_task;
@@ -38,7 +38,8 @@ impl Model for JobGraph {
 impl JobGraph {
     /// The tasks, in the order of their lines.
     pub fn tasks(&self) -> &JobTasks
-        ensures { result.now ≡ self.now }
+        ensures tasks { result.now ≡ self.now }
+        ensures job { IsJob self.now }
     {
         &self.tasks
     }

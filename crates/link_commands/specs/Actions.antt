@@ -1,13 +1,12 @@
 -- What the program's client asks of a controller.
-use Rattle.std.specs.Prelude.{◌≡◌, ℕ, ◌≤◌, true, false, List, [], ◌∷◌, ◌++◌, Option, codes}
+use Rattle.std.specs.Prelude.{◌≡◌, ℕ, ◌≤◌, List, [], ◌∷◌, ◌++◌, Option, codes}
 use Rattle.client_core.specs.Identifier.{client_id}
 use Rattle.client_core.specs.Messages.{Request, task_request, hub_request, message_under}
+use Rattle.client_core.specs.Metadata.{plain_meta}
 use Rattle.cluster_types.specs.Limits.{last_moment}
-use Rattle.cluster_types.specs.declared.event.Dep.{Dep}
 use Rattle.cluster_types.specs.declared.message.Message.{Message}
 use Rattle.command_words.specs.declared.standing.Action.{Action}
 use Rattle.command_words.specs.declared.standing.Action.TheVariants.{Run, Result, Purge, Resubmit, Abort, Queue, History, Shutdown}
-use Rattle.cluster_defs.specs.declared.content.SubmitMeta.{SubmitMeta}
 use Rattle.cluster_defs.specs.Texts.{texts_list, empty_object}
 use Rattle.edges.specs.Spelling.{be64}
 use Rattle.thread_edges.specs.Series.{Draws}
@@ -15,13 +14,6 @@ use Rattle.thread_edges.specs.Series.{Draws}
 -- the session of the program's client
 unfoldable pub session : List ℕ
 session = codes "client"
-
-abbrev pub on_nothing : Dep
-on_nothing = record { ids = []; all = true; success = true; failure = false }
-
--- a task for any engine, with no dependencies, no timeout and no retries
-abbrev pub plain_meta : SubmitMeta
-plain_meta = record { after = on_nothing; follow = on_nothing; targets = []; timeout = 0; retries = 0 }
 
 -- a content that names one task
 unfoldable pub about : List ℕ → List ℕ

@@ -1,18 +1,16 @@
 //! What the program's client asks of a controller.
 
-ghost use Rattle.std.specs.Prelude.{◌≡◌, ◌≤◌, [], true, IfOk, string_bytes};
+ghost use Rattle.std.specs.Prelude.{◌≡◌, ◌≤◌, [], IfOk, string_bytes};
 ghost use Rattle.client_core.specs.Identifier.{client_id};
-ghost use Rattle.client_core.specs.Limits.{is_within_limits};
 ghost use Rattle.client_core.specs.Messages.{task_request, hub_request, message_under};
+ghost use Rattle.client_core.specs.Metadata.{plain_meta};
 ghost use Rattle.cluster_types.specs.Limits.{last_moment};
-ghost use Rattle.link_commands.specs.Actions.{session, on_nothing, plain_meta, about, channel_for, message_for};
+ghost use Rattle.link_commands.specs.Actions.{session, about, channel_for, message_for};
 
 use client_core::client::Client;
 use client_core::error::SubmitError;
-use cluster_defs::content::SubmitMeta;
-use cluster_types::event::Dep;
+use client_core::metadata::plain_meta;
 use cluster_types::message::Ids;
-use cluster_types::sequence::Sequence;
 use cluster_types::shared_message::SharedMessage;
 use cluster_types::text::Text;
 use command_words::standing::Action;
@@ -21,32 +19,6 @@ use std::alloc::{AllocError, Global};
 
 /// The session of the program's client.
 const SESSION: &str = "client";
-
-/// A dependency on no task.
-fn on_nothing(alloc: Global) -> Dep
-    ensures { result ≡ on_nothing }
-{
-    Dep {
-        ids: Sequence::new(alloc),
-        all: true,
-        success: true,
-        failure: false,
-    }
-}
-
-/// Metadata that asks for nothing.
-fn plain_meta(alloc: Global) -> SubmitMeta
-    ensures value { result ≡ plain_meta }
-    ensures limits { is_within_limits result ≡ true }
-{
-    SubmitMeta {
-        after: on_nothing(alloc),
-        follow: on_nothing(alloc),
-        targets: Sequence::new(alloc),
-        timeout: 0,
-        retries: 0,
-    }
-}
 
 /// The content that names one task.
 #[tactic(auto, unfolding(crate::specs::Actions::about))]

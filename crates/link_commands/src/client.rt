@@ -3,8 +3,8 @@
 ghost use Rattle.std.specs.Prelude.{◌≡◌, Err, IfOk, OnOk};
 ghost use Rattle.link_commands.specs.Asking.{is_ok};
 ghost use Rattle.cluster_types.specs.Causes.{Rose};
-ghost use Rattle.link_commands.specs.Actions.{IsRequest};
-ghost use Rattle.link_commands.specs.ClientEnds.{IsPrinted, ClientEnds};
+ghost use Rattle.link_commands.specs.Actions.{IsRequest, channel_for};
+ghost use Rattle.link_commands.specs.ClientEnds.{ClientEnds, IsPrinted, IsPrintedInPart};
 ghost use Rattle.link_commands.specs.Links.{dials, prints};
 
 use crate::actions::{channel_for, message_for};
@@ -52,7 +52,10 @@ pub enum ClientEnd<I, O> {
         writer: O,
     },
     /// The answer came, and a write of the output failed.
-    OutputFault,
+    OutputFault {
+        reader: I,
+        writer: O,
+    },
     OutOfMemory,
 }
 
@@ -90,6 +93,8 @@ impl From<WriteFailed> for ShowError {
 fn show<K: Sink>(alloc: Global, answer: &SharedMessage, output: &mut K) -> Result<bool, ShowError>
     ensures ok { IfOk result (λ ok. ok ≡ is_ok answer.now.content) }
     ensures printed { OnOk result (IsPrinted answer.now (K.written output.old) (K.written output.new)) }
+    ensures part { result ≡ Err ShowError.WriteFailed → IsPrintedInPart answer.now (K.written output.old) (K.written output.new) }
+    ensures none { result ≡ Err ShowError.OutOfMemory → K.written output.new ≡ K.written output.old }
     ensures cause { result ≡ Err ShowError.WriteFailed → Rose (K.faults output.old) (K.faults output.new) }
 {
     let ok = is_ok(alloc, answer.content())?;
@@ -107,7 +112,7 @@ pub fn run_client<R: Wait, N: Dialer, C: Clock, W: Words, K: Sink>(
     dialer: &mut N,
     output: &mut K,
 ) -> ClientEnd<N::In, N::Out>
-    ensures { ClientEnds (dials N.Dialer N.In.Source N.Out.Sink dialer.old dialer.new) key.now (IsRequest action.now (W.coming host.old.words) (W.coming host.new.words)) (prints K.Sink output.old output.new) result }
+    ensures { ClientEnds (dials N.Dialer N.In.Source N.Out.Sink dialer.old dialer.new) (channel_for action.now) key.now (IsRequest action.now (W.coming host.old.words) (W.coming host.new.words)) (prints K.Sink output.old output.new) result }
 {
     let (mut reader, mut writer) = match dialer.dial(channel_for(action)) {
         Accepted::Pair(reader, writer) => (reader, writer),
@@ -136,7 +141,7 @@ pub fn run_client<R: Wait, N: Dialer, C: Clock, W: Words, K: Sink>(
     };
     match show(alloc, &answer, output) {
         Ok(ok) => ClientEnd::Answered { ok, reader, writer },
-        Err(ShowError::WriteFailed) => ClientEnd::OutputFault,
+        Err(ShowError::WriteFailed) => ClientEnd::OutputFault { reader, writer },
         Err(ShowError::OutOfMemory) => ClientEnd::OutOfMemory,
     }
 }

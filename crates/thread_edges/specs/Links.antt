@@ -28,6 +28,15 @@ LinkCause (Pair i o) before now = before ≤ now
 LinkCause End before now = before ≤ now
 LinkCause Failed before now = (before ≤ now) × Rose before now
 
+-- what a dialer was asked for: how often, and which channel last
+pub record Dialling : Type 0 where
+  pub times : ℕ
+  pub last : Option ℕ
+
+-- this channel was dialled, once more
+abbrev pub dialled_once : ℕ → Dialling → Dialling
+dialled_once channel before = record { times = counted before.times; last = Some channel }
+
 -- a link in memory that has neither given nor taken
 abbrev pub IsUnused : Reading × Writing → Type 0
 IsUnused (source, sink) = (source.calls ≡ 0) × (source.faults ≡ 0) × (sink.written ≡ []) × (sink.calls ≡ 0) × (sink.faults ≡ 0)
@@ -39,6 +48,11 @@ pub record Linking : Type 0 where
   pub calls : ℕ
   pub failing : List ℕ
   pub faults : ℕ
+
+-- a dialer in memory: its line, and the channel that was dialled last
+pub record MemDialling : Type 0 where
+  pub line : Linking
+  pub last : Option ℕ
 
 -- whether the next call is one that fails
 abbrev pub fails_next : Linking → Bool

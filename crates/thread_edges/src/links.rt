@@ -1,7 +1,7 @@
 //! Links to other machines, accepted or dialled.
 
 ghost use Rattle.std.specs.Prelude.{◌≡◌, ◌≢◌, List, ℕ, Option, Some, None};
-ghost use Rattle.thread_edges.specs.Links.{Accepts, IsFresh, LinkCause};
+ghost use Rattle.thread_edges.specs.Links.{Accepts, Dialling, IsFresh, LinkCause, dialled_once};
 
 use edges::sink::Sink;
 use edges::source::Source;
@@ -44,10 +44,14 @@ pub trait Dialer {
     /// How often a dial has failed.
     ghost faults: { Self → ℕ };
 
+    /// How often it was told to dial, and over which channel last.
+    ghost dialled: { Self → Dialling };
+
     /// Makes a link to the controller, over this one of its channels.
     fn dial(&mut self, channel: u8) -> Accepted<Self::In, Self::Out>
         ensures accepts { Accepts result (links self.old) (links self.new) }
         ensures answers { result ≢ Accepted.End }
         ensures fresh { IsFresh Self.In.faults Self.Out.faults Self.Out.written result }
-        ensures cause { LinkCause result (faults self.old) (faults self.new) };
+        ensures cause { LinkCause result (faults self.old) (faults self.new) }
+        ensures channel { dialled self.new ≡ dialled_once channel (dialled self.old) };
 }

@@ -4,7 +4,7 @@ ghost use Rattle.std.specs.Prelude.{◌≡◌, ◌≢◌, ◌==◌, ◌↔◌, �
 ghost use Rattle.std.specs.Option.{option_copied, option_to_list};
 ghost use Rattle.cluster_types.specs.Causes.{Rose};
 ghost use Rattle.edges.specs.Memory.{Reading, Writing, counted, is_listed};
-ghost use Rattle.thread_edges.specs.Links.{Accepts, IsFresh, IsUnwritten, LinkCause, IsUnused, Linking, fails_next, faults_by};
+ghost use Rattle.thread_edges.specs.Links.{Accepts, IsFresh, IsUnwritten, LinkCause, IsUnused, Linking, dialled_once, fails_next, faults_by};
 
 use crate::links::{Accepted, Dialer, Listener};
 use edges::memory::{MemSink, MemSource};
@@ -196,23 +196,25 @@ impl Listener for MemListener {
 #[derive(Drop)]
 pub struct MemDialer {
     line: Line,
+    last: Option<u8>,
 }
 
 impl Model for MemDialer {
-    ghost use Rattle.thread_edges.specs.Links.{Linking};
+    ghost use Rattle.thread_edges.specs.Links.{MemDialling};
 
-    ghost Value = { Linking };
+    ghost Value = { MemDialling };
 
-    ghost view = { λ d. d.line };
+    ghost view = { λ d. record { line = d.line; last = d.last } };
 }
 
 impl MemDialer {
     /// A dialer with these links whose calls of these numbers fail, counted from 1.
     pub fn new(alloc: Global, links: Links, failing: &[u64]) -> Result<MemDialer, AllocError>
-        ensures { IfOk result (λ d. d ≡ record { links = links; calls = 0; failing = failing.now; faults = 0 }) }
+        ensures { IfOk result (λ d. d ≡ record { line = record { links = links; calls = 0; failing = failing.now; faults = 0 }; last = None }) }
     {
         Ok(MemDialer {
             line: Line::new(alloc, links, failing)?,
+            last: None,
         })
     }
 }
@@ -224,20 +226,23 @@ impl Dialer for MemDialer {
 
     type Out = MemSink;
 
-    ghost links = { λ d. Some d.links };
+    ghost links = { λ d. Some d.line.links };
 
-    ghost faults = { λ d. d.faults };
+    ghost faults = { λ d. d.line.faults };
 
-    fn dial(&mut self, _channel: u8) -> Accepted<MemSource, MemSink>
-        ensures accepts { Accepts result (Some self.old.links) (Some self.new.links) }
+    ghost dialled = { λ d. record { times = d.line.calls; last = d.last } };
+
+    fn dial(&mut self, channel: u8) -> Accepted<MemSource, MemSink>
+        ensures accepts { Accepts result (Some self.old.line.links) (Some self.new.line.links) }
         ensures answers { result ≢ Accepted.End }
         ensures fresh { IsFresh (λ s. s.faults) (λ s. s.faults) (λ s. Some s.written) result }
-        ensures cause { LinkCause result self.old.faults self.new.faults }
-        ensures listed { (result ≡ Accepted.Failed) ↔ ((fails_next self.old ≡ true) ⊎ (self.old.links ≡ [])) }
-        ensures faults { self.new.faults ≡ faults_by result self.old.faults }
-        ensures calls { self.new.calls ≡ counted self.old.calls }
-        ensures failing { self.new.failing ≡ self.old.failing }
+        ensures cause { LinkCause result self.old.line.faults self.new.line.faults }
+        ensures channel { record { times = self.new.line.calls; last = self.new.last } ≡ dialled_once channel (record { times = self.old.line.calls; last = self.old.last }) }
+        ensures listed { (result ≡ Accepted.Failed) ↔ ((fails_next self.old.line ≡ true) ⊎ (self.old.line.links ≡ [])) }
+        ensures faults { self.new.line.faults ≡ faults_by result self.old.line.faults }
+        ensures failing { self.new.line.failing ≡ self.old.line.failing }
     {
+        self.last = Some(channel);
         if self.line.is_call_listed() {
             self.line.count_fault();
             return Accepted::Failed;

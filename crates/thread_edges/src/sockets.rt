@@ -109,18 +109,24 @@ pub struct TcpDial<R: Net<Stream = TcpStream> + Drop> {
     pub host: String,
     pub first_port: u16,
     pub faults: u64,
+    /// How often it was told to dial.
+    pub dials: u64,
+    /// The channel that was dialled last.
+    pub last: Option<u8>,
 }
 
 impl<R: Net<Stream = TcpStream> + Drop> TcpDial<R> {
-    /// A dialer that hasn't failed.
+    /// A dialer that hasn't dialled.
     pub fn new(rt: R, host: String, first_port: u16) -> TcpDial<R>
-        ensures { result ≡ record { rt = rt; host = host; first_port = first_port; faults = 0 } }
+        ensures { result ≡ record { rt = rt; host = host; first_port = first_port; faults = 0; dials = 0; last = None } }
     {
         TcpDial {
             rt,
             host,
             first_port,
             faults: 0,
+            dials: 0,
+            last: None,
         }
     }
 
@@ -144,7 +150,11 @@ impl<R: Net<Stream = TcpStream> + Drop> Dialer for TcpDial<R> {
 
     ghost faults = { λ d. d.faults };
 
+    ghost dialled = { λ d. record { times = d.dials; last = d.last } };
+
     fn dial(&mut self, channel: u8) -> Accepted<StdSource<TcpStream>, StdSink<TcpStream>> {
+        self.dials = self.dials.saturating_add(1);
+        self.last = Some(channel);
         match self.connect(channel) {
             Some((source, sink)) => Accepted::Pair(source, sink),
             None => {

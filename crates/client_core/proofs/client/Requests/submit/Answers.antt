@@ -6,7 +6,7 @@ use Rattle.cluster_defs.specs.Submit.{read_submit}
 use Rattle.client_core.specs.declared.error.SubmitError.{SubmitError}
 use Rattle.client_core.specs.Messages.{submit_metadata, meta_once}
 use Rattle.client_core.proofs.ReadBack.{reads_back}
-use Rattle.client_core.proofs.client.Client.submit.Goals as goal
+use Rattle.client_core.proofs.client.Requests.submit.Goals as goal
 
 sent_is : (b : Bool) (message m : Message) → cond b (Err SubmitError.KnownId) (Ok message) ≡ Ok m → message ≡ m
 sent_is true message m h = absurd (cc)
@@ -18,7 +18,7 @@ reads (Ok m) b message reading h known = subst reading (sent_is b message m h) k
 reads (Err e) b message reading h known = h
 
 pub returns-clause-reads : goal.returns-clause-reads
-returns-clause-reads c =
+returns-clause-reads g c =
     let meta = c.args.meta.now in
     let text : c.as_str.result.now ≡ submit_metadata meta = c.as_str.ensures.value ∙ c.in_ok-metadata.ensures in
     let utf8 = subst (λ t. is_utf8 t ≡ true) text (is_utf8-from_IsUtf8 c.as_str.result.now c.as_str.utf8) in
