@@ -170,6 +170,7 @@ fn name_of(command: &Command) -> &'static str {
         Command::Dump { .. } => "dump",
         Command::Check { .. } => "check",
         Command::Compact { .. } => "compact",
+        Command::Follow { .. } => "follow",
         Command::Work { .. } => "work",
     }
 }
@@ -235,6 +236,9 @@ const DATABASES: &[(&[&str], &str, &str)] = &[
     (&["compact", "--", "db"], "", ""),
     (&["compact", "-db"], "", ""),
     (&["compacts", "db"], "", ""),
+    (&["follow", "db"], "follow", "db"),
+    (&["follow"], "", ""),
+    (&["follow", "db", "--key", "k"], "", ""),
     (&["work", "1", "2"], "work", ""),
     (&["Dump", "db"], "", ""),
     (&["dum", "db"], "", ""),
@@ -336,6 +340,16 @@ const ENDS: &[(Ending, u8, &str)] = &[
         Ending::Different(u64::MAX),
         10,
         "ipcluster: different at 18446744073709551615\n",
+    ),
+    (
+        Ending::StandbyDiffers(1),
+        15,
+        "ipcluster: standby differs at entry 1\n",
+    ),
+    (
+        Ending::PrimaryRefused(u64::MAX),
+        16,
+        "ipcluster: primary refused at 18446744073709551615\n",
     ),
 ];
 

@@ -1,7 +1,7 @@
 -- How the program ends: its status, and the line that says why.
 use Rattle.std.specs.Prelude.{ℕ, List, [], ◌++◌, codes, decimal}
 use Rattle.command_words.specs.declared.ending.Ending.{Ending}
-use Rattle.command_words.specs.declared.ending.Ending.TheVariants.{Done, Usage, ReadFault, WriteFault, DiskFault, BadTape, Damaged, OutOfMemory, HistoryFull, Different}
+use Rattle.command_words.specs.declared.ending.Ending.TheVariants.{Done, Usage, ReadFault, WriteFault, DiskFault, BadTape, Damaged, OutOfMemory, HistoryFull, Different, StandbyDiffers, PrimaryRefused}
 use Rattle.command_words.specs.declared.ending.StandingEnding.{StandingEnding}
 use Rattle.command_words.specs.declared.ending.StandingEnding.TheVariants.{Plain, NotOk, ListenerFault, NoWorker, LinkFault}
 
@@ -16,6 +16,8 @@ status (Damaged place) = 7
 status OutOfMemory = 8
 status (HistoryFull entries bytes) = 9
 status (Different place) = 10
+status (StandbyDiffers place) = 15
+status (PrimaryRefused place) = 16
 
 -- the line of an end, with its line feed
 unfoldable pub line : Ending → List ℕ
@@ -30,6 +32,8 @@ line OutOfMemory = codes "ipcluster: out of memory\n"
 line (HistoryFull entries bytes) =
     codes "ipcluster: history full at " ++ decimal entries ++ codes " entries and " ++ decimal bytes ++ codes " bytes\n"
 line (Different place) = codes "ipcluster: different at " ++ decimal place ++ codes "\n"
+line (StandbyDiffers place) = codes "ipcluster: standby differs at entry " ++ decimal place ++ codes "\n"
+line (PrimaryRefused place) = codes "ipcluster: primary refused at " ++ decimal place ++ codes "\n"
 
 -- the same of the commands that are about a cluster at its ports
 abbrev pub standing_status : StandingEnding → ℕ

@@ -4,7 +4,7 @@ use Rattle.cluster_types.specs.declared.config.Scheme.{Scheme}
 use Rattle.cluster_types.specs.declared.config.Scheme.TheVariants.{LeastLoad}
 use Rattle.cluster_types.specs.Limits.{most_entries, most_record_octets}
 use Rattle.command_words.specs.declared.command.Command.{Command}
-use Rattle.command_words.specs.declared.command.Command.TheVariants.{Replay, Dump, Check, Compact, Work}
+use Rattle.command_words.specs.declared.command.Command.TheVariants.{Replay, Dump, Check, Compact, Work, Follow}
 use Rattle.command_words.specs.declared.command.ReplayOptions.{ReplayOptions}
 use Rattle.command_words.specs.Items.{Item, known_items, places, values}
 use Rattle.command_words.specs.Values.{needed, optional, key_from, scheme_from, number_from}
@@ -25,6 +25,9 @@ compact_word = codes "compact"
 
 unfoldable pub work_word : List ℕ
 work_word = codes "work"
+
+unfoldable pub follow_word : List ℕ
+follow_word = codes "follow"
 
 -- THE NAMES OF OPTIONS, WITHOUT THEIR DASHES
 
@@ -85,6 +88,7 @@ database_of (Dump database) = Some database
 database_of (Check database) = Some database
 database_of (Compact database) = Some database
 database_of (Work seed tasks) = None
+database_of (Follow database) = Some database
 
 -- THE COMMANDS
 
@@ -125,6 +129,9 @@ check_of words = option_map Check (database_in words)
 abbrev pub compact_of : List (List ℕ) → Option Command
 compact_of words = option_map Compact (database_in words)
 
+abbrev pub follow_of : List (List ℕ) → Option Command
+follow_of words = option_map Follow (database_in words)
+
 abbrev pub work_with : Option ℕ → Option ℕ → Option Command
 work_with (Some seed) (Some tasks) = Some (Work seed tasks)
 work_with _ _ = None
@@ -148,6 +155,7 @@ asked_by command words =
     else if bytes_eq command check_word then check_of words
     else if bytes_eq command compact_word then compact_of words
     else if bytes_eq command work_word then work_of words
+    else if bytes_eq command follow_word then follow_of words
     else None
 
 -- what words ask for, where they have a reading: the first one is the command

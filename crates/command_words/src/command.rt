@@ -1,7 +1,7 @@
 //! What a command line asks for.
 
 ghost use Rattle.std.specs.Prelude.{◌≡◌, ◌∷◌, [], Some, None, Err, IfOk, bytes_eq};
-ghost use Rattle.command_words.specs.Reading.{reading, asked_by, database_of, only_word, database_in, replay_of, dump_of, check_of, compact_of, work_of, work_behind, replay_behind, replay_options, IsInRange, key_name, scheme_name, hwm_name, misses_name, entries_name, bytes_name};
+ghost use Rattle.command_words.specs.Reading.{reading, asked_by, database_of, only_word, database_in, replay_of, dump_of, check_of, compact_of, follow_of, work_of, work_behind, replay_behind, replay_options, IsInRange, key_name, scheme_name, hwm_name, misses_name, entries_name, bytes_name};
 ghost use Rattle.std.specs.Option.{option_copied};
 ghost use Rattle.command_words.specs.Simple.{values_of, word_id};
 
@@ -61,6 +61,10 @@ pub enum Command {
         /// How many tasks, at most 500,000.
         tasks: u32,
     },
+    /// The database is a standby's: what it lacks of the journal in the input is to be appended to it.
+    Follow {
+        database: Text,
+    },
 }
 
 impl Command {
@@ -74,6 +78,7 @@ impl Command {
             Command::Check { database } => Some(database),
             Command::Compact { database } => Some(database),
             Command::Work { .. } => None,
+            Command::Follow { database } => Some(database),
         }
     }
 }
@@ -288,6 +293,16 @@ fn compact_of(alloc: Global, behind: &[Text]) -> Result<Command, CommandError>
     Ok(Command::Compact { database })
 }
 
+/// What the words behind `follow` ask for.
+fn follow_of(alloc: Global, behind: &[Text]) -> Result<Command, CommandError>
+    ensures ok { IfOk result (λ c. follow_of behind.now ≡ Some c) }
+    ensures usage { result ≡ Err CommandError.Usage → follow_of behind.now ≡ None }
+    ensures range { IfOk result IsInRange }
+{
+    let database = database_in(alloc, "follow", behind)?;
+    Ok(Command::Follow { database })
+}
+
 /// `work` with a seed and a number of tasks.
 fn work_with(seed: &str, tasks: &str) -> Result<Command, CommandError>
     ensures ok { IfOk result (λ c. work_behind (seed.now ∷ tasks.now ∷ []) ≡ Some c) }
@@ -339,7 +354,7 @@ pub(crate) fn is_command(word: &Text, name: &[u8]) -> bool
 }
 
 /// What a command asks for with the words behind it.
-#[tactic(auto, unfolding(crate::specs::Reading::replay_word, crate::specs::Reading::dump_word, crate::specs::Reading::check_word, crate::specs::Reading::compact_word, crate::specs::Reading::work_word))]
+#[tactic(auto, unfolding(crate::specs::Reading::replay_word, crate::specs::Reading::dump_word, crate::specs::Reading::check_word, crate::specs::Reading::compact_word, crate::specs::Reading::work_word, crate::specs::Reading::follow_word))]
 fn asked_by(alloc: Global, command: &Text, behind: &[Text]) -> Result<Command, CommandError>
     ensures ok { IfOk result (λ c. asked_by command.now behind.now ≡ Some c) }
     ensures usage { result ≡ Err CommandError.Usage → asked_by command.now behind.now ≡ None }
@@ -359,6 +374,9 @@ fn asked_by(alloc: Global, command: &Text, behind: &[Text]) -> Result<Command, C
     }
     if is_command(command, b"work") {
         return work_of(alloc, behind);
+    }
+    if is_command(command, b"follow") {
+        return follow_of(alloc, behind);
     }
     Err(CommandError::Usage)
 }

@@ -29,6 +29,10 @@ pub enum Ending {
     HistoryFull { entries: u64, bytes: u64 },
     /// The input isn't the text of the history: this is the first offset at which they differ.
     Different(u64),
+    /// The standby's list isn't the front of the input's: this is the first entry at which they differ, counted from 0.
+    StandbyDiffers(u64),
+    /// The input holds no journal, or a damaged one, or is too long; the place is an offset in it.
+    PrimaryRefused(u64),
 }
 
 /// How a command ends that is about a cluster at its ports.
@@ -61,6 +65,8 @@ pub fn status_of(ending: Ending) -> u8
         Ending::OutOfMemory => 8,
         Ending::HistoryFull { .. } => 9,
         Ending::Different(_) => 10,
+        Ending::StandbyDiffers(_) => 15,
+        Ending::PrimaryRefused(_) => 16,
     }
 }
 
@@ -140,6 +146,8 @@ pub fn line_of(ending: Ending) -> Line
         Ending::OutOfMemory => plain("ipcluster: out of memory\n"),
         Ending::HistoryFull { entries, bytes } => history_full(entries, bytes),
         Ending::Different(place) => with_place("ipcluster: different at ", place),
+        Ending::StandbyDiffers(place) => with_place("ipcluster: standby differs at entry ", place),
+        Ending::PrimaryRefused(place) => with_place("ipcluster: primary refused at ", place),
     }
 }
 

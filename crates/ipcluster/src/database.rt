@@ -79,14 +79,15 @@ pub fn open_for_changes(rt: &HostRuntime, path: &str) -> Result<File, DatabaseEr
     told(rt, path, changeable(rt, path))
 }
 
-/// Opens the file of the database that a command names, where it names one: `replay` makes a file that isn't there, the
-/// others change none. Where it can't be had a line says why.
+/// Opens the file of the database that a command names, where it names one: `replay` and `follow` make a file that isn't there,
+/// the others change none. Where it can't be had a line says why.
 pub fn open_database(rt: &HostRuntime, command: &Command) -> Result<Option<File>, DatabaseError> {
     let Some(path) = command.database() else {
         return Ok(None);
     };
     let file = match command {
         Command::Replay { .. } => open_for_changes(rt, path.as_str())?,
+        Command::Follow { .. } => open_for_changes(rt, path.as_str())?,
         _ => told(rt, path.as_str(), readable(rt, path.as_str()))?,
     };
     Ok(Some(file))

@@ -127,6 +127,8 @@ tape_ends tells content options s left rest before now old new failed history en
 tape_ends tells content options s left rest before now old new failed history endings.Usage over t = t.of_tape
 tape_ends tells content options s left rest before now old new failed history (endings.Damaged place) over t = absurd t.of_tape
 tape_ends tells content options s left rest before now old new failed history (endings.Different place) over t = t.of_tape
+tape_ends tells content options s left rest before now old new failed history (endings.StandbyDiffers place) over t = t.of_tape
+tape_ends tells content options s left rest before now old new failed history (endings.PrimaryRefused place) over t = t.of_tape
 
 -- WHAT A CRASH MAY LEAVE
 

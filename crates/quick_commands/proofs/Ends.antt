@@ -2,9 +2,9 @@
 use Rattle.std.proofs.Common.{◌≡◌, ℕ, List, Option, Some, None, refl, ap, ◌∙◌, ◌⊎◌, ⊎_elim, inl, inr}
 use Rattle.std.specs.Prelude.{IfSome}
 use Rattle.command_words.specs.declared.command.Command.{Command}
-use Rattle.command_words.specs.declared.command.Command.TheVariants.{Replay, Dump, Check, Compact, Work}
+use Rattle.command_words.specs.declared.command.Command.TheVariants.{Replay, Dump, Check, Compact, Work, Follow}
 use Rattle.command_words.specs.declared.ending.Ending.{Ending}
-use Rattle.command_words.specs.declared.ending.Ending.TheVariants.{Done, Usage, ReadFault, WriteFault, DiskFault, BadTape, Damaged, OutOfMemory, HistoryFull, Different}
+use Rattle.command_words.specs.declared.ending.Ending.TheVariants.{Done, Usage, ReadFault, WriteFault, DiskFault, BadTape, Damaged, OutOfMemory, HistoryFull, Different, StandbyDiffers, PrimaryRefused}
 use Rattle.command_words.specs.Lines.{status, line}
 use Rattle.quick_commands.specs.Commands.{Says, Ends, Unread}
 use Rattle.quick_commands.specs.Written.{Said}
@@ -25,6 +25,8 @@ ends_usage (Damaged place) is = cc
 ends_usage OutOfMemory is = cc
 ends_usage (HistoryFull entries bytes) is = cc
 ends_usage (Different place) is = cc
+ends_usage (StandbyDiffers place) is = cc
+ends_usage (PrimaryRefused place) is = cc
 
 pub ends_read_fault : (e : Ending) → status e ≡ 3 → e ≡ ReadFault
 ends_read_fault Done is = cc
@@ -37,6 +39,8 @@ ends_read_fault (Damaged place) is = cc
 ends_read_fault OutOfMemory is = cc
 ends_read_fault (HistoryFull entries bytes) is = cc
 ends_read_fault (Different place) is = cc
+ends_read_fault (StandbyDiffers place) is = cc
+ends_read_fault (PrimaryRefused place) is = cc
 
 pub ends_write_fault : (e : Ending) → status e ≡ 4 → e ≡ WriteFault
 ends_write_fault Done is = cc
@@ -49,6 +53,8 @@ ends_write_fault (Damaged place) is = cc
 ends_write_fault OutOfMemory is = cc
 ends_write_fault (HistoryFull entries bytes) is = cc
 ends_write_fault (Different place) is = cc
+ends_write_fault (StandbyDiffers place) is = cc
+ends_write_fault (PrimaryRefused place) is = cc
 
 pub ends_disk_fault : (e : Ending) → status e ≡ 5 → e ≡ DiskFault
 ends_disk_fault Done is = cc
@@ -61,6 +67,8 @@ ends_disk_fault (Damaged place) is = cc
 ends_disk_fault OutOfMemory is = cc
 ends_disk_fault (HistoryFull entries bytes) is = cc
 ends_disk_fault (Different place) is = cc
+ends_disk_fault (StandbyDiffers place) is = cc
+ends_disk_fault (PrimaryRefused place) is = cc
 
 -- the line of an end that isn't Done is what it says
 pub says_line : (e : Ending) (before now : Option (List ℕ)) (faults later : ℕ) → (e ≡ Done → ⊥) → Said (line e) before now faults later → Says e before now faults later
@@ -74,6 +82,8 @@ says_line (Damaged place) before now faults later not said = said
 says_line OutOfMemory before now faults later not said = said
 says_line (HistoryFull entries bytes) before now faults later not said = said
 says_line (Different place) before now faults later not said = said
+says_line (StandbyDiffers place) before now faults later not said = said
+says_line (PrimaryRefused place) before now faults later not said = said
 
 pub unread_status : (n : ℕ) (e : Ending) → n ≡ status e → Unread e → (n ≡ 2) ⊎ (n ≡ 8)
 unread_status n e is unread = ⊎_elim (λ u. inl (is ∙ ap status u)) (λ m. inr (is ∙ ap status m)) unread
@@ -85,6 +95,7 @@ never_usage tells content left rest before now old new (Dump database) ends = en
 never_usage tells content left rest before now old new (Check database) ends = ends.1
 never_usage tells content left rest before now old new (Compact database) ends = ends
 never_usage tells content left rest before now old new (Work seed tasks) ends = ends
+never_usage tells content left rest before now old new (Follow database) ends = ends.1
 
 pub read_by_none : {T : Type 0} (o : Option T) (P : T → Type 0) → IfSome o P → ((x : T) → P x → ⊥) → o ≡ None
 read_by_none None P fact go = refl

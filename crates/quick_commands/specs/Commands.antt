@@ -2,16 +2,17 @@
 use Rattle.std.specs.Prelude.{◌≡◌, ◌⊎◌, ℕ, List, Option}
 use Rattle.cluster_types.specs.declared.entry.Entry.{Entry}
 use Rattle.command_words.specs.declared.command.Command.{Command}
-use Rattle.command_words.specs.declared.command.Command.TheVariants.{Replay, Dump, Check, Compact, Work}
+use Rattle.command_words.specs.declared.command.Command.TheVariants.{Replay, Dump, Check, Compact, Work, Follow}
 use Rattle.command_words.specs.declared.ending.Ending.{Ending}
 use Rattle.command_words.specs.declared.ending.Ending.TheVariants.{Done, Usage, ReadFault, WriteFault, DiskFault, Damaged, OutOfMemory, Different}
 use Rattle.command_words.specs.Lines.{line, status}
 use Rattle.edges.specs.declared.sink.Sink.{Ghosts as OfSink}
 use Rattle.database_text.specs.Texts.{IsDamaged, Told, DiffersFrom}
 use Rattle.edges.specs.Streams.{AddedFront, Added, IsAtEnd}
-use Rattle.database_text.specs.Compacted.{compact_octets, IsUnfitAt, IsCompacted}
+use Rattle.database_text.specs.Compacted.{compact_octets, HoldsNoFit, IsUnfitAt, IsCompacted}
 use Rattle.database_text.specs.Lines.{text}
 use Rattle.task_journal.specs.Journal.{StandsFor}
+use Rattle.quick_commands.specs.Following.{FollowEnds, MayLeaveFollowed}
 use Rattle.quick_commands.specs.Replays.{ReplayEnds, MayLeave}
 use Rattle.quick_commands.specs.Works.{WorkEnds}
 use Rattle.quick_commands.specs.Written.{Said}
@@ -52,16 +53,20 @@ abbrev pub CheckEnds : (tells : Type 0) → List ℕ → (left rest : Option (Li
 CheckEnds tells content left rest Done = Of tells content (λ list. Told left (λ octets. octets ≡ text list)) × IsAtEnd rest
 CheckEnds tells content left rest (Different place) = DiffersFrom tells content left place
 CheckEnds tells content left rest (Damaged place) = tells → (rest ≡ left) × IsDamaged content place
-CheckEnds tells content left rest ReadFault = Unit {0}
+CheckEnds tells content left rest ReadFault = tells → (place : ℕ) → IsDamaged content place → ⊥
 CheckEnds tells content left rest DiskFault = tells → (place : ℕ) → IsDamaged content place → rest ≡ left
-CheckEnds tells content left rest OutOfMemory = Unit {0}
+CheckEnds tells content left rest OutOfMemory = tells → (place : ℕ) → IsDamaged content place → rest ≡ left
 CheckEnds tells content left rest _ = ⊥
+
+-- a front of the octets of a journal without what purges let go was written
+abbrev pub CompactedInPart : (tells : Type 0) → List ℕ → (before now : Option (List ℕ)) → Type 0
+CompactedInPart tells content before now = tells → (list : List Entry) → StandsFor content list → AddedFront (compact_octets list) before now
 
 -- how a compact ends: with the octets of a journal of the list without what purges let go, or a front of them
 abbrev pub CompactEnds : (tells : Type 0) → List ℕ → (before now : Option (List ℕ)) → Ending → Type 0
 CompactEnds tells content before now Done = IsCompacted tells content before now
-CompactEnds tells content before now WriteFault = tells → (list : List Entry) → StandsFor content list → AddedFront (compact_octets list) before now
-CompactEnds tells content before now OutOfMemory = tells → (list : List Entry) → StandsFor content list → AddedFront (compact_octets list) before now
+CompactEnds tells content before now WriteFault = (tells → HoldsNoFit content → ⊥) × CompactedInPart tells content before now
+CompactEnds tells content before now OutOfMemory = (tells → HoldsNoFit content → now ≡ before) × CompactedInPart tells content before now
 CompactEnds tells content before now DiskFault = now ≡ before
 CompactEnds tells content before now (Damaged place) = (now ≡ before) × (tells → IsUnfitAt content place)
 CompactEnds tells content before now _ = ⊥
@@ -73,6 +78,7 @@ Ends tells content left rest before now old new (Dump database) end = DumpEnds t
 Ends tells content left rest before now old new (Check database) end = (now ≡ before) × CheckEnds tells content left rest end
 Ends tells content left rest before now old new (Compact database) end = CompactEnds tells content before now end
 Ends tells content left rest before now old new (Work seed tasks) end = WorkEnds tells content seed tasks before now new end
+Ends tells content left rest before now old new (Follow database) end = (now ≡ before) × FollowEnds tells content left rest old new end
 
 -- whether a command is about a database, and not about a disk in memory
 abbrev pub HasDatabase : Command → Type 0
@@ -83,9 +89,11 @@ HasDatabase _ = Unit {0}
 abbrev pub OnlyLooks : Command → Type 0
 OnlyLooks (Replay database options) = ⊥
 OnlyLooks (Work seed tasks) = ⊥
+OnlyLooks (Follow database) = ⊥
 OnlyLooks _ = Unit {0}
 
 -- what a crash at any moment of a command about a database may leave
 abbrev pub MayLeaveOf : Command → List ℕ → List ℕ → (List ℕ → Type 0) → List ℕ → Type 0
 MayLeaveOf (Replay database options) content octets old c = MayLeave content options octets old c
+MayLeaveOf (Follow database) content octets old c = MayLeaveFollowed content octets old c
 MayLeaveOf _ content octets old c = old c

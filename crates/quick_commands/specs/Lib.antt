@@ -5,6 +5,7 @@ pub mod Serving
 pub mod Written
 pub mod Works
 pub mod Ends
+pub mod Following
 pub mod Results
 pub mod Summaries
 pub mod Work

@@ -5,7 +5,7 @@ use Rattle.cluster_types.specs.declared.entry.Entry.{Entry}
 use Rattle.cluster_defs.specs.Histories.{History}
 use Rattle.command_words.specs.declared.command.ReplayOptions.{ReplayOptions}
 use Rattle.command_words.specs.declared.ending.Ending.{Ending}
-use Rattle.command_words.specs.declared.ending.Ending.TheVariants.{Done, Usage, BadTape, Damaged, HistoryFull, Different}
+use Rattle.command_words.specs.declared.ending.Ending.TheVariants.{Done, Usage, BadTape, Damaged, HistoryFull, Different, StandbyDiffers, PrimaryRefused}
 use Rattle.edges.specs.Streams.{Added, IsAtEnd, AddedFront}
 use Rattle.cluster_core.specs.declared.size.HistorySize.{HistorySize}
 use Rattle.cluster_store.specs.Openings.{IsFit, HasOpen, WhyNot}
@@ -92,6 +92,8 @@ ReplayEnds tells content options left rest before now old new (HistoryFull entri
 ReplayEnds tells content options left rest before now old new (Damaged place) = IsUnfit tells content before now old new place
 ReplayEnds tells content options left rest before now old new Usage = ⊥
 ReplayEnds tells content options left rest before now old new (Different place) = ⊥
+ReplayEnds tells content options left rest before now old new (StandbyDiffers place) = ⊥
+ReplayEnds tells content options left rest before now old new (PrimaryRefused place) = ⊥
 ReplayEnds tells content options left rest before now old new _ =
     IsUnopened tells content options before now old new
     ⊎ From tells content options (λ s. Told left (λ octets. IsCutOff tells options.key s octets before now new))

@@ -3,7 +3,7 @@ use Rattle.std.specs.Prelude.{◌≡◌, ℕ, List, Option, Some, None, ◌⊎�
 use Rattle.cluster_types.specs.Causes.{Rose}
 use Rattle.edges.specs.Streams.{Added, AddedFront}
 use Rattle.command_words.specs.declared.ending.Ending.{Ending}
-use Rattle.command_words.specs.declared.ending.Ending.TheVariants.{Done, Usage, DiskFault, BadTape, Damaged, OutOfMemory, HistoryFull, Different}
+use Rattle.command_words.specs.declared.ending.Ending.TheVariants.{Done, Usage, DiskFault, BadTape, Damaged, OutOfMemory, HistoryFull, Different, StandbyDiffers, PrimaryRefused}
 use Rattle.task_journal.specs.declared.fault.OpenFault.{OpenFault}
 use Rattle.task_journal.specs.declared.fault.OpenFault.TheVariants as faults
 use Rattle.tape_drive.specs.declared.drive.TapeStop.{TapeStop}
@@ -38,6 +38,8 @@ abbrev pub IsOfTape : Ending → Type 0
 IsOfTape Usage = ⊥
 IsOfTape (Damaged place) = ⊥
 IsOfTape (Different place) = ⊥
+IsOfTape (StandbyDiffers place) = ⊥
+IsOfTape (PrimaryRefused place) = ⊥
 IsOfTape _ = Unit {0}
 
 -- how the program ends where a database isn't opened

@@ -7,6 +7,7 @@ pub mod draws;
 pub mod engines;
 pub mod errors;
 pub mod fault;
+mod following;
 mod generated;
 pub mod generator;
 pub mod key;

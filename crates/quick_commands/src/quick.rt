@@ -10,6 +10,7 @@ ghost use Rattle.task_journal.specs.Reads.{OnlyReads};
 ghost use Rattle.database_text.specs.Texts.{Told};
 
 use crate::errors::tell;
+use crate::following::follow;
 use crate::generated::generated;
 use crate::replay::replay;
 use cluster_types::message::WordList;
@@ -48,6 +49,7 @@ fn obey<S: Source, K: Sink, D: Disk>(
         Command::Check { .. } => (check(alloc, &mut disk, input), disk),
         Command::Compact { .. } => (compact(alloc, &mut disk, chooser, output), disk),
         Command::Work { seed, tasks } => generated(alloc, *seed, *tasks, chooser, output, disk),
+        Command::Follow { .. } => follow(alloc, input, disk),
     }
 }
 
@@ -81,13 +83,15 @@ fn run<S: Source, K: Sink, D: Disk>(
 /// kept of its history goes to the disk before what it sends is written. `dump` writes the entries of the disk as lines, and
 /// `check` compares the input with these lines. `compact` writes the list of the disk as a journal at once, without what
 /// purges let go. These three change nothing on the disk. `work` does generated work over a disk that is empty, and writes
-/// what it is summed up to.
+/// what it is summed up to. `follow` reads a journal from the input, and appends what the disk's list lacks of that one's, in
+/// batches of whole steps.
 ///
 /// The status: 0 all was done; 2 the words have no reading; 3 a read failed; 4 a write failed; 5 a call of the disk failed;
 /// 6 the tape has a fault, before which all was served; 7 the disk holds no journal, or a damaged one, or for `replay` and
 /// `compact` one whose list isn't that of a cluster, or for `work` anything; 8 there was no memory; 9 the next step would pass a limit of the history, before which
-/// all was served; 10 the input isn't the text of the entries. At each status but 0 it writes the line that says so to
-/// `errors`, as far as these take it: a write there that fails changes nothing.
+/// all was served; 10 the input isn't the text of the entries; 15 the disk's list is no front of the input's; 16 the input
+/// holds no journal, or a damaged one, or is too long. At each status but 0 it writes the line that says so to `errors`, as
+/// far as these take it: a write there that fails changes nothing.
 pub fn quick<S: Source, K: Sink, E: Sink, D: Disk>(
     alloc: Global,
     words: &WordList,

@@ -147,6 +147,8 @@ const CHECK: &[&str] = &["check", "db"];
 
 const COMPACT: &[&str] = &["compact", "db"];
 
+const FOLLOW: &[&str] = &["follow", "db"];
+
 const THREE_ENTRIES: &[&str] = &["replay", "--key", "k", "--entries", "3", "db"];
 
 /// A command over a disk: its status and line, its output, and what the disk holds afterwards.
@@ -172,6 +174,69 @@ fn shown<R: Abort>(rt: &R, alloc: Global, row: &Row) -> (u8, bool, bool, bool) {
 const NO_TASKS: &[&str] = &["work", "1", "0"];
 
 const ROWS: &[Row] = &[
+    Row {
+        words: FOLLOW,
+        input: ONE_OPEN,
+        disk: b"",
+        status: 0,
+        line: "",
+        output: b"",
+        left: ONE_OPEN,
+    },
+    Row {
+        words: FOLLOW,
+        input: ONE_OPEN,
+        disk: ONE_OPEN,
+        status: 0,
+        line: "",
+        output: b"",
+        left: ONE_OPEN,
+    },
+    Row {
+        words: FOLLOW,
+        input: TWO_OPENS,
+        disk: OLD_OPEN,
+        status: 0,
+        line: "",
+        output: b"",
+        left: TWO_OPENS,
+    },
+    Row {
+        words: FOLLOW,
+        input: ONE_OPEN,
+        disk: FULL,
+        status: 15,
+        line: "ipcluster: standby differs at entry 1\n",
+        output: b"",
+        left: FULL,
+    },
+    Row {
+        words: FOLLOW,
+        input: NO_JOURNAL,
+        disk: ONE_OPEN,
+        status: 16,
+        line: "ipcluster: primary refused at 7\n",
+        output: b"",
+        left: ONE_OPEN,
+    },
+    Row {
+        words: FOLLOW,
+        input: NO_RECORD,
+        disk: NO_JOURNAL,
+        status: 16,
+        line: "ipcluster: primary refused at 41\n",
+        output: b"",
+        left: NO_JOURNAL,
+    },
+    Row {
+        words: FOLLOW,
+        input: FULL,
+        disk: NO_JOURNAL,
+        status: 7,
+        line: "ipcluster: damaged database at 7\n",
+        output: b"",
+        left: NO_JOURNAL,
+    },
     Row {
         words: COMPACT,
         input: b"",

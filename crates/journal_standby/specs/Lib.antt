@@ -1,0 +1,4 @@
+pub mod Batches
+pub mod Images
+pub mod Standbys
+pub mod Steps
