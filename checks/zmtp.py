@@ -389,6 +389,15 @@ class Controller:
             shutil.rmtree(self.folder, ignore_errors=True)
 
 
+def closed_gate(octets):
+    """The place of the first closed gate of a database's octets, and how many batches stand before it."""
+    gate, number = 31, 0
+    while octets[gate] == 0xA7:
+        gate += 10 + int.from_bytes(octets[gate + 2:gate + 6], "big")
+        number += 1
+    return gate, number
+
+
 def dumped(database):
     """The text of a database's entries, and the status with which `check` finds it the same."""
     ran = subprocess.run([program(), "dump", database], capture_output=True, check=False)

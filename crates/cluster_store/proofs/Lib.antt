@@ -2,6 +2,7 @@ pub mod Fits
 pub mod Holding
 pub mod Images
 pub mod Kept
+pub mod Led
 pub mod Lived
 pub mod Names
 pub mod Opens
@@ -10,4 +11,5 @@ pub mod Remade
 pub mod Serving
 pub mod Stepping
 pub mod Taking
+pub mod Trimmed
 pub mod Waits

@@ -5,3 +5,4 @@ pub mod Remaking
 pub mod Stores
 pub mod Worlds
 pub mod Queues
+pub mod Moves

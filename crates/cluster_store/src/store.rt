@@ -14,6 +14,7 @@ ghost use Rattle.entry_outs.specs.Asked.{type_on, told_type};
 ghost use Rattle.record_codec.specs.Spelling.{IsWithinLimits};
 ghost use Rattle.record_codec.specs.Records.{spellings};
 ghost use Rattle.task_journal.specs.Journal.{StandsFor, IsOfDisk};
+ghost use Rattle.task_journal.specs.Room.{IsTrimmed};
 ghost use Rattle.task_journal.specs.Settled.{Outcome};
 ghost use Rattle.cluster_store.specs.Openings.{opened};
 ghost use Rattle.cluster_store.specs.Queues.{left_at, room_at, is_news, waits};
@@ -369,6 +370,31 @@ impl<D: Disk> Store<D> {
         write_batch(&mut self.journal, &mut self.batch)?;
         self.mark = self.core.history().len() as u64;
         Ok(())
+    }
+
+    /// From now on the journal has room for batches before they come, which is made so many octets at a time. Nothing is
+    /// written now.
+    pub fn keep_room(&mut self, octets: usize) -> Result<(), AllocError>
+        ensures { self.new ≡ self.old }
+    {
+        self.journal.keep_room(self.core.allocator(), octets)
+    }
+
+    /// Cuts off what stands behind the journal, as room that was kept; from then on none is kept. After `DiskFault` the
+    /// store is to be opened again.
+    pub fn trim(&mut self) -> Result<(), AppendFault>
+        ensures same { self.new ≡ record self.old { disk = self.new.disk; failed = is_err result } }
+        ensures reopen { (result ≡ Err AppendFault.Reopen) ↔ (self.old.failed ≡ true) }
+        ensures unchanged { result ≡ Err AppendFault.Reopen → self.new ≡ self.old }
+        // At `Ok` nothing stands behind the journal.
+        ensures trimmed { D.tells → OnOk result (IsTrimmed (D.content self.new.disk)) }
+        // A crash at any moment of the call leaves what is safe.
+        ensures any_moment { D.tells → self.old.failed ≡ false → LeavesOnly D.moment D.image_since self.old.disk self.new.disk
+            (λ c. StandsFor c (written (up_to self.old.mark self.old.history))) }
+        ensures later { D.faults self.old.disk ≤ D.faults self.new.disk }
+        ensures cause { result ≡ Err AppendFault.DiskFault → Rose (D.faults self.old.disk) (D.faults self.new.disk) }
+    {
+        self.journal.trim()
     }
 
     /// Takes a step where no outs wait: an input that may come, with its meaning, and all decisions that are then due. It

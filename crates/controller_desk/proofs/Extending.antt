@@ -24,7 +24,7 @@ use Rattle.controller_desk.specs.declared.acted.Acted.{Acted}
 use Rattle.controller_desk.specs.declared.acted.Acted.TheVariants.{Entered, Junk, Gone}
 use Rattle.controller_desk.specs.declared.fault.ActError.{ActError}
 use Rattle.controller_desk.specs.declared.fault.ActError.TheVariants.{TooManyConnections, Reopen, HistoryFull, OutOfMemory}
-use Rattle.controller_desk.specs.Calls.{is_input, HasStepped, IsRefusedAs, HasTried, HasActed, HasOpened, HasClosed, HasTaken, HasFlushed}
+use Rattle.controller_desk.specs.Calls.{is_input, HasStepped, IsRefusedAs, HasTried, HasActed, HasOpened, HasClosed, HasTaken, HasFlushed, HasTrimmed}
 use Rattle.controller_desk.specs.Contents.{flag, first_values, conn_numbers, content_of}
 use Rattle.controller_desk.specs.Turns.{beyond, GoesOn, InTurn}
 use Rattle.cluster_types.proofs.Booleans.{or_off_left, or_off_right}
@@ -192,3 +192,14 @@ in_turn faults v held w before after later has gave on = record {
   adds = turned (beyond before.history after.history) v held w (content_of faults before) (content_of faults after) later has gave on.list on.extends;
   seen = ap (λ (x : View). x.seen) gave;
 }
+
+pub trimmed_on : {A D : Type 0} (faults : D → ℕ) (old : StoreView D) (result : Result A AppendFault) (new : StoreView D) → HasTrimmed faults old result new → GoesOn faults old new
+trimmed_on faults old result new t = goes_on faults old new [] (ap (λ v. v.history) t.same) refl (record {
+  disk = t.later;
+  mark = le_of_eq (sym (ap (λ v. v.mark) t.same));
+  fulls = le_of_eq (sym (ap (λ v. v.fulls) t.same));
+  failed = fails result old.failed new.failed (ap (λ v. v.failed) t.same) t.reopen;
+  entries = le_of_eq (sym (ap (λ v. v.limits.entries) t.same));
+  bytes = le_of_eq (sym (ap (λ v. v.limits.bytes) t.same));
+  taken = λ k. le_of_eq (sym (ap (λ v. told v k) t.same));
+})

@@ -118,3 +118,10 @@ pub record HasFlushed {A D : Type 0} (faults : D → ℕ) (old : StoreView D) (r
   pub reopen : (result ≡ Err appends.Reopen) ↔ (old.failed ≡ true)
   pub later : faults old.disk ≤ faults new.disk
   pub cause : result ≡ Err appends.DiskFault → Rose (faults old.disk) (faults new.disk)
+
+-- what stands behind the journal is cut off, or the disk fails; all else stays
+pub record HasTrimmed {A D : Type 0} (faults : D → ℕ) (old : StoreView D) (result : Result A AppendFault) (new : StoreView D) : Type 0 where
+  pub same : new ≡ record old { disk = new.disk; failed = is_err result }
+  pub reopen : (result ≡ Err appends.Reopen) ↔ (old.failed ≡ true)
+  pub later : faults old.disk ≤ faults new.disk
+  pub cause : result ≡ Err appends.DiskFault → Rose (faults old.disk) (faults new.disk)

@@ -6,7 +6,7 @@ ghost use Rattle.record_codec.specs.Spelling.{IsShort};
 ghost use Rattle.history_lock.specs.History.{Extends, merged};
 ghost use Rattle.history_lock.specs.Rule.{without_turn, whole, split_kept, split_given};
 ghost use Rattle.history_lock.specs.Names.{known, room_of, lock_id, IsIdle};
-ghost use Rattle.controller_desk.specs.Calls.{HasTried, HasActed, HasOpened, HasClosed, HasTaken, HasFlushed, has_news};
+ghost use Rattle.controller_desk.specs.Calls.{HasTried, HasActed, HasOpened, HasClosed, HasTaken, HasFlushed, HasTrimmed, has_news};
 ghost use Rattle.controller_desk.specs.Contents.{content_of};
 ghost use Rattle.controller_desk.specs.Turns.{TakesTurn, IsBack};
 ghost use Rattle.controller_desk.specs.Ups.{IsSet, ups};
@@ -15,6 +15,7 @@ use crate::acted::Acted;
 use crate::fault::ActError;
 use crate::lent::{
     act_on, beat_on, close_on, flush_on, keep_news_on, open_on, stopping_on, take_on, time_on,
+    trim_on,
 };
 use crate::locked::Locked;
 use crate::reading::Reading;
@@ -190,6 +191,19 @@ impl<D: Disk + Drop, C: Clock + Drop, W: Words + Drop> Desk<D, C, W> {
     {
         let mut locked = self.lock.enter(rt, pass);
         let result = flush_on(&mut locked.store);
+        locked.rest();
+        self.lock.leave(pass, locked);
+        result
+    }
+
+    /// Cuts off what stands behind the journal, which keeps no room from then on.
+    pub fn trim<R: Wait>(&self, rt: &R, pass: &mut Pass<Locked<D, C, W>>) -> Result<(), AppendFault>
+        requires idle { IsIdle (lock_id self.now.lock) pass.old }
+        ensures back { IsBack (lock_id self.now.lock) pass.old pass.new }
+        ensures turn { TakesTurn D.faults (λ before after. HasTrimmed D.faults before result after) (known pass.old) (known pass.new) }
+    {
+        let mut locked = self.lock.enter(rt, pass);
+        let result = trim_on(&mut locked.store);
         locked.rest();
         self.lock.leave(pass, locked);
         result

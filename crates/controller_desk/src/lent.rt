@@ -9,7 +9,7 @@ ghost use Rattle.cluster_defs.specs.Lives.{is_open};
 ghost use Rattle.entry_outs.specs.Asked.{type_on, told_type};
 ghost use Rattle.record_codec.specs.Spelling.{IsWithinLimits, IsShort};
 ghost use Rattle.cluster_store.specs.Stores.{StoreView};
-ghost use Rattle.controller_desk.specs.Calls.{HasTried, HasActed, HasOpened, HasClosed, HasTaken, HasFlushed, has_news};
+ghost use Rattle.controller_desk.specs.Calls.{HasTried, HasActed, HasOpened, HasClosed, HasTaken, HasFlushed, HasTrimmed, has_news};
 ghost use Rattle.controller_desk.specs.Ups.{IsSet, HasNextNumber, ups, ups_after};
 ghost use Rattle.link_messages.specs.Identity.{identity_or_number, up_of};
 
@@ -248,6 +248,15 @@ pub fn flush_on<D: Disk>(store: &mut Store<D>) -> Result<(), AppendFault>
 {
     let _mark = store.mark();
     store.flush()
+}
+
+/// Cuts off what stands behind the journal of a store, which keeps no room from then on.
+pub fn trim_on<D: Disk>(store: &mut Store<D>) -> Result<(), AppendFault>
+    requires set { IsSet store.old }
+    ensures trimmed { HasTrimmed D.faults store.old result store.new }
+    ensures set { IsSet store.new }
+{
+    store.trim()
 }
 
 /// Takes the next out to a connection, where all that is kept up to its entry is safe, without memory.

@@ -1,6 +1,6 @@
 //! The four ports of a controller.
 
-ghost use Rattle.std.specs.Prelude.{◌≡◌, IsTrue, IsSome};
+ghost use Rattle.std.specs.Prelude.{◌≡◌, ◌↔◌, IsTrue, IsSome};
 ghost use Rattle.controller_threads.specs.Ports.{HasNoLink, HaveNoLinks, AreAll, no_ports, with_port};
 
 use crate::port::Port;
@@ -60,7 +60,7 @@ impl<P: Port + Drop> Ports<Option<EndedPort<P>>> {
 
     /// Whether all four have ended.
     pub fn are_all(&self) -> bool
-        ensures { IsTrue result → AreAll self.now }
+        ensures { IsTrue result ↔ AreAll self.now }
     {
         self.hub.is_some() && self.task.is_some() && self.mux.is_some() && self.engine.is_some()
     }

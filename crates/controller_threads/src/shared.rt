@@ -120,12 +120,14 @@ impl<P: Port + Drop, T: SessionTypes, N: Naming> Shared<P, T, N> {
         self.serving.desk.join(pass, other);
     }
 
-    /// Flushes what is entered, before the controller ends. Where that fails what wasn't flushed is as if it never came.
+    /// Flushes what is entered, before the controller ends, and cuts off the room that was kept ahead of it. Where that fails
+    /// what wasn't flushed is as if it never came.
     pub fn flush_last(&self, pass: &mut PassOf<T>)
         requires since { IsSince N.lock N.start pass.old }
         ensures rested { IsRested N.lock N.start pass.new }
         ensures later { Extends (known pass.old).seen (known pass.new).seen }
     {
         let _ = self.serving.desk.flush(&self.serving.rt, pass);
+        let _ = self.serving.desk.trim(&self.serving.rt, pass);
     }
 }

@@ -1,6 +1,7 @@
 //! The commands over a link to a controller.
 
 use crate::standing_fixture::{Outcome, disk_of, ports_of, stood};
+use disk_model::memory::MemDisk;
 use std::alloc::Global;
 use std::process::Abort;
 use std::sync::Wait;
@@ -22,7 +23,7 @@ fn over_link<R: Wait + Threads + Clock + Abort + Drop + Copy + Send + Sync + 'st
     alloc: Global,
     line: &str,
     octets: &[u8],
-) -> Outcome {
+) -> Outcome<MemDisk> {
     let ports = ports_of(&rt, alloc, b"", &[]);
     let disk = disk_of(&rt, alloc, b"");
     stood(

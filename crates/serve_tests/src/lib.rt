@@ -7,11 +7,15 @@ mod answers;
 #[cfg(test)]
 mod controller;
 #[cfg(test)]
+mod desks;
+#[cfg(test)]
 mod dialled;
 #[cfg(test)]
 mod ends;
 #[cfg(test)]
 mod gate;
+#[cfg(test)]
+mod handing;
 #[cfg(test)]
 mod serving;
 #[cfg(test)]

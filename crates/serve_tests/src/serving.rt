@@ -1,6 +1,8 @@
 //! A controller over ports in memory.
 
 use crate::standing_fixture::{Outcome, disk_of, ports_of, stood};
+use disk_model::fuse::FuseDisk;
+use disk_model::memory::MemDisk;
 use std::alloc::Global;
 use std::process::Abort;
 use std::sync::Wait;
@@ -22,7 +24,7 @@ fn served<R: Wait + Threads + Clock + Abort + Drop + Copy + Send + Sync + 'stati
     octets: &[u8],
     failing: &[u64],
     database: &[u8],
-) -> Outcome {
+) -> Outcome<MemDisk> {
     let ports = ports_of(&rt, alloc, octets, failing);
     let disk = disk_of(&rt, alloc, database);
     let spawner = Spawner::beside(alloc, rt).expect(&rt, "memory is ample");
@@ -61,6 +63,31 @@ fn a_controller_says_why_it_ends(rt: HostRuntime) {
     let line = "serve h 5000 db --key k --entries 1";
     let said = b"ipcluster: history full at 2 entries and ";
     assert!(rt; is_end(rt, alloc, line, &[], b"", 9, said));
+}
+
+/// The status of a controller over a whole link whose disk fails the call of this number, with what it said.
+fn fused<R: Wait + Threads + Clock + Abort + Drop + Copy + Send + Sync + 'static>(
+    rt: R,
+    alloc: Global,
+    call: u64,
+) -> Outcome<FuseDisk> {
+    let ports = ports_of(&rt, alloc, OWN, &[]);
+    let disk = FuseDisk::new(disk_of(&rt, alloc, b""), call);
+    let spawner = Spawner::beside(alloc, rt).expect(&rt, "memory is ample");
+    stood(rt, alloc, SERVE, ports, b"", disk, spawner)
+}
+
+#[test]
+fn a_call_of_the_disk_that_fails_as_it_opens_ends_a_controller(rt: HostRuntime) {
+    let alloc = rt.alloc();
+    // a sync, the size, and four writes with a sync each: the head but for an octet, that one, the Open, and its gate
+    for call in 1..11 {
+        assert!(rt;
+            fused(rt, alloc, call).is(5, b"", b"ipcluster: disk fault\n"),
+            "{call}"
+        );
+    }
+    assert!(rt; fused(rt, alloc, 0).is(0, b"", b""));
 }
 
 #[test]

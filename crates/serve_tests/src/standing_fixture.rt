@@ -9,6 +9,7 @@ use cluster_types::text::Text;
 use controller_desk::desk::Desk;
 use controller_desk::locked::Locked;
 use controller_threads::ports::Ports;
+use disk_model::disk::Disk;
 use disk_model::memory::MemDisk;
 use edges::memory::{MemSink, MemSource};
 use link_commands::host::Host;
@@ -29,26 +30,26 @@ use thread_edges::memory::{Links, MemDialer, MemListener};
 use thread_edges::spawner::Spawner;
 use thread_edges::words::ListWords;
 
-/// What shows how a command ended.
-pub type MemShown = Shown<
+/// What shows how a command over a disk ended.
+pub type MemShown<D> = Shown<
     MemListener,
     MemSource,
     MemSink,
-    MemDisk,
-    Arc<Desk<MemDisk, ListClock, ListWords>, Global>,
-    Locked<MemDisk, ListClock, ListWords>,
+    D,
+    Arc<Desk<D, ListClock, ListWords>, Global>,
+    Locked<D, ListClock, ListWords>,
 >;
 
 /// How a command ended: its status, what it printed, and what it said.
 #[derive(Drop)]
-pub struct Outcome {
+pub struct Outcome<D: Disk + Drop> {
     pub status: u8,
-    pub shown: MemShown,
+    pub shown: MemShown<D>,
     pub output: MemSink,
     pub errors: MemSink,
 }
 
-impl Outcome {
+impl<D: Disk + Drop> Outcome<D> {
     /// Whether it ended with this status, printed this and said what begins so, and nothing where that is nothing.
     pub fn is(&self, status: u8, printed: &[u8], said: &[u8]) -> bool {
         let errors = self.errors.written();
@@ -129,15 +130,19 @@ pub fn ports_of<R: Abort>(
 }
 
 /// Does what a line asks for, over these ports, a link that gives these octets, a disk and a spawner.
-pub fn stood<R: Wait + Clock + Abort + Drop + Copy + Send + Sync + 'static, H: Threads + Drop>(
+pub fn stood<
+    R: Wait + Clock + Abort + Drop + Copy + Send + Sync + 'static,
+    H: Threads + Drop,
+    D: Disk + Drop + Send + Sync + 'static,
+>(
     rt: R,
     alloc: Global,
     line: &str,
     ports: Ports<MemListener>,
     octets: &[u8],
-    disk: MemDisk,
+    disk: D,
     mut spawner: Spawner<H>,
-) -> Outcome {
+) -> Outcome<D> {
     let gate = EventGate::new(alloc, rt).expect(&rt, "memory is ample");
     let Ok(gate) = Arc::new(alloc, gate) else {
         panic!(rt; "memory is ample");
@@ -146,7 +151,7 @@ pub fn stood<R: Wait + Clock + Abort + Drop + Copy + Send + Sync + 'static, H: T
     let mut dialer = MemDialer::new(alloc, links, &[]).expect(&rt, "memory is ample");
     let mut output = MemSink::new(alloc, &[]).expect(&rt, "memory is ample");
     let mut errors = MemSink::new(alloc, &[]).expect(&rt, "memory is ample");
-    let site = Site::<_, TypesOf<MemDisk, ListClock, ListWords, EventGate<R>, R>> {
+    let site = Site::<_, TypesOf<D, ListClock, ListWords, EventGate<R>, R>> {
         ports,
         disk,
         gate,

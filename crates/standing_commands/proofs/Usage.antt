@@ -2,7 +2,7 @@
 use Rattle.std.proofs.Common.{◌≡◌, ◌∙◌, ℕ, List, Option, Some, None, true, false, sym, ap, refl, inl, inr}
 use Rattle.std.specs.Prelude.{IfSome}
 use Rattle.command_words.specs.Lines.{standing_status}
-use Rattle.command_words.specs.declared.ending.Ending.TheVariants.{Done, Usage, ReadFault, WriteFault, DiskFault, BadTape, Damaged, OutOfMemory, HistoryFull, Different}
+use Rattle.command_words.specs.declared.ending.Ending.TheVariants.{Done, Usage, ReadFault, WriteFault, DiskFault, BadTape, Damaged, OutOfMemory, HistoryFull, Different, StandbyDiffers, PrimaryRefused}
 use Rattle.command_words.specs.declared.ending.StandingEnding.{StandingEnding}
 use Rattle.command_words.specs.declared.ending.StandingEnding.TheVariants.{Plain, NotOk, ListenerFault, NoWorker, LinkFault}
 use Rattle.command_words.specs.declared.standing.StandingCommand.{StandingCommand}
@@ -33,6 +33,8 @@ usage_of (Plain (Damaged place)) is = cc
 usage_of (Plain OutOfMemory) is = cc
 usage_of (Plain (HistoryFull entries bytes)) is = cc
 usage_of (Plain (Different place)) is = cc
+usage_of (Plain (StandbyDiffers place)) is = cc
+usage_of (Plain (PrimaryRefused place)) is = cc
 usage_of NotOk is = cc
 usage_of ListenerFault is = cc
 usage_of NoWorker is = cc
@@ -52,7 +54,7 @@ client_not P D K T (clients.Unanswered i o) is = cc
 client_not P D K T (clients.LinkFault i o) is = cc
 client_not P D K T (clients.ZmtpFault fault i o) is = cc
 client_not P D K T clients.NotDialled is = cc
-client_not P D K T clients.OutputFault is = cc
+client_not P D K T (clients.OutputFault i o) is = cc
 client_not P D K T clients.OutOfMemory is = cc
 
 serve_not : (I O D : Type 0) {P K T : Type 0} (desk : K) (end : ServeEnd P T) → (shown_end {I = I} {O = O} {D = D} desk end).0 ≡ Plain Usage → ⊥

@@ -16,7 +16,7 @@ use Rattle.edges.specs.declared.sink.Sink.{Ghosts as OfSink}
 use Rattle.engine_core.specs.State.{is_uuid}
 use Rattle.history_lock.specs.declared.known.Content.{Content}
 use Rattle.history_lock.specs.Names.{LockId}
-use Rattle.link_commands.specs.Links.{Dials, Prints}
+use Rattle.link_commands.specs.Links.{Dials, IsUndialled, Prints}
 use Rattle.quick_commands.specs.Written.{Said}
 use Rattle.standing_commands.specs.declared.shown.Shown.{Shown}
 use Rattle.standing_commands.specs.declared.shown.Shown.TheVariants.{Disk}
@@ -72,10 +72,10 @@ module _ {P I O D K T A B : Type 0} where
       ⊎ IsUnopened on.tells on.content on.image on.disk_faults on.disk options result
       ⊎ ((start : Content) × IsBegun on.tells (on.content on.disk) (on.disk_faults on.disk) options start × EndsOver on.lock on.links on.port_faults start on.before on.now result)
 
-  -- How a command ends. A controller and an engine write nothing to the output.
+  -- How a command ends. A controller and an engine write nothing to the output, and a controller dials nothing.
   abbrev pub By : Serves D K P A B → Dials I O → (coming : Option (List ℕ)) → Prints → StandingCommand → StandingEnding × Shown P I O D K T → Type 0
   By on links coming output (Serve host port database options) result =
-      (output.now ≡ output.before) × (links.now ≡ links.before) × ServeEnds on options result
+      (output.now ≡ output.before) × IsUndialled links × ServeEnds on options result
   By on links coming output (Engine host port uuid key) result =
       (output.now ≡ output.before) × (on.now ≡ on.before) × WorksAs links key uuid result
   By on links coming output (Client host port action key) result =

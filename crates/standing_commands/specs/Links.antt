@@ -4,7 +4,7 @@ use Rattle.command_words.specs.declared.ending.Ending.TheVariants as plain
 use Rattle.command_words.specs.declared.ending.StandingEnding.{StandingEnding}
 use Rattle.command_words.specs.declared.ending.StandingEnding.TheVariants as endings
 use Rattle.command_words.specs.declared.standing.Action.{Action}
-use Rattle.link_commands.specs.Actions.{IsRequest}
+use Rattle.link_commands.specs.Actions.{IsRequest, channel_for}
 use Rattle.link_commands.specs.ClientEnds.{ClientEnds}
 use Rattle.link_commands.specs.EngineEnds.{EngineEnds}
 use Rattle.link_commands.specs.Links.{Dials, Prints}
@@ -31,7 +31,7 @@ client_shown (clients.Unanswered i o) = (endings.LinkFault, Link i o)
 client_shown (clients.LinkFault i o) = (endings.LinkFault, Link i o)
 client_shown (clients.ZmtpFault fault i o) = (endings.LinkFault, Link i o)
 client_shown clients.NotDialled = (endings.LinkFault, Nothing)
-client_shown clients.OutputFault = (endings.Plain plain.WriteFault, Nothing)
+client_shown (clients.OutputFault i o) = (endings.Plain plain.WriteFault, Link i o)
 client_shown clients.OutOfMemory = (endings.Plain plain.OutOfMemory, Nothing)
 
 -- an engine worked over a dialler, until an end with its cause, which is shown
@@ -41,4 +41,4 @@ WorksAs {P} {I} {O} links key uuid shown = (end : EngineEnd I O) × EngineEnds l
 -- a client asked for an action under the next random words, until an end with its cause, which is shown
 abbrev pub AsksAs : {P I O D K T : Type 0} → Dials I O → (key : List ℕ) → Action → (coming : Option (List ℕ)) → Prints → StandingEnding × Shown P I O D K T → Type 0
 AsksAs {P} {I} {O} links key action coming output shown =
-    (end : ClientEnd I O) × (later : Option (List ℕ)) × ClientEnds links key (IsRequest action coming later) output end × (shown ≡ client_shown end)
+    (end : ClientEnd I O) × (later : Option (List ℕ)) × ClientEnds links (channel_for action) key (IsRequest action coming later) output end × (shown ≡ client_shown end)

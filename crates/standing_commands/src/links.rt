@@ -61,7 +61,10 @@ fn client_shown<P, I, O, D, K, T>(end: ClientEnd<I, O>) -> (StandingEnding, Show
             (StandingEnding::LinkFault, Shown::Link { reader, writer })
         }
         ClientEnd::NotDialled => (StandingEnding::LinkFault, Shown::Nothing),
-        ClientEnd::OutputFault => (StandingEnding::Plain(Ending::WriteFault), Shown::Nothing),
+        ClientEnd::OutputFault { reader, writer } => (
+            StandingEnding::Plain(Ending::WriteFault),
+            Shown::Link { reader, writer },
+        ),
         ClientEnd::OutOfMemory => (StandingEnding::Plain(Ending::OutOfMemory), Shown::Nothing),
     }
 }

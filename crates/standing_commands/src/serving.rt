@@ -1,6 +1,6 @@
 //! A controller that serves over a database.
 
-ghost use Rattle.std.specs.Prelude.{◌≡◌, ◌≤◌, ◌⊎◌};
+ghost use Rattle.std.specs.Prelude.{◌≡◌, ◌≤◌, ◌⊎◌, IfOk};
 ghost use Rattle.cluster_types.specs.Limits.{most_entries};
 ghost use Rattle.controller_desk.specs.Contents.{content_of};
 ghost use Rattle.controller_desk.specs.Ups.{IsSet, ups};
@@ -17,18 +17,22 @@ use controller_threads::end::ServeEnd;
 use controller_threads::ports::Ports;
 use controller_threads::serving::serve;
 use controller_threads::shared::Serving;
+use disk_model::disk::Disk;
 use hmac_sign::Key;
 use link_commands::host::Host;
 use load_schemes::chooser::Chooser;
 use quick_commands::opening::{config_of, ending_of_refusal};
 use session_threads::context::{DeskOf, LockedOf, SessionTypes};
-use std::alloc::Global;
+use std::alloc::{AllocError, Global};
 use std::sync::Arc;
 use std::thread::Threads;
 use task_journal::opening::Refused;
 use thread_edges::clock::Clock;
 use thread_edges::links::Listener;
 use thread_edges::spawner::Spawner;
+
+/// How many octets of room the database of a controller has at a time ahead of what it holds.
+const ROOM_OCTETS: usize = 1 << 20;
 
 /// What shows how a controller ended, over ports `L` and links of readers `I` and writers `O`.
 pub type ServeShown<L, I, O, T> = Shown<
@@ -89,7 +93,16 @@ fn shown_end<L, I, O, T: SessionTypes>(
     }
 }
 
-/// Serves over a store that was just opened.
+/// Has a store keep room ahead.
+fn with_room<D: Disk + Drop>(store: Store<D>) -> Result<Store<D>, AllocError>
+    ensures { IfOk result (λ s. s ≡ store) }
+{
+    let mut store = store;
+    store.keep_room(ROOM_OCTETS)?;
+    Ok(store)
+}
+
+/// Serves over a store that was just opened, and that keeps room from now on.
 fn serve_store<
     L: Listener + Drop + Send + 'static,
     I,
@@ -120,6 +133,9 @@ where
         clock,
         words,
     } = host;
+    let Ok(store) = with_room(store) else {
+        return (StandingEnding::Plain(Ending::OutOfMemory), Shown::Nothing);
+    };
     let Ok((desk, pass)) = Desk::new(alloc, store, clock, words) else {
         return (StandingEnding::Plain(Ending::OutOfMemory), Shown::Nothing);
     };

@@ -4,7 +4,7 @@ ghost use Rattle.std.specs.Prelude.{◌≡◌, ◌⊎◌, None, IfSome};
 ghost use Rattle.command_words.specs.declared.ending.StandingEnding.{StandingEnding as EndingType};
 ghost use Rattle.command_words.specs.Lines.{standing_line, standing_status};
 ghost use Rattle.command_words.specs.Standing.{standing_reading};
-ghost use Rattle.link_commands.specs.Links.{dials, prints};
+ghost use Rattle.link_commands.specs.Links.{IsUndialled, dials, prints};
 ghost use Rattle.quick_commands.specs.Written.{Said};
 ghost use Rattle.standing_commands.specs.Commands.{By, EndsAs, IsInRange, Unread, serves};
 
@@ -73,7 +73,7 @@ where
     T::Words: Send + Sync + 'static,
     T::Gate: Send + Sync + 'static,
     T::Runtime: Copy + Send + Sync + 'static,
-    ensures unread { standing_reading words.now ≡ None → Unread site.disk result × (K.written output.new ≡ K.written output.old) × (N.links dialer.new ≡ N.links dialer.old) }
+    ensures unread { standing_reading words.now ≡ None → Unread site.disk result × (K.written output.new ≡ K.written output.old) × IsUndialled (dials N.Dialer N.In.Source N.Out.Sink dialer.old dialer.new) }
     ensures ended { IfSome (standing_reading words.now) (λ c. By (serves T.Disk.Disk L.Listener site.disk spawner.old spawner.new) (dials N.Dialer N.In.Source N.Out.Sink dialer.old dialer.new) (T.Words.coming site.host.words) (prints K.Sink output.old output.new) c result) }
 {
     match standing_command_of(site.host.alloc, words) {
@@ -124,7 +124,7 @@ where
     T::Gate: Send + Sync + 'static,
     T::Runtime: Copy + Send + Sync + 'static,
     // Where the words have no reading the disk is handed back, and nothing is written to the output.
-    ensures unread { standing_reading words.now ≡ None → ((result.0 ≡ 2) × (result.1 ≡ Shown.Disk site.disk) ⊎ (result.0 ≡ 8)) × (K.written output.new ≡ K.written output.old) × (N.links dialer.new ≡ N.links dialer.old) }
+    ensures unread { standing_reading words.now ≡ None → ((result.0 ≡ 2) × (result.1 ≡ Shown.Disk site.disk) ⊎ (result.0 ≡ 8)) × (K.written output.new ≡ K.written output.old) × IsUndialled (dials N.Dialer N.In.Source N.Out.Sink dialer.old dialer.new) }
     // Else the status is that of an end that the command may come to, with what shows it, and the line of this end is written to the errors.
     ensures ended { EndsAs E.Sink errors.old errors.new words.now result (By (serves T.Disk.Disk L.Listener site.disk spawner.old spawner.new) (dials N.Dialer N.In.Source N.Out.Sink dialer.old dialer.new) (T.Words.coming site.host.words) (prints K.Sink output.old output.new)) }
     ensures usage { result.0 ≡ 2 → standing_reading words.now ≡ None }

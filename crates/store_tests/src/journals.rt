@@ -13,7 +13,7 @@ use task_journal::journal::Journal;
 use task_journal::reading::read_journal;
 
 /// A journal of one Open under the default options.
-const ONE_OPEN: [u8; 60] = [
+pub(crate) const ONE_OPEN: [u8; 60] = [
     0x49, 0x50, 0x43, 0x4a, 0x52, 0x4e, 0x4c, 0x31, 0x00, 0x00, 0x00, 0x01, 0x02, 0x00, 0x00, 0x00,
     0x00, 0x00, 0x00, 0x00, 0x00, 0x00, 0x00, 0x00, 0x00, 0x00, 0x00, 0x00, 0x00, 0x00, 0x00, 0xa7,
     0x00, 0x00, 0x00, 0x00, 0x12, 0x00, 0x00, 0x00, 0x01, 0x01, 0x00, 0x00, 0x00, 0x00, 0x00, 0x00,
@@ -33,7 +33,7 @@ const THREE: [u8; 117] = [
 ];
 
 /// The batch of an Open under the default options.
-fn open_batch<R: Abort>(rt: &R, alloc: Global) -> Batch {
+pub(crate) fn open_batch<R: Abort>(rt: &R, alloc: Global) -> Batch {
     let mut entries = Entries::new(alloc);
     let open = Entry::Input(Input::Open {
         moment: 0,
@@ -62,7 +62,7 @@ fn count<D: Disk>(alloc: Global, disk: &mut D) -> Result<usize, OpenFault> {
 }
 
 /// The number of entries that octets stand for, or why there are none.
-fn read<R: Abort>(rt: &R, alloc: Global, octets: &[u8]) -> Result<usize, OpenFault> {
+pub(crate) fn read<R: Abort>(rt: &R, alloc: Global, octets: &[u8]) -> Result<usize, OpenFault> {
     let mut disk = MemDisk::new(alloc, octets).expect(rt, "memory is ample");
     count(alloc, &mut disk)
 }

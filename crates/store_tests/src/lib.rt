@@ -15,6 +15,8 @@ mod journals;
 #[cfg(test)]
 mod queues;
 #[cfg(test)]
+mod rooms;
+#[cfg(test)]
 mod stores;
 #[cfg(test)]
 mod thinning;

@@ -80,7 +80,7 @@ pub record Opened (version : Version) (octets : List ℕ) (gate : ℕ) (list : L
   pub on : (more : List ℕ) (entries : List Entry) (places : List ℕ) → 33 ≤ length (front ++ more) → found_from version (length (front ++ more)) 0 more ≡ Ok (holding entries places)
       → (before : List ℕ) × (journal (front ++ more) ≡ Ok (holding (list ++ entries) (before ++ places)))
 
-some_is : (a b : ℕ) → ◌≡◌ {A = Option ℕ} (Some a) (Some b) → a ≡ b
+pub some_is : (a b : ℕ) → ◌≡◌ {A = Option ℕ} (Some a) (Some b) → a ≡ b
 some_is a b e = cc
 
 pub opened_at : (version : Version) (octets : List ℕ) (gate : ℕ) (list : List Entry) → version_in octets ≡ version → 33 ≤ length octets → place_in (journal octets) ≡ Some gate → StandsFor octets list → Opened version octets gate list
@@ -130,7 +130,7 @@ open_there octets gate list o es batch rest c is_batch is =
     let place : length all - length rest - 1 ≡ gate + length batch = omega (arith, size) in
     (t.0 ++ g.0, ap journal is ∙ t.1 ∙ ap (λ (z : List ℕ). Ok (holding (list ++ es) z)) (sym (append_assoc t.0 g.0 ((length all - length rest - 1) ∷ []))) ∙ ap (λ (n : ℕ). Ok (holding (list ++ es) ((t.0 ++ g.0) ++ n ∷ []))) place)
 
-front_is : (octets : List ℕ) (gate : ℕ) (list : List Entry) (o : Opened Second octets gate list) → take (gate + 1) octets ≡ o.front ++ o.shut ∷ []
+pub front_is : (octets : List ℕ) (gate : ℕ) (list : List Entry) (o : Opened Second octets gate list) → take (gate + 1) octets ≡ o.front ++ o.shut ∷ []
 front_is octets gate list o =
     ap (take (gate + 1)) (o.parts ∙ sym (append_assoc o.front (o.shut ∷ []) o.rest)) ∙ take_at (o.front ++ o.shut ∷ []) o.rest (gate + 1) (omega (arith, length-append o.front (o.shut ∷ []), o.size))
 

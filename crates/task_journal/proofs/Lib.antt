@@ -12,3 +12,4 @@ pub mod Later
 pub mod Crash
 pub mod Migration
 pub mod Making
+pub mod Behind

@@ -8,6 +8,10 @@ pub record Going {D : Type 0} (moment : D → ℕ) (image : D → List ℕ → T
   pub leaves : LeavesOnly moment image_since old new P
   pub now : (c : List ℕ) → image new c → P c
 
+-- what has P has Q
+pub weaker : {D : Type 0} (moment : D → ℕ) (image_since : D → ℕ → List ℕ → Type 0) (old new : D) {P Q : List ℕ → Type 0} → ((c : List ℕ) → P c → Q c) → LeavesOnly moment image_since old new P → LeavesOnly moment image_since old new Q
+weaker moment image_since old new more leaves = record { later = leaves.later; each = λ c since. more c (leaves.each c since); keeps = leaves.keeps; before = leaves.before }
+
 module _ {D : Type 0} (moment : D → ℕ) (image : D → List ℕ → Type 0) (image_since : D → ℕ → List ℕ → Type 0)
     (counts : (disk : D) (t : ℕ) (c : List ℕ) → t ≤ moment disk → image disk c → image_since disk t c)
     (widens : (disk : D) (t u : ℕ) (c : List ℕ) → t ≤ u → u ≤ moment disk → image_since disk u c → image_since disk t c) where

@@ -5,3 +5,4 @@ pub mod Window
 pub mod Cursor
 pub mod Batch
 pub mod Settled
+pub mod Room

@@ -11,5 +11,6 @@ mod head;
 pub mod journal;
 pub mod opening;
 pub mod reading;
+mod room;
 pub mod version;
 mod window;

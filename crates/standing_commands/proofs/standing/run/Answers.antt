@@ -14,4 +14,4 @@ obey-requires-after_bounds g c κs bounds = reading_in c.args.words.now c.in-Ok.
 pub returns-in-Err-OutOfMemory-clause-ended : goal.returns-in-Err-OutOfMemory-clause-ended
 returns-in-Err-OutOfMemory-clause-ended g c =
     some_all (standing_reading c.args.words.now) (λ k. By (serves g.T.Disk.Disk g.L.Listener c.args.site.disk c.args.spawner.now c.args.spawner.now) (dials g.N.Dialer g.N.In.Source g.N.Out.Sink c.args.dialer.now c.args.dialer.now) (g.T.Words.Words.coming c.args.site.host.words) (prints g.K.Sink c.args.output.now c.args.output.now) k no_memory)
-    (λ k. memory_by _ _ _ _ _ k refl refl refl)
+    (λ k. memory_by _ _ _ _ _ k refl (refl, refl) refl)
