@@ -1,5 +1,5 @@
 -- What a store stands for goes on in each call.
-use Rattle.std.proofs.Common.{◌≡◌, ℕ, zero, suc, ◌+◌, ◌-◌, ◌≤◌, ◌<◌, ◌^◌, ◌==◌, min, List, [], ◌∷◌, ◌++◌, length, take, Bool, true, false, ◌||◌, Result, Ok, Err, refl, sym, ap, ◌∙◌, subst, arith, le_refl, le_of_eq, length-append, append_assoc, if◌then◌else◌}
+use Rattle.std.proofs.Common.{◌≡◌, ℕ, zero, suc, ◌+◌, ◌-◌, ◌≤◌, ◌<◌, ◌^◌, ◌==◌, min, List, [], ◌∷◌, ◌++◌, length, take, Bool, true, false, ◌||◌, Result, Ok, Err, None, refl, sym, ap, ◌∙◌, subst, subst₂, arith, le_refl, le_of_eq, length-append, append_assoc, if◌then◌else◌}
 use Rattle.std.specs.Prelude.{OnOk, OnErr, is_err, ◌↔◌}
 use Rattle.std.specs.List.{list_any}
 use Rattle.cluster_types.specs.declared.config.Channel.{Channel}
@@ -19,6 +19,10 @@ use Rattle.task_journal.specs.declared.fault.AppendFault.TheVariants as appends
 use Rattle.history_lock.specs.declared.known.View.{View}
 use Rattle.history_lock.specs.History.{is_open_entry, Rises, Extends}
 use Rattle.history_lock.specs.Rule.{without_turn, with_turn, added_by}
+use Rattle.history_lock.specs.Log.{IsEnd, StartsAt, Chain}
+use Rattle.history_lock.specs.Loans.{Loan, loan_in, MayLend, hold_after}
+use Rattle.history_lock.proofs.Logs.{logged}
+use Rattle.history_lock.proofs.Lending.{may_leave, still_empty, loan_is}
 use Rattle.history_lock.proofs.Turning.{grown, turned}
 use Rattle.controller_desk.specs.declared.acted.Acted.{Acted}
 use Rattle.controller_desk.specs.declared.acted.Acted.TheVariants.{Entered, Junk, Gone}
@@ -26,7 +30,7 @@ use Rattle.controller_desk.specs.declared.fault.ActError.{ActError}
 use Rattle.controller_desk.specs.declared.fault.ActError.TheVariants.{TooManyConnections, Reopen, HistoryFull, OutOfMemory}
 use Rattle.controller_desk.specs.Calls.{is_input, HasStepped, IsRefusedAs, HasTried, HasActed, HasOpened, HasClosed, HasTaken, HasFlushed, HasTrimmed}
 use Rattle.controller_desk.specs.Contents.{flag, first_values, conn_numbers, content_of}
-use Rattle.controller_desk.specs.Turns.{beyond, GoesOn, InTurn}
+use Rattle.controller_desk.specs.Turns.{beyond, GoesOn, Goes, InTurn, InLog}
 use Rattle.cluster_types.proofs.Booleans.{or_off_left, or_off_right}
 
 -- COUNTS
@@ -184,6 +188,27 @@ flushed_on faults old result new f = goes_on faults old new [] f.history refl (r
   bytes = le_of_eq (ap (λ (l : HistorySize). l.bytes) (sym f.limits));
   taken = λ k. le_of_eq (sym (f.told_are k));
 })
+
+-- nothing is ever out of the value
+abbrev nothing_out : {A : Type 0} → A → Loan
+nothing_out value = None
+
+pub may_go : {A : Type 0} (hold : Loan) (log : List A) (value : A) → StartsAt value log → MayLend hold (loan_in nothing_out log) None
+may_go hold log value starts = may_leave hold (loan_in nothing_out log) None (sym (loan_is nothing_out value log starts))
+
+pub holds_none : {A : Type 0} (before held after : Loan) (log : List A) (value : A) → StartsAt value log → before ≡ None → held ≡ before → after ≡ hold_after held (loan_in nothing_out log) None → after ≡ None
+holds_none before held after log value starts empty same is = is ∙ still_empty held (loan_in nothing_out log) None (same ∙ empty) (sym (loan_is nothing_out value log starts))
+
+-- what a turn leaves in the log of a pass
+pub logs : {D T : Type 0} (faults : D → ℕ) (store : T → StoreView D) (old held new : List T) (entered left : T) (before after : StoreView D) → StartsAt entered held → IsEnd old held → Chain (Goes faults store) held → store entered ≡ before → store left ≡ after
+    → GoesOn faults before after → new ≡ left ∷ held → InLog faults store old before after new
+logs faults store old held new entered left before after starts later chain entered_is left_is on is = record {
+  entered = entered;
+  left = left;
+  entered_is = entered_is;
+  left_is = left_is;
+  logged = logged (Goes faults store) old held new entered left starts later chain (subst₂ (GoesOn faults) (sym entered_is) (sym left_is) on) is;
+}
 
 -- in one turn of a pass, from `enter` to `leave`
 pub in_turn : {D : Type 0} (faults : D → ℕ) (v in_turn w : View) (before after : StoreView D) → Extends v.seen (content_of faults before) → in_turn ≡ with_turn v.share (content_of faults before) v.added →

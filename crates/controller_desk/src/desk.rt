@@ -5,10 +5,11 @@ ghost use Rattle.cluster_defs.specs.Histories.{is_stopping};
 ghost use Rattle.record_codec.specs.Spelling.{IsShort};
 ghost use Rattle.history_lock.specs.History.{Extends, merged};
 ghost use Rattle.history_lock.specs.Rule.{without_turn, whole, split_kept, split_given};
-ghost use Rattle.history_lock.specs.Names.{known, room_of, lock_id, IsIdle};
+ghost use Rattle.history_lock.specs.Log.{IsEnd};
+ghost use Rattle.history_lock.specs.Names.{known, log_of, room_of, lock_id, IsIdle};
 ghost use Rattle.controller_desk.specs.Calls.{HasTried, HasActed, HasOpened, HasClosed, HasTaken, HasFlushed, HasTrimmed, has_news};
 ghost use Rattle.controller_desk.specs.Contents.{content_of};
-ghost use Rattle.controller_desk.specs.Turns.{TakesTurn, IsBack};
+ghost use Rattle.controller_desk.specs.Turns.{TakesTurn, IsBack, IsFirst, LeadsTo};
 ghost use Rattle.controller_desk.specs.Ups.{IsSet, ups};
 
 use crate::acted::Acted;
@@ -54,6 +55,7 @@ impl<D: Disk + Drop, C: Clock + Drop, W: Words + Drop> Desk<D, C, W> {
         ensures lock { IfOk result (λ r. IsIdle (lock_id r.0.lock) r.1) }
         ensures room { IfOk result (λ r. room_of r.1 + 1 ≡ 4096) }
         ensures known { IfOk result (λ r. known r.1 ≡ without_turn whole (content_of D.faults store) []) }
+        ensures log { IfOk result (λ r. IsFirst D.faults (λ l. l.store.value) store (log_of r.1)) }
     {
         let Ok(store) = Box::new(alloc, store) else {
             return Err(AllocError);
@@ -80,7 +82,7 @@ impl<D: Disk + Drop, C: Clock + Drop, W: Words + Drop> Desk<D, C, W> {
         requires idle { IsIdle (lock_id self.now.lock) pass.old }
         requires short { IsShort reading.message }
         ensures back { IsBack (lock_id self.now.lock) pass.old pass.new }
-        ensures turn { TakesTurn D.faults (λ before after. (moment : ℕ) × (word : ℕ) × HasActed before moment word conn reading.message result after) (known pass.old) (known pass.new) }
+        ensures turn { TakesTurn D.faults (λ l. l.store.value) (λ before after. (moment : ℕ) × (word : ℕ) × HasActed before moment word conn reading.message result after) pass.old pass.new }
     {
         let mut locked = self.lock.enter(rt, pass);
         let stamp = locked.draw();
@@ -102,7 +104,7 @@ impl<D: Disk + Drop, C: Clock + Drop, W: Words + Drop> Desk<D, C, W> {
         requires idle { IsIdle (lock_id self.now.lock) pass.old }
         requires identity { length identity.now < 256 }
         ensures back { IsBack (lock_id self.now.lock) pass.old pass.new }
-        ensures turn { TakesTurn D.faults (λ before after. (moment : ℕ) × (word : ℕ) × HasOpened before moment word channel identity.now result after) (known pass.old) (known pass.new) }
+        ensures turn { TakesTurn D.faults (λ l. l.store.value) (λ before after. (moment : ℕ) × (word : ℕ) × HasOpened before moment word channel identity.now result after) pass.old pass.new }
     {
         let mut locked = self.lock.enter(rt, pass);
         let stamp = locked.draw();
@@ -131,7 +133,7 @@ impl<D: Disk + Drop, C: Clock + Drop, W: Words + Drop> Desk<D, C, W> {
     ) -> Result<bool, ActError>
         requires idle { IsIdle (lock_id self.now.lock) pass.old }
         ensures back { IsBack (lock_id self.now.lock) pass.old pass.new }
-        ensures turn { TakesTurn D.faults (λ before after. (moment : ℕ) × (word : ℕ) × HasClosed before moment word conn result after) (known pass.old) (known pass.new) }
+        ensures turn { TakesTurn D.faults (λ l. l.store.value) (λ before after. (moment : ℕ) × (word : ℕ) × HasClosed before moment word conn result after) pass.old pass.new }
     {
         let mut locked = self.lock.enter(rt, pass);
         let stamp = locked.draw();
@@ -150,7 +152,7 @@ impl<D: Disk + Drop, C: Clock + Drop, W: Words + Drop> Desk<D, C, W> {
     ) -> Result<(), ActError>
         requires idle { IsIdle (lock_id self.now.lock) pass.old }
         ensures back { IsBack (lock_id self.now.lock) pass.old pass.new }
-        ensures turn { TakesTurn D.faults (λ before after. (moment : ℕ) × (word : ℕ) × HasTried before (Input.Beat moment word) result after) (known pass.old) (known pass.new) }
+        ensures turn { TakesTurn D.faults (λ l. l.store.value) (λ before after. (moment : ℕ) × (word : ℕ) × HasTried before (Input.Beat moment word) result after) pass.old pass.new }
     {
         let mut locked = self.lock.enter(rt, pass);
         let stamp = locked.draw();
@@ -169,7 +171,7 @@ impl<D: Disk + Drop, C: Clock + Drop, W: Words + Drop> Desk<D, C, W> {
     ) -> Result<(), ActError>
         requires idle { IsIdle (lock_id self.now.lock) pass.old }
         ensures back { IsBack (lock_id self.now.lock) pass.old pass.new }
-        ensures turn { TakesTurn D.faults (λ before after. (moment : ℕ) × (word : ℕ) × HasTried before (Input.Time moment word) result after) (known pass.old) (known pass.new) }
+        ensures turn { TakesTurn D.faults (λ l. l.store.value) (λ before after. (moment : ℕ) × (word : ℕ) × HasTried before (Input.Time moment word) result after) pass.old pass.new }
     {
         let mut locked = self.lock.enter(rt, pass);
         let stamp = locked.draw();
@@ -187,7 +189,7 @@ impl<D: Disk + Drop, C: Clock + Drop, W: Words + Drop> Desk<D, C, W> {
     ) -> Result<(), AppendFault>
         requires idle { IsIdle (lock_id self.now.lock) pass.old }
         ensures back { IsBack (lock_id self.now.lock) pass.old pass.new }
-        ensures turn { TakesTurn D.faults (λ before after. HasFlushed D.faults before result after) (known pass.old) (known pass.new) }
+        ensures turn { TakesTurn D.faults (λ l. l.store.value) (λ before after. HasFlushed D.faults before result after) pass.old pass.new }
     {
         let mut locked = self.lock.enter(rt, pass);
         let result = flush_on(&mut locked.store);
@@ -200,7 +202,7 @@ impl<D: Disk + Drop, C: Clock + Drop, W: Words + Drop> Desk<D, C, W> {
     pub fn trim<R: Wait>(&self, rt: &R, pass: &mut Pass<Locked<D, C, W>>) -> Result<(), AppendFault>
         requires idle { IsIdle (lock_id self.now.lock) pass.old }
         ensures back { IsBack (lock_id self.now.lock) pass.old pass.new }
-        ensures turn { TakesTurn D.faults (λ before after. HasTrimmed D.faults before result after) (known pass.old) (known pass.new) }
+        ensures turn { TakesTurn D.faults (λ l. l.store.value) (λ before after. HasTrimmed D.faults before result after) pass.old pass.new }
     {
         let mut locked = self.lock.enter(rt, pass);
         let result = trim_on(&mut locked.store);
@@ -213,7 +215,7 @@ impl<D: Disk + Drop, C: Clock + Drop, W: Words + Drop> Desk<D, C, W> {
     pub fn take_out<R: Wait>(&self, rt: &R, pass: &mut Pass<Locked<D, C, W>>, conn: u32) -> Taken
         requires idle { IsIdle (lock_id self.now.lock) pass.old }
         ensures back { IsBack (lock_id self.now.lock) pass.old pass.new }
-        ensures turn { TakesTurn D.faults (λ before after. HasTaken before conn result after) (known pass.old) (known pass.new) }
+        ensures turn { TakesTurn D.faults (λ l. l.store.value) (λ before after. HasTaken before conn result after) pass.old pass.new }
     {
         let mut locked = self.lock.enter(rt, pass);
         let result = take_on(&mut locked.store, conn);
@@ -227,7 +229,7 @@ impl<D: Disk + Drop, C: Clock + Drop, W: Words + Drop> Desk<D, C, W> {
     pub fn keep_news<R: Wait>(&self, rt: &R, pass: &mut Pass<Locked<D, C, W>>, conns: &mut Vec<u32>)
         requires idle { IsIdle (lock_id self.now.lock) pass.old }
         ensures back { IsBack (lock_id self.now.lock) pass.old pass.new }
-        ensures turn { TakesTurn D.faults (λ before after. (after ≡ before) × (conns.new.items ≡ filter (has_news before) conns.old.items)) (known pass.old) (known pass.new) }
+        ensures turn { TakesTurn D.faults (λ l. l.store.value) (λ before after. (after ≡ before) × (conns.new.items ≡ filter (has_news before) conns.old.items)) pass.old pass.new }
         ensures later { Extends (known pass.old).seen (known pass.new).seen }
         ensures added { (known pass.new).added ≡ (known pass.old).added }
     {
@@ -244,6 +246,7 @@ impl<D: Disk + Drop, C: Clock + Drop, W: Words + Drop> Desk<D, C, W> {
         ensures later { Extends (known pass.old).seen (known pass.new).seen }
         ensures added { (known pass.new).added ≡ (known pass.old).added }
         ensures stops { result ≡ is_stopping (known pass.new).seen.list }
+        ensures turn { TakesTurn D.faults (λ l. l.store.value) (λ before after. after ≡ before) pass.old pass.new }
     {
         let locked = self.lock.enter(rt, pass);
         let result = stopping_on(&locked.store);
@@ -266,6 +269,8 @@ impl<D: Disk + Drop, C: Clock + Drop, W: Words + Drop> Desk<D, C, W> {
         ensures known { OnOk result (known pass.new ≡ split_kept (known pass.old)) }
         ensures err { OnErr result ((room_of pass.new ≡ room_of pass.old) × (known pass.new ≡ known pass.old)) }
         ensures made { IfOk result (λ p. IsIdle (lock_id self.now.lock) p × (room_of p ≡ room) × (known p ≡ split_given (known pass.old))) }
+        ensures log { log_of pass.new ≡ log_of pass.old }
+        ensures made_log { IfOk result (λ p. log_of p ≡ log_of pass.old) }
     {
         self.lock.split(pass, room)
     }
@@ -279,6 +284,8 @@ impl<D: Disk + Drop, C: Clock + Drop, W: Words + Drop> Desk<D, C, W> {
         ensures known { known pass.new ≡ without_turn ((known pass.old).share + (known other).share) (merged (known pass.old).seen (known other).seen) (known pass.old).added }
         ensures later { Extends (known pass.old).seen (known pass.new).seen }
         ensures others { Extends (known other).seen (known pass.new).seen }
+        ensures log { IsEnd (log_of pass.old) (log_of pass.new) }
+        ensures others_log { IsEnd (log_of other) (log_of pass.new) }
     {
         self.lock.join(pass, other);
     }
@@ -288,6 +295,7 @@ impl<D: Disk + Drop, C: Clock + Drop, W: Words + Drop> Desk<D, C, W> {
         requires idle { IsIdle (lock_id self.lock) pass }
         ensures later { IfSome result (λ store. Extends (known pass).seen (content_of D.faults store)) }
         ensures whole { (known pass).share ≡ whole → IsSome result }
+        ensures log { IfSome result (λ store. LeadsTo D.faults (λ l. l.store.value) store (log_of pass)) }
     {
         let Desk { lock } = self;
         match lock.close(pass) {

@@ -27,9 +27,15 @@ pub struct Locked<D: Disk, C: Clock, W: Words> {
 }
 
 impl<D: Disk, C: Clock, W: Words> Keeps for Locked<D, C, W> {
+    ghost use Rattle.std.specs.Prelude.{None};
     ghost use Rattle.controller_desk.specs.Contents.{content_of};
+    ghost use Rattle.controller_desk.specs.Turns.{Goes};
 
     ghost content = { λ l. content_of D.faults l.store.value };
+
+    ghost step = { Goes D.faults (λ l. l.store.value) };
+
+    ghost loan = { λ _. None };
 }
 
 impl<D: Disk, C: Clock + Drop, W: Words + Drop> Locked<D, C, W> {

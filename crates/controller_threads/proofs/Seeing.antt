@@ -48,9 +48,9 @@ module _ {T : Type 0} (desk lock : LockId) (start : Content) (old new : Pass T) 
   -- a pass that has gone on
   pub since_later : desk ≡ lock → IsSince lock start old → IsIdle desk new → Extends (known old).seen (known new).seen → IsSince lock start new
   since_later same since idle on =
-      ((idle.0 ∙ same, idle.1), later_of start (known new).seen (extends_on start (known old).seen (known new).seen (extends_of start (known old).seen since.1) on))
+      ((idle.0 ∙ same, idle.1, idle.2), later_of start (known new).seen (extends_on start (known old).seen (known new).seen (extends_of start (known old).seen since.1) on))
 
   -- a pass that has gone on to a history that rests
   pub rested_later : desk ≡ lock → IsSince lock start old → IsIdle desk new → Extends (known old).seen (known new).seen → Rests (known new).seen → IsRested lock start new
   rested_later same since idle on rests =
-      ((idle.0 ∙ same, idle.1), extends_on start (known old).seen (known new).seen (extends_of start (known old).seen since.1) on, rests)
+      ((idle.0 ∙ same, idle.1, idle.2), extends_on start (known old).seen (known new).seen (extends_of start (known old).seen since.1) on, rests)

@@ -4,3 +4,4 @@
 pub mod dependencies;
 pub mod finished;
 pub mod following;
+pub mod id_counts;

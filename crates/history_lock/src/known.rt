@@ -17,6 +17,14 @@ pub trait Keeps {
     ghost use Rattle.history_lock.specs.declared.known.Content.{Content};
 
     ghost content: { Self → Content };
+
+    /// What one turn may make of the value.
+    ghost step: { Self → Self → Type 0 };
+
+    ghost use Rattle.history_lock.specs.Loans.{Loan};
+
+    /// What is out of the value while a pass has it, told by numbers.
+    ghost loan: { Self → Loan };
 }
 
 /// What a pass knows. No value of this type is made, so that its numbers have no greatest one.
@@ -33,4 +41,16 @@ pub struct View {
     pub told: Content,
     /// The entries that it added, each with its place, the newest first.
     pub added: LinkedList<(u64, Entry), Global>,
+}
+
+/// What a pass knows, with the values that were ever left at home. No value of this type is made.
+pub struct Knows<T> {
+    /// What it knows of the history.
+    pub view: View,
+    /// The values left at home that it has seen, the newest first.
+    pub log: LinkedList<T, Global>,
+    /// Those that another pass had seen that it is taking in.
+    pub told: LinkedList<T, Global>,
+    /// What it holds of the value, by the same numbers.
+    pub hold: Option<LinkedList<u64, Global>>,
 }

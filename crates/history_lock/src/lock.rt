@@ -1,10 +1,12 @@
 //! The lock and its passes.
-ghost use Rattle.std.specs.Prelude.{◌≡◌, ℕ, ◌+◌, ◌^◌, ◌<◌, ◌≤◌, ◌↔◌, [], ◌∷◌, true, false, length, None, Some, IfOk, IfSome, IsSome, OnOk, OnErr, IsErr, MatchOption};
+ghost use Rattle.std.specs.Prelude.{◌≡◌, ℕ, ◌+◌, ◌^◌, ◌<◌, ◌≤◌, ◌↔◌, [], ◌∷◌, true, false, length, List, None, Some, IfOk, IfSome, IsSome, OnOk, OnErr, IsErr, MatchOption};
 ghost use Rattle.history_lock.specs.History.{Extends, Stand, ascend, merged};
-ghost use Rattle.history_lock.specs.Rule.{without_turn, with_turn, added_by, whole, split_kept, split_given};
+ghost use Rattle.history_lock.specs.Loans.{loan_in, HoldsIn, MayLend, hold_after};
+ghost use Rattle.history_lock.specs.Log.{IsEnd, StartsAt, Chain, Follows};
+ghost use Rattle.history_lock.specs.Rule.{without_turn, with_turn, added_by, whole, split_kept, split_given, IsTaken};
 ghost use Rattle.history_lock.specs.Slots.{IsReady, HasSlots};
 
-use crate::known::{Keeps, View};
+use crate::known::{Keeps, Knows};
 use crate::steps::{GiveUpTurn, MergeTold, SplitPass, TakeTurn, TellOther, Turns};
 use atomic_table::{Refused, Table};
 use std::alloc::{AllocError, Global};
@@ -14,10 +16,10 @@ use std::sync::atomic::{AtomicU64, Ordering};
 use thiserror::Error;
 
 /// A seat at the table of a lock.
-type Seat<T> = atomic_table::Seat<Option<T>, View>;
+type Seat<T> = atomic_table::Seat<Option<T>, Knows<T>>;
 
 /// The table of a lock: one slot for the value, and one word for the turn.
-type Inner<T> = Table<Option<T>, View, Snapshot<T>, Turns<T>, Global>;
+type Inner<T> = Table<Option<T>, Knows<T>, Snapshot<T>, Turns<T>, Global>;
 
 /// A lock whose value is out with one pass at a time.
 #[derive(Drop)]
@@ -35,10 +37,10 @@ pub struct Pass<T> {
     seat: Seat<T>,
     room: u32,
     ghost slots: { HasSlots seat.me },
-    ghost unspent: { seat.me.0.spent ≡ false },
-    ghost lasting: { 2 ^ room ≤ seat.me.0.share },
-    ghost stand: { Stand seat.me.0.seen.list seat.me.0.added },
-    ghost ascends: { ascend seat.me.0.added ≡ true },
+    ghost unspent: { seat.me.0.view.spent ≡ false },
+    ghost lasting: { 2 ^ room ≤ seat.me.0.view.share },
+    ghost stand: { Stand seat.me.0.view.seen.list seat.me.0.view.added },
+    ghost ascends: { ascend seat.me.0.view.added ≡ true },
 }
 
 /// As many passes as were asked for may not come from this one.
@@ -47,7 +49,7 @@ pub struct Pass<T> {
 pub struct NoPass;
 
 impl<T: Keeps + Drop> HistoryLock<T> {
-    ghost use Rattle.history_lock.specs.Names.{lock_id, lock_of, known, room_of};
+    ghost use Rattle.history_lock.specs.Names.{lock_id, lock_of, known, log_of, hold_of, room_of};
 
     /// A lock around a value, and its first pass, for so many passes in all. The pass has seen what the
     /// value stands for, and has added nothing.
@@ -60,6 +62,8 @@ impl<T: Keeps + Drop> HistoryLock<T> {
         ensures lock { IfOk result (λ r. lock_of r.1 ≡ lock_id r.0) }
         ensures room { IfOk result (λ r. room_of r.1 + 1 ≡ passes) }
         ensures known { IfOk result (λ r. known r.1 ≡ without_turn whole (T.content value) []) }
+        ensures log { IfOk result (λ r. log_of r.1 ≡ value ∷ []) }
+        ensures hold { IfOk result (λ r. hold_of r.1 ≡ T.loan value) }
     {
         let key = Snapshot::of(&value);
         let mut slots = Vec::with_capacity(alloc, 1)?;
@@ -84,7 +88,7 @@ impl<T: Keeps + Drop> HistoryLock<T> {
         requires lock { seat.old.table_id ≡ lock_id self.now }
         requires ready { IsReady seat.old.me }
         ensures lock { seat.new.table_id ≡ seat.old.table_id }
-        ensures took { MatchOption result (seat.new.me ≡ seat.old.me) (λ value. (seat.new.me ≡ (with_turn seat.old.me.0.share (T.content value) seat.old.me.0.added, (0, None) ∷ [])) × Extends seat.old.me.0.seen (T.content value)) }
+        ensures took { MatchOption result (seat.new.me ≡ seat.old.me) (λ value. IsTaken T.content T.step T.loan seat.old.me ((0, None) ∷ []) value seat.new.me) }
     {
         let shared = &self.table.shared;
         if shared.compare_exchange::<TakeTurn>(seat, 0, 0, 1) == 0 {
@@ -103,6 +107,11 @@ impl<T: Keeps + Drop> HistoryLock<T> {
         ensures room { room_of pass.new ≡ room_of pass.old }
         ensures later { Extends (known pass.old).seen (T.content result) }
         ensures known { known pass.new ≡ with_turn (known pass.old).share (T.content result) (known pass.old).added }
+        ensures newest { StartsAt result (log_of pass.new) }
+        ensures log { IsEnd (log_of pass.old) (log_of pass.new) }
+        ensures steps { Chain T.step (log_of pass.new) }
+        ensures hold { hold_of pass.new ≡ hold_of pass.old }
+        ensures holds { HoldsIn (T.loan result) (hold_of pass.old) }
     {
         for _ in rt.forever() {
             if let Some(value) = self.take(&mut pass.seat) {
@@ -126,9 +135,13 @@ impl<T: Keeps + Drop> HistoryLock<T> {
         requires lock { lock_of pass.old ≡ lock_id self.now }
         requires turn { (known pass.old).has_turn ≡ true }
         requires later { Extends (known pass.old).seen (T.content value) }
+        requires step { Follows T.step (log_of pass.old) value }
+        requires loan { MayLend (hold_of pass.old) (loan_in T.loan (log_of pass.old)) (T.loan value) }
         ensures lock { lock_of pass.new ≡ lock_of pass.old }
         ensures room { room_of pass.new ≡ room_of pass.old }
         ensures known { known pass.new ≡ without_turn (known pass.old).share (T.content value) (added_by (known pass.old) (T.content value).list) }
+        ensures log { log_of pass.new ≡ value ∷ log_of pass.old }
+        ensures hold { hold_of pass.new ≡ hold_after (hold_of pass.old) (loan_in T.loan (log_of pass.old)) (T.loan value) }
     {
         let shared = &self.table.shared;
         drop(shared.exchange(&mut pass.seat, 0, Some(value)));
@@ -149,6 +162,10 @@ impl<T: Keeps + Drop> HistoryLock<T> {
         ensures room { OnOk result (room_of pass.new + room + 1 ≡ room_of pass.old) }
         ensures known { OnOk result (known pass.new ≡ split_kept (known pass.old)) }
         ensures err { OnErr result ((room_of pass.new ≡ room_of pass.old) × (known pass.new ≡ known pass.old)) }
+        ensures log { log_of pass.new ≡ log_of pass.old }
+        ensures made_log { IfOk result (λ p. log_of p ≡ log_of pass.old) }
+        ensures hold { hold_of pass.new ≡ hold_of pass.old }
+        ensures made_hold { IfOk result (λ p. hold_of p ≡ None) }
         ensures made { IfOk result (λ p. (lock_of p ≡ lock_of pass.old) × (room_of p ≡ room) × (known p ≡ split_given (known pass.old))) }
     {
         if pass.room <= room {
@@ -166,11 +183,15 @@ impl<T: Keeps + Drop> HistoryLock<T> {
         requires lock { lock_of pass.old ≡ lock_id self.now }
         requires other { lock_of other ≡ lock_id self.now }
         requires idle { ((known pass.old).has_turn ≡ false) × ((known other).has_turn ≡ false) }
+        requires empty { hold_of other ≡ None }
         ensures lock { lock_of pass.new ≡ lock_of pass.old }
         ensures room { room_of pass.new ≡ room_of pass.old }
         ensures known { known pass.new ≡ without_turn ((known pass.old).share + (known other).share) (merged (known pass.old).seen (known other).seen) (known pass.old).added }
         ensures later { Extends (known pass.old).seen (known pass.new).seen }
         ensures others { Extends (known other).seen (known pass.new).seen }
+        ensures log { IsEnd (log_of pass.old) (log_of pass.new) }
+        ensures others_log { IsEnd (log_of other) (log_of pass.new) }
+        ensures hold { hold_of pass.new ≡ hold_of pass.old }
     {
         let Pass { seat, .. } = other;
         self.table
@@ -186,6 +207,9 @@ impl<T: Keeps + Drop> HistoryLock<T> {
         requires idle { (known pass).has_turn ≡ false }
         ensures later { IfSome result (λ value. Extends (known pass).seen (T.content value)) }
         ensures whole { (known pass).share ≡ whole → IsSome result }
+        ensures log { IfSome result (λ value. (log : List T) × StartsAt value log × IsEnd (log_of pass) log × Chain T.step log) }
+        ensures holds { IfSome result (λ value. HoldsIn (T.loan value) (hold_of pass)) }
+        ensures home { (known pass).share ≡ whole → hold_of pass ≡ None → IfSome result (λ value. T.loan value ≡ None) }
     {
         let HistoryLock { table, .. } = self;
         let Pass { seat, .. } = pass;

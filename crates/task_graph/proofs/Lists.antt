@@ -10,7 +10,7 @@ use Rattle.place_sets.specs.Sets.{has, Grows, Without}
 use Rattle.place_sets.specs.Lanes.{in_set}
 use Rattle.place_sets.proofs.Covering.{first_or_later}
 use Rattle.place_sets.proofs.Leasts.{any_push}
-use Rattle.task_graph.specs.Listing.{Waits, is_waiting, lists, Noted, TakenOut, SameBut, SameWaits}
+use Rattle.task_graph.specs.Listing.{Waits, is_waiting, lists, Noted, NotedInPart, TakenOut, SameBut, SameWaits}
 
 -- THE SET OF ONE ID
 
@@ -107,6 +107,9 @@ none_more false all e o up off = refl
 -- where memory was wanting once some ids were noted
 pub noted_in_part : (ids : List (List ℕ)) (n place : ℕ) (old mid new : Waits) → Noted (lists (take n ids)) place old mid → SameWaits mid new → SameBut (lists ids) place old new
 noted_in_part ids n place old mid new one same = λ j i off. same j i ∙ one j i ∙ none_more (lists (take n ids) j) (lists ids j) (i == place) (is_waiting old j i) (take_lists ids n j) off
+
+pub noted_first : (ids : List (List ℕ)) (n place : ℕ) (old mid new : Waits) → Noted (lists (take n ids)) place old mid → SameWaits mid new → NotedInPart ids place old new
+noted_first ids n place old mid new one same = (n, λ j i. same j i ∙ one j i)
 
 -- TWO LISTS OF IDS
 

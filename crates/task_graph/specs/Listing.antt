@@ -1,5 +1,5 @@
 -- Tasks that wait for others, by the id that they wait for.
-use Rattle.std.specs.Prelude.{◌≡◌, ◌==◌, ◌&&◌, ◌||◌, ℕ, List, Option, Bool, false, not, String, bytes_eq, string_bytes}
+use Rattle.std.specs.Prelude.{◌≡◌, ◌==◌, ◌&&◌, ◌||◌, ℕ, List, Option, Bool, false, not, take, String, bytes_eq, string_bytes}
 use Rattle.std.specs.Global.{Global}
 use Rattle.std.specs.List.{list_any}
 use Rattle.std.specs.Map.{lookup}
@@ -28,6 +28,10 @@ lists ids id = list_any (λ i. bytes_eq i id) ids
 -- the task at a place waits for the ids of some kind too
 abbrev pub Noted : (List ℕ → Bool) → ℕ → Waits → Waits → Type 0
 Noted kind place old new = (j : List ℕ) (i : ℕ) → is_waiting new j i ≡ ((kind j && (i == place)) || is_waiting old j i)
+
+-- it waits for the first of some ids too, as many as there may be
+abbrev pub NotedInPart : List (List ℕ) → ℕ → Waits → Waits → Type 0
+NotedInPart ids place old new = (many : ℕ) × Noted (lists (take many ids)) place old new
 
 -- it waits for none of them any more
 abbrev pub TakenOut : (List ℕ → Bool) → ℕ → Waits → Waits → Type 0

@@ -4,11 +4,11 @@ ghost use Rattle.std.specs.Prelude.{◌≡◌, ℕ, List, [], None, is_some, tru
 ghost use Rattle.std.specs.HashMap.{get_by_text};
 ghost use Rattle.std.specs.List.Sorted.{IsStrictlySortedBy};
 ghost use Rattle.std.specs.Ordering.{nat_cmp};
-ghost use Rattle.task_graph.specs.Listing.{waiting_for, is_waiting, lists, Noted, TakenOut, SameBut, SameWaits};
+ghost use Rattle.task_graph.specs.Listing.{waiting_for, is_waiting, lists, Noted, NotedInPart, TakenOut, SameBut, SameWaits};
 ghost use Rattle.place_sets.specs.Sets.{has};
 
 use cluster_types::text::Text;
-use place_sets::places::{add, leave_out, members};
+use place_sets::places::{add, has, leave_out, members};
 use std::alloc::{AllocError, Global};
 use std::collections::{BTreeSet, HashMap};
 use std::marker::Model;
@@ -109,6 +109,16 @@ impl Waiters {
         }
     }
 
+    /// Whether the task at a place waits for an id.
+    pub fn is_waiting(&self, id: &Text, place: usize) -> bool
+        ensures { result ≡ is_waiting self.now id.now place }
+    {
+        match self.sets.get(id.as_str()) {
+            Some(set) => has(set, place),
+            None => false,
+        }
+    }
+
     /// Notes that the task at a place waits for an id.
     pub fn add(&mut self, id: &Text, place: usize) -> Result<(), AllocError>
         ensures ok { OnOk result (Noted (bytes_eq id.now) place self.old self.new) }
@@ -120,10 +130,11 @@ impl Waiters {
         Ok(())
     }
 
-    /// Notes that it waits for each of some ids. Where memory is wanting that may be noted of some of them.
+    /// Notes that it waits for each of some ids. Where memory is wanting that is noted of the first of them alone.
     pub fn add_all(&mut self, ids: &[Text], place: usize) -> Result<(), AllocError>
         ensures ok { OnOk result (Noted (lists ids.now) place self.old self.new) }
         ensures err { OnErr result (SameBut (lists ids.now) place self.old self.new) }
+        ensures part { OnErr result (NotedInPart ids.now place self.old self.new) }
     {
         for id in ids {
             self.add(id, place)?;

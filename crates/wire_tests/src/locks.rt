@@ -19,9 +19,13 @@ struct Losses {
 }
 
 impl Keeps for Losses {
-    ghost use Rattle.std.specs.Prelude.{reverse, ◌∷◌, []};
+    ghost use Rattle.std.specs.Prelude.{◌≤◌, reverse, ◌∷◌, [], None};
 
     ghost content = { λ l. record { list = reverse l.entries.items; counts = l.turns ∷ [] } };
+
+    ghost step = { λ old new. old.turns ≤ new.turns };
+
+    ghost loan = { λ _. None };
 }
 
 impl Losses {
@@ -34,7 +38,8 @@ impl Losses {
 
     /// Adds an entry.
     fn lose<R: Abort>(&mut self, rt: &R, engine: u32)
-        ensures { Extends (record { list = reverse self.old.entries.items; counts = self.old.turns ∷ [] }) (record { list = reverse self.new.entries.items; counts = self.new.turns ∷ [] }) }
+        ensures later { Extends (record { list = reverse self.old.entries.items; counts = self.old.turns ∷ [] }) (record { list = reverse self.new.entries.items; counts = self.new.turns ∷ [] }) }
+        ensures turns { self.old.turns ≤ self.new.turns }
     {
         self.turns = self.turns.saturating_add(1);
         self.entries

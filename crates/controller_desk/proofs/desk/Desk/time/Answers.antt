@@ -3,7 +3,7 @@ use Rattle.cluster_types.specs.declared.entry.Input.TheVariants.{Time}
 use Rattle.history_lock.specs.History.{Extends}
 use Rattle.controller_desk.specs.Calls.{HasTried}
 use Rattle.controller_desk.specs.Contents.{content_of}
-use Rattle.controller_desk.proofs.Extending.{in_turn, tried_on}
+use Rattle.controller_desk.proofs.Extending.{may_go, holds_none, logs, in_turn, tried_on}
 use Rattle.controller_desk.proofs.desk.Desk.time.Goals as goal
 
 pub leave-requires-clause-later : goal.leave-requires-clause-later
@@ -17,5 +17,20 @@ pub returns-clause-turn : goal.returns-clause-turn
 returns-clause-turn g c =
     let same : c.deref_mut.result.now ≡ c.enter-locked.result.store.value = search in
     let made = subst (λ v. HasTried v (Time c.draw-stamp.result.moment c.draw-stamp.result.word) c.time_on-result.result c.time_on-result.new.store) same c.time_on-result.ensures.tried in
+    let on = tried_on g.D.Disk.faults c.enter-locked.result.store.value (Time c.draw-stamp.result.moment c.draw-stamp.result.word) c.time_on-result.result c.time_on-result.new.store c.draw-stamp.ensures.fulls refl made in (
+      c.enter-locked.result.store.value,
+      c.time_on-result.new.store,
+      in_turn g.D.Disk.faults _ _ _ c.enter-locked.result.store.value c.time_on-result.new.store c.enter-locked.ensures.later c.enter-locked.ensures.known c.leave.ensures.known on,
+      (c.draw-stamp.result.moment, c.draw-stamp.result.word, made),
+      logs g.D.Disk.faults (λ l. l.store.value) _ _ _ _ _ c.enter-locked.result.store.value c.time_on-result.new.store c.enter-locked.ensures.newest c.enter-locked.ensures.log c.enter-locked.ensures.steps refl refl on c.leave.ensures.log,
+    )
+
+pub leave-requires-clause-step : goal.leave-requires-clause-step
+leave-requires-clause-step g c =
+    let same : c.deref_mut.result.now ≡ c.enter-locked.result.store.value = search in
+    let made = subst (λ v. HasTried v (Time c.draw-stamp.result.moment c.draw-stamp.result.word) c.time_on-result.result c.time_on-result.new.store) same c.time_on-result.ensures.tried in
     let on = tried_on g.D.Disk.faults c.enter-locked.result.store.value (Time c.draw-stamp.result.moment c.draw-stamp.result.word) c.time_on-result.result c.time_on-result.new.store c.draw-stamp.ensures.fulls refl made in
-    (c.enter-locked.result.store.value, c.time_on-result.new.store, in_turn g.D.Disk.faults _ _ _ c.enter-locked.result.store.value c.time_on-result.new.store c.enter-locked.ensures.later c.enter-locked.ensures.known c.leave.ensures.known on, (c.draw-stamp.result.moment, c.draw-stamp.result.word, made))
+    record { newest = c.enter-locked.result; starts = c.enter-locked.ensures.newest; next = on }
+
+pub leave-requires-clause-loan : goal.leave-requires-clause-loan
+leave-requires-clause-loan g c = may_go _ _ c.enter-locked.result c.enter-locked.ensures.newest

@@ -1,8 +1,8 @@
-use Rattle.std.proofs.Common.{◌≡◌, sym, subst}
+use Rattle.std.proofs.Common.{◌≡◌, sym, subst, refl}
 use Rattle.history_lock.specs.History.{Extends}
 use Rattle.controller_desk.specs.Calls.{HasTrimmed}
 use Rattle.controller_desk.specs.Contents.{content_of}
-use Rattle.controller_desk.proofs.Extending.{in_turn, trimmed_on}
+use Rattle.controller_desk.proofs.Extending.{may_go, holds_none, logs, in_turn, trimmed_on}
 use Rattle.controller_desk.proofs.desk.Desk.trim.Goals as goal
 
 pub leave-requires-clause-later : goal.leave-requires-clause-later
@@ -16,5 +16,20 @@ pub returns-clause-turn : goal.returns-clause-turn
 returns-clause-turn g c =
     let same : c.deref_mut.result.now ≡ c.enter-locked.result.store.value = search in
     let made = subst (λ v. HasTrimmed g.D.Disk.faults v c.trim_on-result.result c.trim_on-result.new.store) same c.trim_on-result.ensures.trimmed in
+    let on = trimmed_on g.D.Disk.faults c.enter-locked.result.store.value c.trim_on-result.result c.trim_on-result.new.store made in (
+      c.enter-locked.result.store.value,
+      c.trim_on-result.new.store,
+      in_turn g.D.Disk.faults _ _ _ c.enter-locked.result.store.value c.trim_on-result.new.store c.enter-locked.ensures.later c.enter-locked.ensures.known c.leave.ensures.known on,
+      made,
+      logs g.D.Disk.faults (λ l. l.store.value) _ _ _ _ _ c.enter-locked.result.store.value c.trim_on-result.new.store c.enter-locked.ensures.newest c.enter-locked.ensures.log c.enter-locked.ensures.steps refl refl on c.leave.ensures.log,
+    )
+
+pub leave-requires-clause-step : goal.leave-requires-clause-step
+leave-requires-clause-step g c =
+    let same : c.deref_mut.result.now ≡ c.enter-locked.result.store.value = search in
+    let made = subst (λ v. HasTrimmed g.D.Disk.faults v c.trim_on-result.result c.trim_on-result.new.store) same c.trim_on-result.ensures.trimmed in
     let on = trimmed_on g.D.Disk.faults c.enter-locked.result.store.value c.trim_on-result.result c.trim_on-result.new.store made in
-    (c.enter-locked.result.store.value, c.trim_on-result.new.store, in_turn g.D.Disk.faults _ _ _ c.enter-locked.result.store.value c.trim_on-result.new.store c.enter-locked.ensures.later c.enter-locked.ensures.known c.leave.ensures.known on, made)
+    record { newest = c.enter-locked.result; starts = c.enter-locked.ensures.newest; next = on }
+
+pub leave-requires-clause-loan : goal.leave-requires-clause-loan
+leave-requires-clause-loan g c = may_go _ _ c.enter-locked.result c.enter-locked.ensures.newest
