@@ -1,9 +1,6 @@
 //! The caller of `serve`, which alone starts jobs.
 
-ghost use Rattle.std.specs.Prelude.{◌≡◌, ◌≤◌, ℕ, All, IsTrue, IfOk, IfErr, OnOk};
-ghost use Rattle.std.specs.Vec.{vec_capacity};
-ghost use Rattle.std.proofs.Props.{props};
-ghost use Rattle.history_lock.specs.declared.known.Content.{Content};
+ghost use Rattle.std.specs.Prelude.{◌≡◌, ◌≤◌, ℕ, IsTrue, IfErr, OnOk};
 ghost use Rattle.history_lock.specs.Names.{known, room_of};
 ghost use Rattle.controller_threads.specs.declared.halt.Halt.{Halt as HaltType};
 ghost use Rattle.controller_threads.specs.Halts.{HaltCause, StopCause};
@@ -20,10 +17,8 @@ use crate::port::Port;
 use crate::ports::{EndedPorts, Ports};
 use crate::shared::Shared;
 use crate::stop::ServeStop;
-use load_schemes::chooser::Chooser;
-use session_threads::admission::PassPool;
 use session_threads::context::{LockedOf, PassOf, SessionTypes};
-use std::alloc::{AllocError, Global};
+use std::alloc::Global;
 use std::sync::{Arc, Wait};
 use std::thread::Threads;
 use std::time::Duration;
@@ -36,18 +31,15 @@ const LAST_MILLIS: u64 = 200;
 #[derive(Drop)]
 pub struct Caller<P: Port, T: SessionTypes, N: Naming> {
     pub shared: Arc<Shared<P, T, N>, Global>,
-    /// Its own pass, and those of sessions that have ended.
-    pub pool: PassPool<LockedOf<T>>,
+    pub pass: PassOf<T>,
     pub ended: EndedPorts<P>,
-    /// How many greetings run.
-    pub greetings: u64,
-    /// How many sessions run.
-    pub sessions: u64,
+    /// How many threads of links run.
+    pub links: u64,
+    /// How many sessions that write run.
+    pub writers: u64,
     /// How many workers run.
     pub workers: u64,
-    ghost since: { IsSince N.lock N.start pool.pass },
-    ghost kept: { All (IsSince N.lock N.start) pool.kept.items } by { Prim.hlevel props },
-    ghost spare: { 2 ≤ vec_capacity pool.kept },
+    ghost since: { IsSince N.lock N.start pass },
 }
 
 impl<
@@ -58,6 +50,7 @@ impl<
 where
     P::In: Send + 'static,
     P::Out: Send + 'static,
+    P::Closer: Send + 'static,
     T::Disk: Send + Sync + 'static,
     T::Clock: Send + Sync + 'static,
     T::Words: Send + Sync + 'static,
@@ -65,33 +58,17 @@ where
     T::Runtime: Copy + Send + Sync + 'static,
 {
     /// A caller that has started nothing yet.
-    pub fn new(
-        shared: Arc<Shared<P, T, N>, Global>,
-        pass: PassOf<T>,
-    ) -> Result<Caller<P, T, N>, AllocError>
+    pub fn new(shared: Arc<Shared<P, T, N>, Global>, pass: PassOf<T>) -> Caller<P, T, N>
         requires { IsSince N.lock N.start pass }
-        ensures { IfOk result (λ c. room_of c.pool.pass ≡ room_of pass) }
+        ensures { room_of result.pass ≡ room_of pass }
     {
-        let kept = Vec::with_capacity(shared.serving.alloc, 2)?;
-        Ok(Caller {
+        Caller {
             shared,
-            pool: PassPool { pass, kept },
+            pass,
             ended: Ports::none(),
-            greetings: 0,
-            sessions: 0,
+            links: 0,
+            writers: 0,
             workers: 0,
-        })
-    }
-
-    /// Keeps the pass of a session that ended, to be used again.
-    fn keep(&mut self, pass: NamedPass<LockedOf<T>, N>) -> Result<(), ServeStop<P>>
-        ensures { (before : ℕ) (now : ℕ) (seen : Content) → IfErr result (λ stop. StopCause P.faults N.start seen before now stop) }
-    {
-        self.sessions = self.sessions.saturating_sub(1);
-        let NamedPass { pass, of: _ } = pass;
-        match self.pool.kept.push(pass) {
-            Ok(()) => Ok(()),
-            Err(_) => Err(ServeStop::OutOfMemory),
         }
     }
 
@@ -99,15 +76,15 @@ where
     fn end_worker(&mut self, ended: NamedPass<LockedOf<T>, N>) {
         self.workers = self.workers.saturating_sub(1);
         let NamedPass { pass, of: _ } = ended;
-        self.shared.join(&mut self.pool.pass, pass);
+        self.shared.join(&mut self.pass, pass);
     }
 
     /// Takes in the pass of a job that met what ends the controller.
     fn halt(&mut self, halted: Halted<LockedOf<T>, N>) -> Halt
-        ensures { HaltCause result N.start (known self.new.pool.pass).seen }
+        ensures { HaltCause result N.start (known self.new.pass).seen }
     {
         let Halted { halt, pass, of: _ } = halted;
-        self.shared.join(&mut self.pool.pass, pass);
+        self.shared.join(&mut self.pass, pass);
         halt
     }
 
@@ -115,54 +92,40 @@ where
     fn answer<H: Threads + Drop>(
         &mut self,
         spawner: &mut Spawner<H>,
-        chooser: &Chooser,
         handed: Handed<P, LockedOf<T>, N>,
     ) -> Result<(), ServeStop<P>>
-        ensures ok { OnOk result (spawner.new.faults ≡ spawner.old.faults) }
-        ensures cause { IfErr result (λ stop. StopCause P.faults N.start (known self.new.pool.pass).seen spawner.old.faults spawner.new.faults stop) }
+        ensures { (before : ℕ) (now : ℕ) → IfErr result (λ stop. StopCause P.faults N.start (known self.new.pass).seen before now stop) }
     {
         match handed {
-            Handed::Accepted(link) => self.start_greeting(spawner, link),
-            Handed::Greeted(link, greeted) => {
-                self.greetings = self.greetings.saturating_sub(1);
-                self.open(spawner, chooser, link, greeted)
-            }
-            Handed::NotGreeted => {
-                self.greetings = self.greetings.saturating_sub(1);
-                Ok(())
-            }
-            Handed::SessionEnded(pass) => self.keep(pass),
-            Handed::PortEnded(channel, port) => {
-                self.ended.put(channel, port);
-                Ok(())
-            }
+            Handed::Accepted(link) => self.start_link(spawner, link),
+            Handed::Admitted(link) => self.start_writing(spawner, link),
+            Handed::LinkEnded => self.links = self.links.saturating_sub(1),
+            Handed::WriterEnded => self.writers = self.writers.saturating_sub(1),
+            Handed::PortEnded(channel, port) => self.ended.put(channel, port),
             Handed::PortFailed(failed) => {
                 let FailedPort { channel, port } = failed;
-                Err(ServeStop::PortFailed { channel, port })
+                return Err(ServeStop::PortFailed { channel, port });
             }
-            Handed::WorkerEnded(pass) => {
-                self.end_worker(pass);
-                Ok(())
-            }
-            Handed::Halted(halted) => Err(ServeStop::Halted(self.halt(halted))),
+            Handed::WorkerEnded(pass) => self.end_worker(pass),
+            Handed::Halted(halted) => return Err(ServeStop::Halted(self.halt(halted))),
         }
+        Ok(())
     }
 
     /// Whether all links have ended, and no more come.
     fn has_no_links(&self) -> bool
         ensures { IsTrue result → AreAll self.now.ended }
     {
-        self.greetings == 0 && self.sessions == 0 && self.ended.are_all()
+        self.links == 0 && self.writers == 0 && self.ended.are_all()
     }
 
     /// Serves until all links have ended, and then the workers.
     fn serve_links<H: Threads + Drop>(
         &mut self,
         spawner: &mut Spawner<H>,
-        chooser: &Chooser,
     ) -> Result<(), ServeStop<P>>
         ensures ok { OnOk result (AreAll self.new.ended) }
-        ensures cause { IfErr result (λ stop. StopCause P.faults N.start (known self.new.pool.pass).seen spawner.old.faults spawner.new.faults stop) }
+        ensures cause { IfErr result (λ stop. StopCause P.faults N.start (known self.new.pass).seen spawner.old.faults spawner.new.faults stop) }
     {
         let rt = self.shared.serving.rt;
         for _ in rt.forever() {
@@ -172,9 +135,12 @@ where
                 }
                 self.shared.end_workers();
             }
-            match self.shared.queue.take(&rt) {
-                Some(handed) => self.answer(spawner, chooser, handed)?,
-                None => return Err(ServeStop::OutOfMemory),
+            let Some(handed) = self.shared.queue.take(&rt) else {
+                return Err(ServeStop::OutOfMemory);
+            };
+            match self.answer(spawner, handed) {
+                Ok(()) => {}
+                Err(stop) => return Err(stop),
             }
         }
         unreachable!()
@@ -184,15 +150,14 @@ where
     pub fn serve<H: Threads + Drop>(
         &mut self,
         spawner: &mut Spawner<H>,
-        chooser: &Chooser,
         ports: Ports<P>,
     ) -> Result<(), ServeStop<P>>
-        requires { 3 ≤ room_of self.old.pool.pass }
+        requires { 3 ≤ room_of self.old.pass }
         ensures ok { OnOk result (AreAll self.new.ended) }
-        ensures cause { IfErr result (λ stop. StopCause P.faults N.start (known self.new.pool.pass).seen spawner.old.faults spawner.new.faults stop) }
+        ensures cause { IfErr result (λ stop. StopCause P.faults N.start (known self.new.pass).seen spawner.old.faults spawner.new.faults stop) }
     {
         match self.start(spawner, ports) {
-            Ok(()) => self.serve_links(spawner, chooser),
+            Ok(()) => self.serve_links(spawner),
             Err(stop) => Err(stop),
         }
     }
@@ -204,11 +169,10 @@ where
     {
         let Caller {
             shared,
-            pool,
+            mut pass,
             ended,
             ..
         } = self;
-        let PassPool { mut pass, .. } = pool;
         shared.flush_last(&mut pass);
         ServeEnd::Ended {
             ports: ended.into_ports(),
@@ -225,12 +189,15 @@ where
 
     /// The end where the desk halts the controller.
     fn halted(self, halt: Halt) -> ServeEnd<P, LockedOf<T>>
-        requires { HaltCause halt N.start (known self.pool.pass).seen }
+        requires { HaltCause halt N.start (known self.pass).seen }
         ensures { (before : ℕ) (now : ℕ) → EndCause N.lock N.start P.links P.faults before now result }
     {
         self.let_writers_write(halt);
-        let Caller { shared, pool, .. } = self;
-        let PassPool { mut pass, .. } = pool;
+        let Caller {
+            shared,
+            mut pass,
+            ..
+        } = self;
         shared.flush_last(&mut pass);
         match halt {
             Halt::Stopping => ServeEnd::Stopped(pass),
@@ -245,8 +212,8 @@ where
 
     /// The end where it stops before. The workers end, and nobody waits for them.
     pub fn stopped(self, stop: ServeStop<P>) -> ServeEnd<P, LockedOf<T>>
-        requires { (halt : HaltType) → stop ≡ ServeStop.Halted halt → HaltCause halt N.start (known self.pool.pass).seen }
-        ensures { (before : ℕ) (now : ℕ) → StopCause P.faults N.start (known self.pool.pass).seen before now stop → EndCause N.lock N.start P.links P.faults before now result }
+        requires { (halt : HaltType) → stop ≡ ServeStop.Halted halt → HaltCause halt N.start (known self.pass).seen }
+        ensures { (before : ℕ) (now : ℕ) → StopCause P.faults N.start (known self.pass).seen before now stop → EndCause N.lock N.start P.links P.faults before now result }
     {
         self.shared.end_workers();
         match stop {

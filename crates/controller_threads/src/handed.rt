@@ -11,12 +11,32 @@ use crate::ports::EndedPort;
 use cluster_types::config::Channel;
 use link_messages::greeting::Greeted;
 
-/// A link to another machine, and the channel of the port where it was accepted.
+/// A link to another machine, the channel of the port where it was accepted, and its number among those that haven't signed
+/// anything.
 #[derive(Drop)]
 pub struct AcceptedLink<I, O> {
     pub channel: Channel,
+    pub number: u64,
     pub reader: I,
     pub writer: O,
+}
+
+/// A link that has signed something, and what came with its handshake and up to then.
+#[derive(Drop)]
+pub struct SignedLink<I, O> {
+    pub channel: Channel,
+    pub reader: I,
+    pub writer: O,
+    pub greeted: ShortGreeted,
+}
+
+/// The writing half of a link whose connection is up, what ends the link, and a pass for its session.
+#[derive(Drop)]
+pub struct AdmittedLink<P: Port, T, N: Naming> {
+    pub conn: u32,
+    pub writer: P::Out,
+    pub closer: P::Closer,
+    pub pass: NamedPass<T, N>,
 }
 
 /// What came with a handshake, within the limits.
@@ -57,12 +77,12 @@ pub fn failed_port<P: Port>(channel: Channel, port: P) -> FailedPort<P>
 pub enum Handed<P: Port, T, N: Naming> {
     /// A link was accepted.
     Accepted(AcceptedLink<P::In, P::Out>),
-    /// The handshake of a link is done.
-    Greeted(AcceptedLink<P::In, P::Out>, ShortGreeted),
-    /// A link ended before its handshake was done.
-    NotGreeted,
-    /// A session ended.
-    SessionEnded(NamedPass<T, N>),
+    /// A link has a connection, and its writer is to be started.
+    Admitted(AdmittedLink<P, T, N>),
+    /// A link was read to its end, or ended before it was admitted.
+    LinkEnded,
+    /// A session that writes ended.
+    WriterEnded,
     /// A port has no further links.
     PortEnded(Channel, EndedPort<P>),
     /// An accept failed.

@@ -2,15 +2,19 @@
 #![tactic(auto)]
 
 pub mod accepting;
+pub mod admissions;
+pub mod arriving;
 mod caller;
+pub mod closing;
 pub mod end;
-pub mod greeting;
 pub mod halt;
 pub mod handed;
 mod jobs;
+pub mod linking;
 pub mod naming;
 mod opening;
 pub mod passes;
+pub mod pending;
 pub mod port;
 pub mod ports;
 pub mod queue;
@@ -19,5 +23,6 @@ mod sessions;
 pub mod shared;
 pub mod starting;
 pub mod stop;
+pub mod watching;
 pub mod workers;
 pub mod writers;

@@ -22,6 +22,7 @@ impl<T, N: Naming> NamedPass<T, N> {
     /// A pass that has seen what was seen at the start.
     pub fn new(pass: Pass<T>) -> NamedPass<T, N>
         requires { IsSince N.lock N.start pass }
+        ensures { result.pass ≡ pass }
     {
         NamedPass {
             pass,

@@ -3,6 +3,7 @@
 ghost use Rattle.std.specs.Prelude.{List, ℕ, Option};
 ghost use Rattle.thread_edges.specs.Links.{Accepts, LinkCause};
 
+use crate::closing::{Closer, Closing};
 use edges::sink::Sink;
 use edges::source::Source;
 use std::sync::Wait;
@@ -14,6 +15,9 @@ pub trait Port {
 
     type Out: Sink + Drop;
 
+    /// What ends a link.
+    type Closer: Closer + Drop;
+
     /// The links that still come, where the port tells.
     ghost links: { Self → Option (List (Self.In × Self.Out)) };
 
@@ -24,12 +28,23 @@ pub trait Port {
     fn accept<R: Wait>(&mut self, rt: &R) -> Accepted<Self::In, Self::Out>
         ensures accepts { Accepts result (links self.old) (links self.new) }
         ensures cause { LinkCause result (faults self.old) (faults self.new) };
+
+    /// What ends the link of this writing half. `None` where the system has nothing for it.
+    fn closer(writer: &Self::Out) -> Option<Self::Closer>;
+
+    /// Ends the link of this writing half.
+    fn close(writer: &Self::Out);
 }
 
-impl<L: Listener> Port for L {
+impl<L: Listener> Port for L
+where
+    L::Out: Closing,
+{
     type In = L::In;
 
     type Out = L::Out;
+
+    type Closer = <L::Out as Closing>::Closer;
 
     ghost links = { L.links };
 
@@ -37,5 +52,13 @@ impl<L: Listener> Port for L {
 
     fn accept<R: Wait>(&mut self, rt: &R) -> Accepted<L::In, L::Out> {
         Listener::accept(self, rt)
+    }
+
+    fn closer(writer: &L::Out) -> Option<<L::Out as Closing>::Closer> {
+        writer.closer()
+    }
+
+    fn close(writer: &L::Out) {
+        writer.close();
     }
 }

@@ -7,12 +7,12 @@ ghost use Rattle.controller_threads.specs.Ends.{EndCause};
 ghost use Rattle.controller_threads.specs.Passes.{IsSince};
 
 use crate::caller::Caller;
+use crate::closing::Closing;
 use crate::end::ServeEnd;
 use crate::naming::Naming;
 use crate::port::Port;
 use crate::ports::Ports;
 use crate::shared::{Serving, new_shared};
-use load_schemes::chooser::Chooser;
 use session_threads::context::{LockedOf, PassOf, SessionTypes};
 use std::marker::Brand;
 use std::thread::Threads;
@@ -29,12 +29,12 @@ fn serve_named<
     serving: Serving<T>,
     ports: Ports<P>,
     pass: PassOf<T>,
-    chooser: &Chooser,
     spawner: &mut Spawner<H>,
 ) -> ServeEnd<P, LockedOf<T>>
 where
     P::In: Send + 'static,
     P::Out: Send + 'static,
+    P::Closer: Send + 'static,
     T::Disk: Send + Sync + 'static,
     T::Clock: Send + Sync + 'static,
     T::Words: Send + Sync + 'static,
@@ -49,10 +49,8 @@ where
     let Ok(shared) = new_shared::<P, T, N>(serving) else {
         return ServeEnd::OutOfMemory;
     };
-    let Ok(mut caller) = Caller::new(shared, pass) else {
-        return ServeEnd::OutOfMemory;
-    };
-    match caller.serve(spawner, chooser, ports) {
+    let mut caller = Caller::new(shared, pass);
+    match caller.serve(spawner, ports) {
         Ok(()) => {
             spawner.join_all(&rt);
             caller.ended()
@@ -75,10 +73,10 @@ pub fn serve<
     serving: Serving<T>,
     ports: Ports<L>,
     pass: PassOf<T>,
-    chooser: &Chooser,
     spawner: &mut Spawner<H>,
 ) -> ServeEnd<L, LockedOf<T>>
 where
+    L::Out: Closing,
     T::Disk: Send + Sync + 'static,
     T::Clock: Send + Sync + 'static,
     T::Words: Send + Sync + 'static,
@@ -88,5 +86,5 @@ where
     requires room { 3 ≤ room_of pass }
     ensures { EndCause (lock_id (arc_value serving.desk).lock) (known pass).seen L.links L.faults spawner.old.faults spawner.new.faults result }
 {
-    serve_named::<L, T, Brand, H>(serving, ports, pass, chooser, spawner)
+    serve_named::<L, T, Brand, H>(serving, ports, pass, spawner)
 }

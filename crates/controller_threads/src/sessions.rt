@@ -1,4 +1,4 @@
-//! The two sessions of a link.
+//! The two sessions of a link whose connection is up.
 
 ghost use Rattle.std.specs.Prelude.{All};
 ghost use Rattle.history_lock.specs.Names.{known};
@@ -6,14 +6,13 @@ ghost use Rattle.zmtp_peer.specs.Limits.{IsShortMessage};
 ghost use Rattle.controller_threads.specs.Ends.{SessionCause};
 ghost use Rattle.controller_threads.specs.Passes.{IsSince};
 
+use crate::closing::Closer;
 use crate::halt::Halt;
-use crate::handed::{Handed, ShortGreeted};
+use crate::handed::Handed;
 use crate::naming::Naming;
 use crate::passes::{Halted, NamedPass};
 use crate::port::Port;
 use crate::shared::Shared;
-use crate::starting::ChoosingJob;
-use history_lock::lock::Pass;
 use link_messages::end::SessionEnd;
 use link_messages::greeting::Greeted;
 use load_schemes::chooser::Chooser;
@@ -25,27 +24,16 @@ use std::alloc::Global;
 use std::sync::{Arc, Wait};
 use thread_edges::spawner::Job;
 
-/// Reads a link whose handshake is done.
-#[derive(Drop)]
-pub struct ReadingSession<P: Port, T: SessionTypes, N: Naming> {
-    pub shared: Arc<Shared<P, T, N>, Global>,
-    pub reader: P::In,
-    pub greeted: ShortGreeted,
-    pub connection: ServedConnection,
-    pub pass: NamedPass<LockedOf<T>, N>,
-}
-
 /// Writes to a link.
 #[derive(Drop)]
 pub struct WritingSession<P: Port, T: SessionTypes, N: Naming> {
     pub shared: Arc<Shared<P, T, N>, Global>,
     pub writer: P::Out,
     pub conn: u32,
-    pub pass: NamedPass<LockedOf<T>, N>,
 }
 
 /// Reads a link to its end.
-fn read_link<P: Port + Drop, T: SessionTypes, N: Naming>(
+pub fn read_link<P: Port + Drop, T: SessionTypes, N: Naming>(
     shared: &Shared<P, T, N>,
     chooser: &Chooser,
     reader: &mut P::In,
@@ -76,8 +64,12 @@ fn write_link<P: Port + Drop, T: SessionTypes, N: Naming>(
     let _ = write_session(&context, writer, pass, conn);
 }
 
-/// What the end of a session is handed over as.
-fn ended_session<P: Port, T, N: Naming>(end: SessionEnd, pass: Pass<T>) -> Handed<P, T, N>
+/// What the end of a session that reads is handed over as. Its pass is kept.
+pub fn ended_session<P: Port + Drop, T: SessionTypes, N: Naming>(
+    shared: &Shared<P, T, N>,
+    end: SessionEnd,
+    pass: PassOf<T>,
+) -> Handed<P, LockedOf<T>, N>
     requires since { IsSince N.lock N.start pass }
     requires cause { SessionCause end N.start (known pass).seen }
 {
@@ -85,46 +77,51 @@ fn ended_session<P: Port, T, N: Naming>(end: SessionEnd, pass: Pass<T>) -> Hande
         SessionEnd::HistoryFull { entries, bytes } => {
             Handed::Halted(Halted::new(Halt::HistoryFull { entries, bytes }, pass))
         }
-        _ => Handed::SessionEnded(NamedPass::new(pass)),
+        _ => {
+            shared.keep_pass(NamedPass::new(pass));
+            Handed::LinkEnded
+        }
     }
 }
 
-impl<P: Port + Drop, T: SessionTypes, N: Naming> ChoosingJob for ReadingSession<P, T, N> {
-    fn run(self, chooser: &Chooser) {
-        let ReadingSession {
-            shared,
-            mut reader,
-            greeted,
-            connection,
-            pass,
-        } = self;
-        let ShortGreeted { greeted } = greeted;
-        let NamedPass { mut pass, of: _ } = pass;
-        let end = read_link(
-            &*shared,
-            chooser,
-            &mut reader,
-            greeted,
-            connection,
-            &mut pass,
-        );
-        drop(reader);
-        shared.hand(ended_session(end, pass));
+impl<P: Port + Drop, T: SessionTypes, N: Naming> Shared<P, T, N> {
+    /// Keeps a pass that is free again.
+    pub fn keep_pass(&self, pass: NamedPass<LockedOf<T>, N>) {
+        self.admissions.lock(&self.serving.rt).keep(pass);
+    }
+
+    /// A pass for a session, where there is one.
+    fn take_pass(&self) -> Option<NamedPass<LockedOf<T>, N>> {
+        self.admissions.lock(&self.serving.rt).take(self)
+    }
+
+    /// Ends a link whose session that writes couldn't be started.
+    pub fn end_unwritten(&self, conn: u32, closer: &P::Closer) {
+        self.writers.remove(&self.serving.rt, conn);
+        closer.close();
+    }
+
+    /// Writes to a link until its connection isn't live, with a pass for its session.
+    fn write_admitted(&self, writer: &mut P::Out, conn: u32) {
+        if let Some(NamedPass { mut pass, of: _ }) = self.take_pass() {
+            write_link(self, writer, conn, &mut pass);
+            self.keep_pass(NamedPass::new(pass));
+        }
     }
 }
 
 impl<P: Port + Drop, T: SessionTypes, N: Naming> Job for WritingSession<P, T, N> {
+    /// Once it writes no more the link is ended, so that nobody reads it on.
     fn run(self) {
         let WritingSession {
             shared,
             mut writer,
             conn,
-            pass,
         } = self;
-        let NamedPass { mut pass, of: _ } = pass;
-        write_link(&*shared, &mut writer, conn, &mut pass);
+        shared.write_admitted(&mut writer, conn);
+        P::close(&writer);
         drop(writer);
         shared.writers.remove(&shared.serving.rt, conn);
-        shared.hand(Handed::SessionEnded(NamedPass::new(pass)));
+        shared.hand(Handed::WriterEnded);
     }
 }

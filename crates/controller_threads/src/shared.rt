@@ -6,9 +6,11 @@ ghost use Rattle.history_lock.specs.History.{Extends};
 ghost use Rattle.history_lock.specs.Names.{known, room_of, lock_id};
 ghost use Rattle.controller_threads.specs.Passes.{IsSince, IsRested};
 
+use crate::admissions::Admissions;
 use crate::handed::Handed;
 use crate::naming::Naming;
 use crate::passes::NamedPass;
+use crate::pending::Pending;
 use crate::port::Port;
 use crate::queue::Queue;
 use crate::writers::Writers;
@@ -16,7 +18,7 @@ use hmac_sign::Key;
 use session_threads::context::{DeskOf, LockedOf, PassOf, SessionContext, SessionTypes};
 use std::alloc::{AllocError, Global};
 use std::sync::atomic::{AtomicU64, Ordering};
-use std::sync::{Arc, Wait};
+use std::sync::{Arc, Mutex, Wait};
 use std::time::Duration;
 use thread_edges::gate::{Gate, Point};
 
@@ -37,6 +39,9 @@ pub struct Shared<P: Port, T: SessionTypes, N: Naming> {
     pub serving: Serving<T>,
     pub queue: Queue<P, LockedOf<T>, N>,
     pub writers: Writers,
+    /// The links that haven't signed anything.
+    pub pending: Pending<P::Closer>,
+    pub admissions: Mutex<Admissions<T, N>>,
     /// Not 0 once no links are left.
     pub ending: AtomicU64,
     ghost named: { lock_id (arc_value serving.desk).lock ≡ N.lock },
@@ -53,6 +58,8 @@ pub fn new_shared<P: Port + Drop, T: SessionTypes, N: Naming>(
         serving,
         queue: Queue::new(alloc),
         writers: Writers::new(alloc),
+        pending: Pending::new(alloc)?,
+        admissions: Mutex::new(Admissions::closed()),
         ending: AtomicU64::new(0),
     };
     let shared = Arc::new(alloc, shared)?;
@@ -82,6 +89,7 @@ impl<P: Port + Drop, T: SessionTypes, N: Naming> Shared<P, T, N> {
     /// Lets the workers end, which flush once more before, and wakes all writers.
     pub fn end_workers(&self) {
         self.ending.store(1, Ordering::SeqCst);
+        self.ending.wake_all();
         self.serving.gate.wake(Point::Flush, 0);
         self.writers.wake_all(&self.serving.rt, &*self.serving.gate);
     }
@@ -89,6 +97,12 @@ impl<P: Port + Drop, T: SessionTypes, N: Naming> Shared<P, T, N> {
     /// Whether the workers are to end.
     pub fn is_ending(&self) -> bool {
         self.ending.load(Ordering::SeqCst) != 0
+    }
+
+    /// Waits for a second, or until the workers are to end.
+    pub fn await_second(&self) {
+        self.ending
+            .park_timeout(&self.serving.rt, 0, Duration::from_secs(1));
     }
 
     /// Waits for so long.
@@ -103,8 +117,20 @@ impl<P: Port + Drop, T: SessionTypes, N: Naming> Shared<P, T, N> {
         ensures since { IsSince N.lock N.start pass.new }
         ensures exact { IsSome result ↔ (0 < room_of pass.old) }
         ensures room { IfSome result (λ _. room_of pass.new + 1 ≡ room_of pass.old) }
+        ensures seen { IfSome result (λ p. (known p.pass).seen ≡ (known pass.old).seen) }
     {
         match self.serving.desk.split(pass, 0) {
+            Ok(other) => Some(NamedPass::new(other)),
+            Err(_) => None,
+        }
+    }
+
+    /// A pass from which so many others may come. `None` where no so many may come from this one.
+    pub fn split_room(&self, pass: &mut PassOf<T>, room: u32) -> Option<NamedPass<LockedOf<T>, N>>
+        requires since { IsSince N.lock N.start pass.old }
+        ensures since { IsSince N.lock N.start pass.new }
+    {
+        match self.serving.desk.split(pass, room) {
             Ok(other) => Some(NamedPass::new(other)),
             Err(_) => None,
         }

@@ -4,6 +4,7 @@ use crate::database::open_for_changes;
 use cluster_types::message::WordList;
 use command_words::ending::{Ending, StandingEnding};
 use command_words::standing::StandingCommand;
+use controller_threads::closing::Closing;
 use controller_threads::ports::Ports;
 use disk_model::disk::Disk;
 use disk_model::file::FileDisk;
@@ -107,7 +108,10 @@ fn stand<
     ports: Ports<L>,
     disk: D,
     errors: &mut E,
-) -> Result<u8, AllocError> {
+) -> Result<u8, AllocError>
+where
+    L::Out: Closing,
+{
     let Start {
         rt,
         handle,

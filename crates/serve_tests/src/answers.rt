@@ -48,7 +48,9 @@ const RESULT: &[u8] =
     b"{\"status\":\"ok\",\"pending\":[],\"completed\":[\"a\"],\"results\":{\"a\":{\"engine\":0,\"verdict\":\"completed\",\"cause\":\"Reply\",\"header\":{\"msg_id\":\"r1\",\"msg_type\":\"execute_reply\"},\"metadata\":{},\"content\":{\"status\":\"ok\",\"result\":\"42\"},\"buffers\":0}}}";
 
 /// Serves ports in threads until all links have ended, and gives the pass.
-fn served_to_the_end<R: Abort + Wait + Threads + time::Clock + Drop + Copy + Send + Sync + 'static>(
+pub fn served_to_the_end<
+    R: Abort + Wait + Threads + time::Clock + Drop + Copy + Send + Sync + 'static,
+>(
     rt: &R,
     alloc: Global,
     ports: Ports<MemListener>,
@@ -60,7 +62,6 @@ fn served_to_the_end<R: Abort + Wait + Threads + time::Clock + Drop + Copy + Sen
     requires room { 3 ≤ room_of pass }
     ensures { IsIdle (lock_id (arc_value desk.now).lock) result }
 {
-    let chooser = new_chooser(rt, alloc);
     let key = new_key(rt, alloc);
     let served = Arc::try_clone(desk).expect(rt, "memory is ample");
     let gate = Arc::try_clone(gate).expect(rt, "memory is ample");
@@ -72,7 +73,7 @@ fn served_to_the_end<R: Abort + Wait + Threads + time::Clock + Drop + Copy + Sen
         key,
         gate,
     };
-    match serve(serving, ports, pass, &chooser, &mut spawner) {
+    match serve(serving, ports, pass, &mut spawner) {
         ServeEnd::Ended { pass, .. } => pass,
         _ => panic!(rt; "the controller ends before its links"),
     }
@@ -87,7 +88,12 @@ fn is_closed<R: Wait>(rt: &R, desk: &Desked, pass: &mut Pass<Held>, conn: u32) -
 }
 
 /// The number of the next connection, on the channel for hubs.
-fn next_number<R: Abort + Wait>(rt: &R, alloc: Global, desk: &Desked, pass: &mut Pass<Held>) -> u32
+pub fn next_number<R: Abort + Wait>(
+    rt: &R,
+    alloc: Global,
+    desk: &Desked,
+    pass: &mut Pass<Held>,
+) -> u32
     requires { IsIdle (lock_id desk.now.lock) pass.old }
     ensures { IsIdle (lock_id desk.now.lock) pass.new }
 {

@@ -53,7 +53,7 @@ pub const ASK: &[u8] =
     b"\x01\x09<IDS|MSG>\x01@7235ceda5687e97a6a53a38fa48ff38111bdb2450e0b7564a195a96bf2d73eaf\x010{\"msg_id\":\"ask\",\"msg_type\":\"connection_request\"}\x01\x02{}\x01\x02{}\0\x02{}";
 
 /// A message without a delimiter, of this many octets behind its flags and length. A link passes over it.
-const LONG: [u8; 8_192] = [0; 8_192];
+pub const LONG: [u8; 8_192] = [0; 8_192];
 
 /// A chooser that places tasks as a controller does.
 pub fn new_chooser<R: Abort>(rt: &R, alloc: Global) -> Chooser {
@@ -97,7 +97,7 @@ pub fn new_desk<R: Abort>(rt: &R, alloc: Global, entries: u64) -> (Desked, Pass<
 }
 
 /// Octets one after another.
-fn joined<R: Abort>(rt: &R, alloc: Global, parts: &[&[u8]]) -> Vec<u8> {
+pub fn joined<R: Abort>(rt: &R, alloc: Global, parts: &[&[u8]]) -> Vec<u8> {
     let mut octets = Vec::new(alloc);
     for part in parts {
         octets.extend_from_slice(part).expect(rt, "memory is ample");
@@ -167,7 +167,6 @@ pub fn served_by<R: Abort + Wait + Threads + time::Clock + Drop + Copy + Send + 
     requires idle { IsIdle (lock_id (arc_value desk.now).lock) pass }
     requires room { 3 ≤ room_of pass }
 {
-    let chooser = new_chooser(rt, alloc);
     let key = new_key(rt, alloc);
     let desk = Arc::try_clone(desk).expect(rt, "memory is ample");
     let gate = Arc::try_clone(gate).expect(rt, "memory is ample");
@@ -178,7 +177,7 @@ pub fn served_by<R: Abort + Wait + Threads + time::Clock + Drop + Copy + Send + 
         key,
         gate,
     };
-    serve(serving, ports, pass, &chooser, spawner)
+    serve(serving, ports, pass, spawner)
 }
 
 /// The end of a controller in threads, over a desk of its own whose history may have so many entries.

@@ -22,6 +22,7 @@ fn link_of<R: Abort + Wait>(
     match port_of(rt, alloc, &[b""], &[]).accept(rt) {
         Accepted::Pair(reader, writer) => Handed::Accepted(AcceptedLink {
             channel,
+            number: 0,
             reader,
             writer,
         }),
@@ -42,10 +43,10 @@ fn what_is_handed_over_is_taken_in_its_order(rt: HostRuntime) {
     let alloc = rt.alloc();
     let queue = Queue::<MemListener, Held, Brand>::new(alloc);
     queue.put(&rt, link_of(&rt, alloc, Channel::Mux));
-    queue.put(&rt, Handed::NotGreeted);
+    queue.put(&rt, Handed::LinkEnded);
     queue.put(&rt, link_of(&rt, alloc, Channel::Hub));
     assert_eq!(rt; channel_of(&queue.take(&rt)), Some(Channel::Mux));
-    assert!(rt; matches!(queue.take(&rt), Some(Handed::NotGreeted)));
+    assert!(rt; matches!(queue.take(&rt), Some(Handed::LinkEnded)));
     queue.put(&rt, link_of(&rt, alloc, Channel::Task));
     assert_eq!(rt; channel_of(&queue.take(&rt)), Some(Channel::Hub));
     assert_eq!(rt; channel_of(&queue.take(&rt)), Some(Channel::Task));

@@ -22,3 +22,5 @@ mod serving;
 mod sessions;
 #[cfg(test)]
 mod standing_fixture;
+#[cfg(test)]
+mod strangers;

@@ -16,6 +16,10 @@ const SERVE: &str = "serve h 5000 db --key k";
 const OWN: &[u8] =
     b"\xff\0\0\0\0\0\0\0\0\x7f\x03\0NULL\0\0\0\0\0\0\0\0\0\0\0\0\0\0\0\0\0\0\0\0\0\0\0\0\0\0\0\0\0\0\0\0\0\0\0\0\0\0\0\0\0\0\0\0\0\0\0\0\0\0\x04\x1c\x05READY\x0bSocket-Type\0\0\0\x06ROUTER";
 
+/// The same, and the connection request `ask`, signed under the key `k`.
+const ASKING: &[u8] =
+    b"\xff\0\0\0\0\0\0\0\0\x7f\x03\0NULL\0\0\0\0\0\0\0\0\0\0\0\0\0\0\0\0\0\0\0\0\0\0\0\0\0\0\0\0\0\0\0\0\0\0\0\0\0\0\0\0\0\0\0\0\0\0\0\0\0\0\x04\x1c\x05READY\x0bSocket-Type\0\0\0\x06ROUTER\x01\x09<IDS|MSG>\x01@7235ceda5687e97a6a53a38fa48ff38111bdb2450e0b7564a195a96bf2d73eaf\x010{\"msg_id\":\"ask\",\"msg_type\":\"connection_request\"}\x01\x02{}\x01\x02{}\0\x02{}";
+
 /// Serves, with a thread for each job, a link to the hub that gives these octets, where there are some.
 fn served<R: Wait + Threads + Clock + Abort + Drop + Copy + Send + Sync + 'static>(
     rt: R,
@@ -40,7 +44,7 @@ fn a_controller_ends_with_its_ports_and_links(rt: HostRuntime) {
     }
 }
 
-/// Whether a controller over a whole link ends with this status, printed nothing and said what begins so.
+/// Whether a controller over a link that asks something ends with this status, printed nothing and said what begins so.
 fn is_end<R: Wait + Threads + Clock + Abort + Drop + Copy + Send + Sync + 'static>(
     rt: R,
     alloc: Global,
@@ -50,7 +54,7 @@ fn is_end<R: Wait + Threads + Clock + Abort + Drop + Copy + Send + Sync + 'stati
     status: u8,
     said: &[u8],
 ) -> bool {
-    served(rt, alloc, line, OWN, failing, database).is(status, b"", said)
+    served(rt, alloc, line, ASKING, failing, database).is(status, b"", said)
 }
 
 #[test]

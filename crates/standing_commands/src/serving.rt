@@ -13,6 +13,7 @@ use cluster_store::store::Store;
 use command_words::command::ReplayOptions;
 use command_words::ending::{Ending, StandingEnding};
 use controller_desk::desk::Desk;
+use controller_threads::closing::Closing;
 use controller_threads::end::ServeEnd;
 use controller_threads::ports::Ports;
 use controller_threads::serving::serve;
@@ -20,7 +21,6 @@ use controller_threads::shared::Serving;
 use disk_model::disk::Disk;
 use hmac_sign::Key;
 use link_commands::host::Host;
-use load_schemes::chooser::Chooser;
 use quick_commands::opening::{config_of, ending_of_refusal};
 use session_threads::context::{DeskOf, LockedOf, SessionTypes};
 use std::alloc::{AllocError, Global};
@@ -113,10 +113,10 @@ fn serve_store<
     site: Served<L, T>,
     store: Store<T::Disk>,
     key: Key,
-    chooser: &Chooser,
     spawner: &mut Spawner<H>,
 ) -> (StandingEnding, ServeShown<L, I, O, T>)
 where
+    L::Out: Closing,
     T::Disk: Send + Sync + 'static,
     T::Clock: Send + Sync + 'static,
     T::Words: Send + Sync + 'static,
@@ -152,7 +152,7 @@ where
         key,
         gate,
     };
-    let end = serve(serving, ports, pass, chooser, spawner);
+    let end = serve(serving, ports, pass, spawner);
     shown_end::<L, I, O, T>(desk, end)
 }
 
@@ -169,6 +169,7 @@ pub fn serve_cluster<
     spawner: &mut Spawner<H>,
 ) -> (StandingEnding, ServeShown<L, I, O, T>)
 where
+    L::Out: Closing,
     T::Disk: Send + Sync + 'static,
     T::Clock: Send + Sync + 'static,
     T::Words: Send + Sync + 'static,
@@ -193,7 +194,6 @@ where
             Served::<L, T> { ports, gate, host },
             store,
             key,
-            &chooser,
             spawner,
         ),
         Err(Refused { disk, why }) => {

@@ -17,6 +17,7 @@ use cluster_types::message::WordList;
 use command_words::command::CommandError;
 use command_words::ending::{Ending, StandingEnding};
 use command_words::standing::{StandingCommand, standing_command_of};
+use controller_threads::closing::Closing;
 use edges::sink::Sink;
 use session_threads::context::SessionTypes;
 use std::thread::Threads;
@@ -38,6 +39,7 @@ fn obey<
     output: &mut K,
 ) -> (StandingEnding, ServeShown<L, N::In, N::Out, T>)
 where
+    L::Out: Closing,
     T::Disk: Send + Sync + 'static,
     T::Clock: Send + Sync + 'static,
     T::Words: Send + Sync + 'static,
@@ -68,6 +70,7 @@ fn run<
     output: &mut K,
 ) -> (StandingEnding, ServeShown<L, N::In, N::Out, T>)
 where
+    L::Out: Closing,
     T::Disk: Send + Sync + 'static,
     T::Clock: Send + Sync + 'static,
     T::Words: Send + Sync + 'static,
@@ -118,6 +121,7 @@ pub fn standing<
     errors: &mut E,
 ) -> (u8, ServeShown<L, N::In, N::Out, T>)
 where
+    L::Out: Closing,
     T::Disk: Send + Sync + 'static,
     T::Clock: Send + Sync + 'static,
     T::Words: Send + Sync + 'static,

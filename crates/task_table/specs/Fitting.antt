@@ -4,7 +4,7 @@ use Rattle.std.specs.Option.{option_and_then}
 use Rattle.cluster_defs.specs.declared.engine.Engine.{Engine}
 use Rattle.cluster_defs.specs.Words.{is_empty}
 use Rattle.cluster_defs.specs.Tasks.{Task}
-use Rattle.cluster_defs.specs.Dependencies.{met, on_engine}
+use Rattle.cluster_defs.specs.Dependencies.{met, unreachable, on_engine}
 use Rattle.cluster_defs.specs.Requests.{Request, is_direct, is_bound, is_target, deadline}
 use Rattle.cluster_defs.specs.Facts.{Facts, nothing_yet}
 use Rattle.cluster_defs.specs.Scheduling.{rests, may_run_as, excludes, is_dead, is_past}
@@ -35,6 +35,11 @@ hopeless_as ts live a (Some r) = not (is_direct r) && (r.invalid || is_dead (amo
 
 abbrev pub hopeless : List Seen → List Engine → Seen → Bool
 hopeless ts live t = rests (alone t) t.row.id && hopeless_as ts live t.attempts t.request
+
+-- whether what a task waits for can't be met any more
+abbrev pub cut_off : List Seen → Option Request → Bool
+cut_off ts None = false
+cut_off ts (Some r) = unreachable r.after (settled_in ts)
 
 -- whether a Submit that waits is past its timeout at a moment
 abbrev pub late_as : ℕ → Option Request → Bool

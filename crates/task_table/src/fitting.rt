@@ -1,12 +1,14 @@
 //! Where a task that waits may run.
 
-ghost use Rattle.std.specs.Prelude.{◌≡◌, ◌||◌, not, filter_map, IfOk};
+ghost use Rattle.std.specs.Prelude.{◌≡◌, ◌||◌, ℕ, not, filter_map, IfOk};
+ghost use Rattle.std.specs.BTreeSet as sorted;
+ghost use Rattle.std.specs.List.Sorted.{IsStrictlySortedBy};
 ghost use Rattle.std.specs.Option.{option_and_then};
+ghost use Rattle.std.specs.Ordering.{nat_cmp};
 ghost use Rattle.cluster_defs.specs.Words.{is_empty};
-ghost use Rattle.task_table.specs.Waiting.{settled_in};
+ghost use Rattle.task_table.specs.Waiting.{settled_in, ready, is_among};
 ghost use Rattle.task_table.specs.Fitting.{takes, fits, is_tied, tied};
 
-use crate::readiness::is_ready;
 use crate::table::Table;
 use crate::task::Task;
 use crate::viability::{is_bound, is_excluded, is_target};
@@ -17,6 +19,7 @@ use dependency_sets::dependencies::is_empty;
 use dependency_sets::finished::Finished;
 use dependency_sets::following::is_met_on;
 use std::alloc::{AllocError, Global};
+use std::collections::BTreeSet;
 
 /// Whether a task may run on an engine, as far as the two go together.
 pub fn takes(table: &Table, task: &Task, engine: u32) -> bool
@@ -27,11 +30,13 @@ pub fn takes(table: &Table, task: &Task, engine: u32) -> bool
         && !is_excluded(task.attempts(), engine)
 }
 
-/// Whether a task waits, and may run on an engine.
-pub fn is_fitting(table: &Table, task: &Task, engine: u32) -> bool
+/// Whether a task waits, and may run on an engine. It is told whether the task is ready, so that this is looked for once for
+/// all engines.
+pub fn is_fitting(table: &Table, task: &Task, engine: u32, told: bool) -> bool
+    requires { told ≡ ready table.now task.now }
     ensures { result ≡ fits table.now task.now engine }
 {
-    is_ready(table, task) && takes(table, task, engine)
+    told && takes(table, task, engine)
 }
 
 /// Whether the targets of a request or the engines of what it follows tell where it may run.
@@ -61,8 +66,29 @@ fn finished_on(alloc: Global, table: &Table, ids: &Ids) -> Result<Vec<u32>, Allo
         .collect(alloc)
 }
 
-/// The targets of a request where it has any, and else the engines where what it follows finished.
-pub fn tied(alloc: Global, table: &Table, request: &WholeRequest) -> Result<Vec<u32>, AllocError>
+/// Some numbers as a set.
+fn set_of(alloc: Global, numbers: &[u32]) -> Result<BTreeSet<u32>, AllocError>
+    ensures { IfOk result (λ s. (n : ℕ) → sorted.contains nat_cmp s n ≡ is_among n numbers.now) }
+{
+    let mut set = BTreeSet::new(alloc);
+    for number in numbers {
+        set.insert(*number)?;
+    }
+    Ok(set)
+}
+
+/// Some numbers, each once, ascending.
+fn each_once(alloc: Global, numbers: &[u32]) -> Result<Vec<u32>, AllocError>
+    ensures members { IfOk result (λ v. (n : ℕ) → is_among n v.items ≡ is_among n numbers.now) }
+    ensures sorted { IfOk result (λ v. IsStrictlySortedBy nat_cmp v.items) }
+{
+    let set = set_of(alloc, numbers)?;
+    let _many = set.len();
+    set.iter().copied().collect(alloc)
+}
+
+/// The targets of a request where it has any, and else the engines where what it follows finished, in the order of these.
+fn listed(alloc: Global, table: &Table, request: &WholeRequest) -> Result<Vec<u32>, AllocError>
     ensures { IfOk result (λ v. v.items ≡ tied table.now request.now.request) }
 {
     if is_bound(request) {
@@ -70,4 +96,13 @@ pub fn tied(alloc: Global, table: &Table, request: &WholeRequest) -> Result<Vec<
     } else {
         finished_on(alloc, table, &request.follow.ids)
     }
+}
+
+/// The targets of a request where it has any, and else the engines where what it follows finished; each once, ascending.
+pub fn tied(alloc: Global, table: &Table, request: &WholeRequest) -> Result<Vec<u32>, AllocError>
+    ensures members { IfOk result (λ v. (n : ℕ) → is_among n v.items ≡ is_among n (tied table.now request.now.request)) }
+    ensures sorted { IfOk result (λ v. IsStrictlySortedBy nat_cmp v.items) }
+{
+    let engines = listed(alloc, table, request)?;
+    each_once(alloc, &engines)
 }

@@ -5,7 +5,8 @@ ghost use Rattle.std.specs.Prelude.{◌≡◌, ◌+◌, ◌*◌, ◌-◌, ◌^�
 ghost use Rattle.cluster_defs.specs.Requests.{Request as RequestFacts};
 ghost use Rattle.place_sets.specs.Lanes.{in_lane};
 ghost use Rattle.task_table.specs.Live.{lone};
-ghost use Rattle.task_table.specs.Fitting.{fits, hopeless, late, is_tied};
+ghost use Rattle.task_table.specs.Waiting.{ready};
+ghost use Rattle.task_table.specs.Fitting.{fits, cut_off, hopeless, late, is_tied};
 ghost use Rattle.task_table.specs.Marking.{StaysWhereFit, OthersStay, IsLaned, IsLanedOn, IsWatched, IsTimed, LanedAt, WatchedAt, TimedAt};
 
 use crate::fitting::{is_fitting, is_tied, tied};
@@ -14,24 +15,27 @@ use crate::readiness::is_ready;
 use crate::standing::rests;
 use crate::table::Table;
 use crate::task::Task;
-use crate::viability::is_hopeless;
+use crate::viability::{is_cut_off, is_hopeless};
 use cluster_defs::request::WholeRequest;
 use place_sets::flags::has;
 use place_sets::lanes::Lanes;
 use std::alloc::AllocError;
 
-/// Puts the place of a task into the lane of an engine where it fits, and takes it out of one where it doesn't.
+/// Puts the place of a task into the lane of an engine where it fits, and takes it out of one where it doesn't. It is told
+/// whether the task is ready.
 fn lane_on(
     table: &Table,
     lanes: &mut Lanes,
     task: &Task,
     place: usize,
     engine: u32,
+    told: bool,
 ) -> Result<(), AllocError>
+    requires { told ≡ ready table.now task.now }
     ensures there { OnOk result (fits table.now task.now engine ≡ true → in_lane lanes.new engine place ≡ true) }
     ensures stays { StaysWhereFit table.now task.now place lanes.old lanes.new }
 {
-    if is_fitting(table, task, engine) {
+    if is_fitting(table, task, engine, told) {
         lanes.add(u64::from(engine), place)
     } else {
         lanes.leave_out(u64::from(engine), place);
@@ -46,12 +50,14 @@ fn lane_on_each(
     task: &Task,
     place: usize,
     engines: &[u32],
+    told: bool,
 ) -> Result<(), AllocError>
+    requires { told ≡ ready table.now task.now }
     ensures there { OnOk result (IsLanedOn engines.now table.now task.now place lanes.new) }
     ensures stays { StaysWhereFit table.now task.now place lanes.old lanes.new }
 {
     for engine in engines {
-        lane_on(table, lanes, task, place, *engine)?;
+        lane_on(table, lanes, task, place, *engine, told)?;
     }
     Ok(())
 }
@@ -62,7 +68,8 @@ fn lane_tied(table: &Table, lanes: &mut Lanes, task: &Task, place: usize) -> Res
     ensures stays { StaysWhereFit table.now task.now place lanes.old lanes.new }
 {
     let engines = tied(table.allocator(), table, task.request())?;
-    lane_on_each(table, lanes, task, place, &engines)
+    let told = is_ready(table, task);
+    lane_on_each(table, lanes, task, place, &engines, told)
 }
 
 /// Whether a task may run nowhere, or its place is in the lane of each engine where it may, once it is put there.
@@ -99,11 +106,14 @@ fn leave_each(lanes: &mut Lanes, engines: &[u32], place: usize)
     }
 }
 
-/// The first of some engines that alone gives a task hope, of those that aren't known to have ended.
-fn guard(table: &Table, ended: &[bool], task: &Task, engines: &[u32]) -> Option<u32>
+/// The first of some engines that alone gives a task hope, of those that aren't known to have ended. It is told whether what
+/// the task waits for can't be met any more.
+fn guard(table: &Table, ended: &[bool], task: &Task, engines: &[u32], told: bool) -> Option<u32>
+    requires { told ≡ cut_off table.now task.now.request }
     ensures { IfSome result (λ n. hopeless table.now (lone n ∷ []) task.now ≡ false) }
 {
-    engines.iter().copied().find(|n| !has(ended, *n) && !is_hopeless(table, Live::Only(*n), task))
+    engines.iter().copied().find(|n| !has(ended, *n)
+        && !is_hopeless(table, Live::Only(*n), task, told))
 }
 
 /// Puts the place of a task into the lane of one engine that gives it hope, where it has none without engines, and tells
@@ -120,10 +130,14 @@ fn watch(
 {
     let engines = tied(table.allocator(), table, task.request())?;
     leave_each(watches, &engines, place);
-    if !is_hopeless(table, Live::Nobody, task) {
+    if !rests(task) {
         return Ok(true);
     }
-    match guard(table, ended, task, &engines) {
+    let told = is_cut_off(table, task);
+    if !is_hopeless(table, Live::Nobody, task, told) {
+        return Ok(true);
+    }
+    match guard(table, ended, task, &engines, told) {
         Some(engine) => {
             watches.add(u64::from(engine), place)?;
             Ok(true)

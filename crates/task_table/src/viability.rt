@@ -2,12 +2,13 @@
 
 ghost use Rattle.std.specs.Prelude.{◌≡◌, ◌==◌, ◌&&◌, not, [], Some, option_map};
 ghost use Rattle.std.specs.List.{list_any, list_all};
+ghost use Rattle.cluster_defs.specs.Dependencies.{unreachable};
 ghost use Rattle.cluster_defs.specs.Engines.{lists_number};
 ghost use Rattle.cluster_defs.specs.Requests.{is_bound, is_target, deadline};
 ghost use Rattle.cluster_defs.specs.Scheduling.{excludes, usable, usable_on, no_target, spoils, follow_spoilt, follow_dead, is_dead, is_past};
 ghost use Rattle.task_table.specs.Live.{live_of};
 ghost use Rattle.task_table.specs.Waiting.{settled_in};
-ghost use Rattle.task_table.specs.Fitting.{among, hopeless_as, hopeless};
+ghost use Rattle.task_table.specs.Fitting.{among, cut_off, hopeless_as, hopeless};
 
 use crate::attempts::Attempts;
 use crate::live::{Live, is_live};
@@ -160,13 +161,26 @@ fn is_follow_dead(table: &Table, live: Live, attempts: &Attempts, request: &Whol
     !is_empty(&request.follow.ids) && is_follow_spoilt(table, live, attempts, request)
 }
 
+/// Whether a Submit can't run for good, told whether what it waits for can't be met any more.
+fn is_dead_if(
+    table: &Table,
+    live: Live,
+    attempts: &Attempts,
+    request: &WholeRequest,
+    told: bool,
+) -> bool
+    requires { told ≡ unreachable request.now.request.after (settled_in table.now) }
+    ensures { result ≡ is_dead (among table.now (live_of live.entry) 0 attempts.now) [] request.now.request }
+{
+    told || has_no_target(live, attempts, request) || is_follow_dead(table, live, attempts, request)
+}
+
 /// Whether a Submit can't run for good.
 pub fn is_dead(table: &Table, live: Live, attempts: &Attempts, request: &WholeRequest) -> bool
     ensures { result ≡ is_dead (among table.now (live_of live.entry) 0 attempts.now) [] request.now.request }
 {
-    is_unreachable(&request.after, table)
-        || has_no_target(live, attempts, request)
-        || is_follow_dead(table, live, attempts, request)
+    let told = is_unreachable(&request.after, table);
+    is_dead_if(table, live, attempts, request, told)
 }
 
 /// Whether a request waited past its timeout, at a moment in milliseconds.
@@ -180,21 +194,34 @@ pub fn is_timed_out(request: &WholeRequest, now: u64) -> bool
     }
 }
 
-/// Whether a task with this request can't run for good. A direct request isn't asked.
+/// Whether a task with this request can't run for good, told whether what it waits for can't be met any more. A direct
+/// request isn't asked.
 fn is_hopeless_request(
     table: &Table,
     live: Live,
     attempts: &Attempts,
     request: &WholeRequest,
+    told: bool,
 ) -> bool
+    requires { told ≡ unreachable request.now.request.after (settled_in table.now) }
     ensures { result ≡ hopeless_as table.now (live_of live.entry) attempts.now (Some request.now.request) }
 {
-    request.direct_to.is_none() && (request.invalid || is_dead(table, live, attempts, request))
+    request.direct_to.is_none()
+        && (request.invalid || is_dead_if(table, live, attempts, request, told))
 }
 
-/// Whether a task is a Submit that waits and can't run for good.
-pub fn is_hopeless(table: &Table, live: Live, task: &Task) -> bool
+/// Whether what a task waits for can't be met any more.
+pub fn is_cut_off(table: &Table, task: &Task) -> bool
+    ensures { result ≡ cut_off table.now task.now.request }
+{
+    is_unreachable(&task.request().after, table)
+}
+
+/// Whether a task is a Submit that waits and can't run for good. It is told whether what the task waits for can't be met any
+/// more, so that this is looked for once for all engines.
+pub fn is_hopeless(table: &Table, live: Live, task: &Task, told: bool) -> bool
+    requires { told ≡ cut_off table.now task.now.request }
     ensures { result ≡ hopeless table.now (live_of live.entry) task.now }
 {
-    rests(task) && is_hopeless_request(table, live, task.attempts(), task.request())
+    rests(task) && is_hopeless_request(table, live, task.attempts(), task.request(), told)
 }

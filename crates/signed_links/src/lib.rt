@@ -1,0 +1,4 @@
+//! Reading a link up to its first signed message.
+#![tactic(auto)]
+
+pub mod signing;
