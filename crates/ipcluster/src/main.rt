@@ -2,6 +2,7 @@
 #![tactic(auto)]
 
 mod cluster;
+mod codes;
 mod database;
 mod key_file;
 
@@ -12,6 +13,7 @@ use cluster::run_cluster;
 use cluster_types::config::Scheme;
 use cluster_types::message::WordList;
 use cluster_types::text::Text;
+use codes::run_engines;
 use command_words::command::{Command, CommandError, command_of};
 use command_words::ending::{Ending, StandingEnding};
 use command_words::standing::standing_command_of;
@@ -25,6 +27,7 @@ use key_file::{KeyFileError, with_keys};
 use load_schemes::chooser::Chooser;
 use load_schemes::place::place_of;
 use quick_commands::quick::quick;
+use run_words::command::run_command_of;
 use standing_commands::errors::tell;
 use std::alloc::AllocError;
 use std::process::ExitCode;
@@ -130,6 +133,24 @@ fn run_quick<E: Sink>(
     }
 }
 
+/// Does what the words ask for, where that takes threads: codes on engines of their own, or a cluster at its ports.
+fn run_beside<H: Threads + Wait + Drop + Copy + Send + Sync + 'static, E: Sink>(
+    (rt, handle): (HostRuntime, H),
+    words: &WordList,
+    chooser: Chooser,
+    errors: &mut E,
+) -> Result<u8, StandingEnding> {
+    match run_command_of(rt.alloc(), words) {
+        Ok(_) => return run_engines((rt, handle), words, chooser, errors),
+        Err(CommandError::Usage) => {}
+        Err(error) => return Err(StandingEnding::Plain(ending_unread(error))),
+    }
+    match standing_command_of(rt.alloc(), words) {
+        Ok(command) => run_cluster((rt, handle), words, &command, chooser, errors),
+        Err(error) => Err(StandingEnding::Plain(ending_unread(error))),
+    }
+}
+
 /// Does what the words ask for.
 fn run<H: Threads + Wait + Drop + Copy + Send + Sync + 'static, E: Sink>(
     rt: HostRuntime,
@@ -156,10 +177,9 @@ fn run<H: Threads + Wait + Drop + Copy + Send + Sync + 'static, E: Sink>(
     let chooser = Chooser::new(choose);
     let status = match command_of(rt.alloc(), &words) {
         Ok(command) => run_quick(&rt, &words, &command, chooser, errors),
-        Err(CommandError::Usage) => match standing_command_of(rt.alloc(), &words) {
-            Ok(command) => return run_cluster((rt, handle), &words, &command, chooser, errors),
-            Err(error) => Err(ending_unread(error)),
-        },
+        Err(CommandError::Usage) => {
+            return run_beside((rt, handle), &words, chooser, errors);
+        }
         Err(error) => Err(ending_unread(error)),
     };
     match status {

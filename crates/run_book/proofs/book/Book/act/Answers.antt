@@ -1,0 +1,43 @@
+use Rattle.std.proofs.Common.{◌≡◌, sym, subst, refl}
+use Rattle.history_lock.specs.History.{Extends}
+use Rattle.controller_desk.specs.Calls.{HasActed}
+use Rattle.controller_desk.specs.Contents.{content_of}
+use Rattle.controller_desk.proofs.Extending.{may_go, logs, in_turn, acted_on}
+use Rattle.run_book.specs.Kept.{MayCome}
+use Rattle.run_book.proofs.Saying.{may_later}
+use Rattle.run_book.proofs.book.Book.act.Goals as goal
+
+pub act_on-result-requires-clause-may : goal.act_on-result-requires-clause-may
+act_on-result-requires-clause-may g c =
+    let same : c.deref_mut.result.now ≡ c.enter-book.result.store.value = search in
+    subst (λ v. MayCome v.history c.args.conn c.args.reading.message) (sym same)
+    (may_later _ (content_of g.D.Disk.faults c.enter-book.result.store.value) c.args.conn c.args.reading.message c.enter-book.ensures.later c.requires.may)
+
+pub leave-requires-clause-later : goal.leave-requires-clause-later
+leave-requires-clause-later g c =
+    let same : c.deref_mut.result.now ≡ c.enter-book.result.store.value = search in
+    let made = subst (λ v. HasActed v 0 0 c.args.conn c.args.reading.message c.act_on-result.result c.act_on-result.new.store) same c.act_on-result.ensures.acted in
+    let on = acted_on g.D.Disk.faults c.enter-book.result.store.value 0 0 c.args.conn c.args.reading.message c.act_on-result.result c.act_on-result.new.store c.rest.ensures.fulls made in
+    subst (λ v. Extends v.seen (content_of g.D.Disk.faults c.act_on-result.new.store)) (sym c.enter-book.ensures.known) on.extends
+
+pub returns-clause-turn : goal.returns-clause-turn
+returns-clause-turn g c =
+    let same : c.deref_mut.result.now ≡ c.enter-book.result.store.value = search in
+    let made = subst (λ v. HasActed v 0 0 c.args.conn c.args.reading.message c.act_on-result.result c.act_on-result.new.store) same c.act_on-result.ensures.acted in
+    let on = acted_on g.D.Disk.faults c.enter-book.result.store.value 0 0 c.args.conn c.args.reading.message c.act_on-result.result c.act_on-result.new.store c.rest.ensures.fulls made in (
+      c.enter-book.result.store.value,
+      c.act_on-result.new.store,
+      in_turn g.D.Disk.faults _ _ _ c.enter-book.result.store.value c.act_on-result.new.store c.enter-book.ensures.later c.enter-book.ensures.known c.leave.ensures.known on,
+      made,
+      logs g.D.Disk.faults (λ b. b.store.value) _ _ _ _ _ c.enter-book.result.store.value c.act_on-result.new.store c.enter-book.ensures.newest c.enter-book.ensures.log c.enter-book.ensures.steps refl refl on c.leave.ensures.log,
+    )
+
+pub leave-requires-clause-step : goal.leave-requires-clause-step
+leave-requires-clause-step g c =
+    let same : c.deref_mut.result.now ≡ c.enter-book.result.store.value = search in
+    let made = subst (λ v. HasActed v 0 0 c.args.conn c.args.reading.message c.act_on-result.result c.act_on-result.new.store) same c.act_on-result.ensures.acted in
+    let on = acted_on g.D.Disk.faults c.enter-book.result.store.value 0 0 c.args.conn c.args.reading.message c.act_on-result.result c.act_on-result.new.store c.rest.ensures.fulls made in
+    record { newest = c.enter-book.result; starts = c.enter-book.ensures.newest; next = on }
+
+pub leave-requires-clause-loan : goal.leave-requires-clause-loan
+leave-requires-clause-loan g c = may_go _ _ c.enter-book.result c.enter-book.ensures.newest
