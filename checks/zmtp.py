@@ -304,7 +304,10 @@ def processor_time(pid):
 class Controller:
     """A controller of four free ports over a database of its own, or a given one, that is started and ended with `with`.
 
-    `options` are further words of `serve`. What it says on its standard error stream is in `said` once it has ended."""
+    `options` are further words of `serve`. What it says on its standard error stream is in `said` once it has ended. `before` is
+    called in its process, ahead of the program."""
+
+    before = None
 
     def __init__(self, *options, database=None, key=KEY, port=None):
         self.folder = None if database else tempfile.mkdtemp()
@@ -315,7 +318,7 @@ class Controller:
     def start(self, wait=60):
         """Starts it, and waits until it listens at all four ports."""
         words = ["serve", HOST, str(self.port), self.database, "--key", self.key.decode(), *self.options]
-        self.child = subprocess.Popen([program(), *words], stdin=subprocess.DEVNULL, stderr=subprocess.PIPE)
+        self.child = subprocess.Popen([program(), *words], stdin=subprocess.DEVNULL, stderr=subprocess.PIPE, preexec_fn=self.before)
         until = time.monotonic() + wait
         while wait and not all(is_listened_at(self.port + it) for it in range(4)):
             if self.child.poll() is not None:
